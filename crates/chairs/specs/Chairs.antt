@@ -1,0 +1,173 @@
+-- What is meant by live, rich, owing, by a count of seats and by the first of some seats, over a list of chairs of any length.
+-- Assumes nothing.
+use Prim.Native.Nat.{ℕ, zero, suc, _+_, _-_, _≤_, min}
+use mathlib.Core.Bool.{Bool, true, false, not}
+use mathlib.Core.List.{List, [], _∷_, _++_}
+use lib.ListN.{getD, set}
+use lib.Dec.{ltb, leb, eqb}
+use Rattle.paper.specs.Paper.{both, either, pick}
+use Rattle.chairs.specs.declared.Chair.{Chair}
+use Rattle.chairs.specs.declared.Dealt.{Dealt}
+use Rattle.chairs.specs.declared.Hole.{Hole}
+use Rattle.chairs.specs.declared.Who.{Who}
+use Rattle.chairs.specs.declared.Who.the-variants.{Live, Rich, Chips, Owing, Holding, Bare}
+use Rattle.chairs.specs.declared.Sweep.{Sweep}
+use Rattle.chairs.specs.declared.Sweep.the-variants.{Again, Round, Deal}
+use Rattle.chairs.specs.declared.What.{What}
+use Rattle.chairs.specs.declared.What.the-variants as col
+
+-- a live hand with chips behind
+abbrev pub isRich : Chair → Bool
+isRich c = both (c .dealt .live) (ltb 0 (c .stack))
+
+-- what a chair has put in since the round opened
+abbrev pub roundOf : Chair → ℕ
+roundOf c = c .dealt .total - c .dealt .start
+
+-- owes, where two hands or more are live; `alone`: the chair is the only live one with chips
+abbrev pub isOwing : ℕ → Bool → Chair → Bool
+isOwing mark alone c = both (isRich c) (both (not (c .dealt .acted)) (not (both alone (eqb (roundOf c) mark))))
+
+abbrev pub isHolding : ℕ → Chair → Bool
+isHolding k c = both (c .hole .entered) (either (eqb (c .hole .first) k) (eqb (c .hole .second) k))
+
+-- a live hand whose cards were not entered
+abbrev pub isBare : Chair → Bool
+isBare c = both (c .dealt .live) (not (c .hole .entered))
+
+abbrev pub wantOf : Who → Chair → Bool
+wantOf Live c = c .dealt .live
+wantOf Rich c = isRich c
+wantOf Chips c = ltb 0 (c .stack)
+wantOf (Owing mark alone) c = isOwing mark alone c
+wantOf (Holding card) c = isHolding card c
+wantOf Bare c = isBare c
+
+-- the record of nobody, and no cards
+abbrev pub noDealt : Dealt
+noDealt = record { sitting = 0; total = 0; start = 0; live = false; acted = false }
+
+abbrev pub noHole : Hole
+noHole = record { entered = false; first = 0; second = 0 }
+
+abbrev pub noChair : Chair
+noChair = record { sitting = 0; stack = 0; dealt = noDealt; hole = noHole }
+
+abbrev pub one : Bool → ℕ
+one true = 1
+one false = 0
+
+abbrev pub countOf : (Chair → Bool) → List Chair → ℕ
+countOf p [] = 0
+countOf p (c ∷ cs) = one (p c) + countOf p cs
+
+-- the chair of seat s (seats are counted from 1)
+abbrev pub chairAt : List Chair → ℕ → Chair
+chairAt cs zero = noChair
+chairAt cs (suc k) = getD cs k noChair
+
+-- the chairs with c at seat s
+abbrev pub putAt : List Chair → ℕ → Chair → List Chair
+putAt cs zero c = cs
+putAt cs (suc k) c = set cs k c
+
+-- the m seats after seat k
+abbrev pub seatsFrom : ℕ → ℕ → List ℕ
+seatsFrom k zero = []
+seatsFrom k (suc m) = suc k ∷ seatsFrom (suc k) m
+
+-- the seats clockwise from seat s, which comes last
+abbrev pub clockwise : ℕ → ℕ → List ℕ
+clockwise n s = seatsFrom s (n - s) ++ seatsFrom 0 s
+
+-- the first of some seats that is as asked, or 0
+abbrev pub firstOf : (Chair → Bool) → List Chair → List ℕ → ℕ
+firstOf p cs [] = 0
+firstOf p cs (s ∷ ss) = pick (p (chairAt cs s)) s (firstOf p cs ss)
+
+-- all chips: the stacks, and what was put into the open hand
+abbrev pub chipsOf : List Chair → ℕ
+chipsOf [] = 0
+chipsOf (c ∷ cs) = c .stack + c .dealt .total + chipsOf cs
+
+-- a chair with another hand record
+abbrev pub withDealt : Chair → Dealt → Chair
+withDealt c d = record { sitting = c .sitting; stack = c .stack; dealt = d; hole = c .hole }
+
+-- the hand is given up
+abbrev pub foldedOf : Chair → Chair
+foldedOf c = withDealt c (record { sitting = c .dealt .sitting; total = c .dealt .total; start = c .dealt .start; live = false; acted = c .dealt .acted })
+
+abbrev pub actsOf : Bool → Chair → Chair
+actsOf b c = withDealt c (record { sitting = c .dealt .sitting; total = c .dealt .total; start = c .dealt .start; live = c .dealt .live; acted = b })
+
+-- the hand has acted; another has wagered since
+abbrev pub actedOf : Chair → Chair
+actedOf c = actsOf true c
+
+abbrev pub againOf : Chair → Chair
+againOf c = actsOf false c
+
+-- a seat puts in a, or its whole stack where that is less
+abbrev pub paidOf : Chair → ℕ → Chair
+paidOf c a = record {
+  sitting = c .sitting;
+  stack = c .stack - min a (c .stack);
+  dealt = record { sitting = c .dealt .sitting; total = c .dealt .total + min a (c .stack); start = c .dealt .start; live = c .dealt .live; acted = c .dealt .acted };
+  hole = c .hole;
+}
+
+-- a new sitting at a chair: a hand record that lies there stays that of the old one
+abbrev pub seatedOf : Chair → ℕ → ℕ → Chair
+seatedOf c k a = record { sitting = k; stack = a; dealt = c .dealt; hole = c .hole }
+
+-- a new round: nothing put in, and not acted
+abbrev pub roundedOf : Chair → Chair
+roundedOf c = withDealt c (record { sitting = c .dealt .sitting; total = c .dealt .total; start = c .dealt .total; live = c .dealt .live; acted = false })
+
+-- a new hand: dealt in is every seat with at least one chip
+abbrev pub dealtOf : Chair → Chair
+dealtOf c = record {
+  sitting = c .sitting;
+  stack = c .stack;
+  dealt = record { sitting = pick (ltb 0 (c .stack)) (c .sitting) 0; total = 0; start = 0; live = ltb 0 (c .stack); acted = false };
+  hole = noHole;
+}
+
+abbrev pub sweepOf : Sweep → Chair → Chair
+sweepOf Again c = againOf c
+sweepOf Round c = roundedOf c
+sweepOf Deal c = dealtOf c
+
+-- the hole cards are entered
+abbrev pub heldOf : Chair → ℕ → ℕ → Chair
+heldOf c a b = record { sitting = c .sitting; stack = c .stack; dealt = c .dealt; hole = record { entered = true; first = a; second = b } }
+
+-- the sitting that was dealt in is still there
+abbrev pub isHere : Chair → Bool
+isHere c = eqb (c .sitting) (c .dealt .sitting)
+
+abbrev pub columnOf : What → Chair → ℕ
+columnOf col.Total c = c .dealt .total
+columnOf col.Sitting c = c .dealt .sitting
+columnOf col.Live c = one (c .dealt .live)
+columnOf col.Here c = one (isHere c)
+
+-- the hand is closed: what is paid is added to the stack, and the record is cleared
+abbrev pub closedOf : Chair → ℕ → Chair
+closedOf c p = record { sitting = c .sitting; stack = c .stack + p; dealt = noDealt; hole = noHole }
+
+abbrev pub closeAll : List Chair → List ℕ → List Chair
+closeAll [] ps = []
+closeAll (c ∷ cs) [] = closedOf c 0 ∷ closeAll cs []
+closeAll (c ∷ cs) (p ∷ ps) = closedOf c p ∷ closeAll cs ps
+
+-- every chair is so
+abbrev pub All : (Chair → Type 0) → List Chair → Type 0
+All P [] = Unit {0}
+All P (c ∷ cs) = P c × All P cs
+
+-- the sitting that sits here, and the one that was dealt in here, are among the first k
+pub record Numbered (k : ℕ) (c : Chair) : Type 0 where
+  pub here : c .sitting ≤ k
+  pub dealt : c .dealt .sitting ≤ k

@@ -1,0 +1,352 @@
+-- Laws of the desk: what is shown is small, a refusal changes nothing, 12 keeps every byte. Assumes nothing.
+use mathlib.Core.Path.{_≡_, refl, sym, ap, subst, _∙_}
+use mathlib.Core.List.{List, [], _∷_, _++_, map}
+use mathlib.Core.Bool.{Bool, true, false, not}
+use Prim.Native.Nat.{ℕ, zero, suc, _+_, _-_, _≤_, _<_, _^_}
+use native.Mathlib.Numerals.{add-one}
+use native.Mathlib.Omega.{arith}
+use lib.ListN.{length, getD, replicate, take, drop, set, drop-of-length-le}
+use lib.Seq.{drop-cons, take-all}
+use lib.Dec.{eqb, leb, ltb}
+use borrow.Author.Tests.{ne-eqb, lt-leb}
+use Rattle.text.specs.Pick.{pick, both, either}
+use Rattle.text.specs.Line.{lineNumber, afterLine, valueOf}
+use Rattle.text.specs.Block.{blockOf, blockFrom, lineKind}
+use Rattle.text.specs.Entry.{parsedOf}
+use Rattle.text.specs.Sheet.{fits, writtenOf, sheetAfter, over}
+use Rattle.text.proofs.Numbers.{number-back}
+use Rattle.text.specs.declared.Number.{Number}
+use Rattle.text.specs.declared.Number.the-variants.{Value, Bad}
+use Rattle.text.specs.declared.Block.{Block}
+use Rattle.text.specs.declared.Block.the-variants.{Raw, Malformed, Nothing}
+use Rattle.text.specs.declared.Parsed.{Parsed}
+use Rattle.text.specs.declared.Parsed.the-variants.{Read, OutOfRange}
+use Rattle.text.specs.declared.Written.{Written}
+use Rattle.text.specs.declared.Written.the-variants.{Bytes, NoRoom}
+use Rattle.paper.specs.Paper.{when, orElse, inRange}
+use Rattle.paper.specs.declared.Entry.{Entry}
+use Rattle.paper.specs.declared.Entry.the-variants.{Sit, Leave, Hand, Hole, Fold, Check, Call, Wager, Board, Dead, Settle, Void}
+use Rattle.chairs.specs.Chairs.{chipsOf, countOf, wantOf, roundOf, columnOf, All, Numbered}
+use Rattle.chairs.specs.declared.Chair.{Chair}
+use Rattle.chairs.specs.declared.Who.the-variants.{Chips, Bare}
+use Rattle.table.specs.Table.{seatOf, usedOf, liveOf}
+use Rattle.table.specs.Acts.{nobodyOwes, isWager, isPuck, turnCode, checkCode, callCode, wagerCode, sitCode, leaveCode, deadCode, holeCode, boardCode, handCode}
+use Rattle.table.specs.Settle.{settleCode, totalsOf, livesOf, hereOf, scoresOf, dueNow, potsNow, backNow, payoutNow, noPayout}
+use Rattle.table.specs.Take.{Sound, kindCode, codeOf, nextOf, payoutOf, payoutBy, pickPayout}
+use Rattle.table.proofs.Laws.{totals-within, paid-at, due-small, sheet-rate}
+use Rattle.table.specs.declared.table.Table.{Table}
+use Rattle.table.specs.declared.table.Payout.{Payout as Paid}
+use Rattle.pots.specs.Heights.{sumOf, backOf}
+use Rattle.pots.specs.Hand.{unclaimedOf, feeOfHand, dueOf}
+use Rattle.pots.specs.Runs.{pot, potSum, potsOf, padded}
+use Rattle.pots.specs.declared.Pot.{Pot}
+use Rattle.pots.specs.declared.Pots.{Pots}
+use Rattle.pots.proofs.PotLevels.{pots-and-back}
+use Rattle.pots.proofs.Places.{store-front}
+use Rattle.pots.proofs.Hands.{none-lost, map-length, paid-and-unclaimed}
+use Rattle.answers.specs.declared.Row.{Row}
+use Rattle.answers.specs.declared.Payout.{Payout}
+use Rattle.answers.specs.declared.Shown.{Shown}
+use Rattle.answers.specs.Answer.{SmallRow, Small, answerBytes}
+use Rattle.desk.specs.declared.Judged.{Judged}
+use Rattle.desk.specs.declared.Answered.{Answered}
+use Rattle.desk.specs.Desk.{rowsOf, payoutShown, shownOf, refusedAt, judgeParsed, judgeBlock, judgedOf, blockBytes, answeredFrom, answeredOf, numberOfBlock, SmallPaid}
+use Rattle.chairs.specs.declared.What.the-variants as what
+
+-- ---- rows of sittings and what they are paid, one by one
+
+abbrev rowAt : List ℕ → List ℕ → ℕ → Row
+rowAt ss ps i = record { sitting = getD ss i 0; paid = getD ps i 0 }
+
+pub rows-turn : (a all : List Row) (ss ps : List ℕ) (i : ℕ) → i < length a → i < length ss → i < length ps
+    → take i a ++ rowsOf (drop i ss) (drop i ps) ≡ all → take (i + 1) (set a i (rowAt ss ps i)) ++ rowsOf (drop (i + 1) ss) (drop (i + 1) ps) ≡ all
+rows-turn a all ss ps i l m n e =
+    let q : rowAt ss ps i ∷ rowsOf (drop (i + 1) ss) (drop (i + 1) ps) ≡ rowsOf (drop i ss) (drop i ps) =
+    rw (add-one i, drop-cons ss i 0 m, drop-cons ps i 0 n) in
+    store-front a i (rowAt ss ps i) (rowsOf (drop (i + 1) ss) (drop (i + 1) ps)) l ∙ ap (λ (k : List Row). take i a ++ k) q ∙ e
+
+pub rows-done : (a all : List Row) (ss ps : List ℕ) (i : ℕ) → length a ≤ i → length ss ≤ i → take i a ++ rowsOf (drop i ss) (drop i ps) ≡ all → a ≡ all
+rows-done a all ss ps i l m e =
+    sym (take-all i a l) ∙ sym (nil (take i a)) ∙ ap (λ (k : List Row). take i a ++ k) (sym (ap (λ (k : List ℕ). rowsOf k (drop i ps)) (drop-of-length-le ss m))) ∙ e
+  where
+    nil : (b : List Row) → b ++ [] ≡ b
+    nil [] = refl
+    nil (x ∷ b) = ap (λ (k : List Row). x ∷ k) (nil b)
+
+-- ---- a padded list of pots has no larger pot than their sum
+
+abbrev none : Pot
+none = record { amount = 0; who = 0 }
+
+none-in : (m k : ℕ) → getD (replicate m none) k none ≡ none
+none-in zero k = refl
+none-in (suc m) zero = refl
+none-in (suc m) (suc k) = none-in m k
+
+pots-within : (ps : List Pot) (m k : ℕ) → (getD (ps ++ replicate m none) k none) .amount ≤ potSum ps
+unfolding potSum
+pots-within [] m k = let e : (getD (replicate m none) k none) .amount ≡ 0 = ap (λ (p : Pot). p .amount) (none-in m k) in omega arith
+pots-within (p ∷ ps) m zero = omega arith
+pots-within (p ∷ ps) m (suc k) = omega (arith, pots-within ps m k)
+
+padded-within : (n : ℕ) (ps : List Pot) (k : ℕ) → (getD (padded n ps) k none) .amount ≤ potSum ps
+unfolding padded
+padded-within n ps k = pots-within ps (n - length ps) k
+
+-- ---- a number that was read is below 10 ^ 9
+
+from-small : (n k s a b : Number) → ((v : ℕ) → n ≡ Value v → v < 10 ^ 9) → numberOfBlock (blockFrom n k s a b) < 10 ^ 9
+from-small Bad k s a b h = omega arith
+from-small (Value n) Bad s a b h = omega arith
+from-small (Value n) (Value k) Bad a b h = omega arith
+from-small (Value n) (Value k) (Value s) Bad b h = omega arith
+from-small (Value n) (Value k) (Value s) (Value a) Bad h = omega arith
+from-small (Value n) (Value k) (Value s) (Value a) (Value b) h = h n refl
+
+pub block-small : (log : List ℕ) → numberOfBlock (blockOf log) < 10 ^ 9
+unfolding blockOf
+block-small log = go (eqb (length log) 0)
+  where
+    go : (t : Bool) → numberOfBlock (pick t Nothing (blockFrom
+        (lineNumber (110 ∷ []) log)
+        (lineKind (afterLine log))
+        (lineNumber (115 ∷ 101 ∷ 97 ∷ 116 ∷ []) (afterLine (afterLine log)))
+        (lineNumber (97 ∷ []) (afterLine (afterLine (afterLine log))))
+        (lineNumber (98 ∷ []) (afterLine (afterLine (afterLine (afterLine log))))))) < 10 ^ 9
+    go true = omega arith
+    go false = from-small (lineNumber (110 ∷ []) log) _ _ _ _ (λ v e. number-back (valueOf (110 ∷ []) log) v e .1)
+
+-- ---- what is paid is small
+
+zeros : (n k : ℕ) → getD (replicate n 0) k 0 < 10 ^ 9
+zeros zero k = omega arith
+zeros (suc n) zero = omega arith
+zeros (suc n) (suc k) = zeros n k
+
+pub small-none : SmallPaid noPayout
+small-none = record { fee = omega arith; sittings = zeros 10; paid = zeros 10; unclaimed = omega arith }
+
+numbers-small : (n : ℕ) (cs : List Chair) (k : ℕ) → All (Numbered n) cs → getD (map (columnOf what.Sitting) cs) k 0 ≤ n
+numbers-small n [] k a = omega arith
+numbers-small n (c ∷ cs) zero a = a .0 .dealt
+numbers-small n (c ∷ cs) (suc k) a = numbers-small n cs k (a .1)
+
+totals-small : (t : Table) → Sound t → sumOf (totalsOf t) ≤ 100000000
+totals-small t h = omega (arith, totals-within (t .chairs), h .payable .chips)
+
+fee-small : (t : Table) → Sound t → payoutNow t .fee ≤ 100000000
+unfolding payoutNow
+fee-small t h =
+    let ls = map-length (λ (c : Chair). columnOf what.Total c) (t .chairs) in
+    omega (arith, totals-small t h,
+      none-lost (totalsOf t) (livesOf t) (scoresOf t) (t .sheet .rate) (t .sheet .cap) (t .play .puck)
+      (map-length _ (t .chairs) ∙ sym ls)
+      (omega (arith, sheet-rate (t .sheet) (h .payable .sheet))))
+
+small-now : (t : Table) → Sound t → SmallPaid (payoutNow t)
+unfolding payoutNow
+small-now t h =
+    record {
+      fee = omega (arith, fee-small t h);
+      sittings = λ k. omega (arith, numbers-small (t .sittings) (t .chairs) k (h .numbered), h .sittings, h .taken);
+      paid = λ k. omega (arith, paid-at t (h .payable) k);
+      unclaimed = omega (arith, due-small t (h .payable), paid-and-unclaimed (dueNow t) (hereOf t));
+    }
+
+small-by : (t : Table) (e : Entry) → Sound t → SmallPaid (payoutBy t e)
+small-by t (Sit s a) h = small-none
+small-by t (Leave s) h = small-none
+small-by t (Hand s) h = small-none
+small-by t (Hole s a b) h = small-none
+small-by t (Fold s) h = small-none
+small-by t (Check s) h = small-none
+small-by t (Call s) h = small-none
+small-by t (Wager s a) h = small-none
+small-by t (Board k) h = small-none
+small-by t (Dead s) h = small-none
+small-by t Settle h = small-now t h
+small-by t Void h = small-none
+
+pub small-payout : (t : Table) (n : ℕ) (e : Entry) → Sound t → SmallPaid (payoutOf t n e)
+unfolding payoutOf
+small-payout t n e h = go (eqb (codeOf t n e) 0)
+  where
+    go : (b : Bool) → SmallPaid (pickPayout b (payoutBy t e) noPayout)
+    go true = small-by t e h
+    go false = small-none
+
+-- ---- a refusal changes nothing
+
+next-same : (t : Table) (n : ℕ) (e : Entry) → (codeOf t n e ≡ 0 → ⊥) → nextOf t n e ≡ t
+unfolding nextOf
+next-same t n e h = rw (ne-eqb (codeOf t n e) 0 h)
+
+parsed-same : (t : Table) (n : ℕ) (p : Parsed) → (judgeParsed t n p .code ≡ 0 → ⊥) → judgeParsed t n p .table ≡ t
+parsed-same t n OutOfRange h = refl
+parsed-same t n (Read e) h = next-same t n e h
+
+block-same : (t : Table) (b : Block) → (judgeBlock t b .code ≡ 0 → ⊥) → judgeBlock t b .table ≡ t
+block-same t (Raw n k s a b) h = parsed-same t n (parsedOf k s a b) h
+block-same t Malformed h = refl
+block-same t Nothing h = refl
+
+pub judged-same : (t : Table) (log : List ℕ) → (judgedOf t log .code ≡ 0 → ⊥) → judgedOf t log .table ≡ t
+unfolding judgedOf
+judged-same t log h = block-same t (blockOf log) h
+
+answered-same : (t : Table) (j : Judged) (w : Written) → ((j .code ≡ 0 → ⊥) → j .table ≡ t) → (answeredFrom t j w .code ≡ 0 → ⊥) → answeredFrom t j w .table ≡ t
+answered-same t j (Bytes k) q h = q h
+answered-same t j NoRoom q h = refl
+
+-- after any code but 0 the table is the one before, and so is the count of taken entries, which is a field of it
+pub refusal-keeps : (t : Table) (log sheet : List ℕ) → (answeredOf t log sheet .code ≡ 0 → ⊥) → answeredOf t log sheet .table ≡ t
+unfolding answeredOf
+refusal-keeps t log sheet h = answered-same t (judgedOf t log) (writtenOf (blockBytes t log) sheet) (judged-same t log) h
+
+-- ---- 12 is given exactly where the sheet is too short, and then keeps every byte
+
+or-most : (a b : ℕ) → a ≤ 10 → b ≤ 10 → orElse a b ≤ 10
+or-most zero b p q = q
+or-most (suc a) b p q = p
+
+when-most : (b : Bool) (k : ℕ) → k ≤ 10 → when b k ≤ 10
+when-most true k h = h
+when-most false k h = omega arith
+
+turn-most : (t : Table) (s : ℕ) → turnCode t s ≤ 10
+unfolding turnCode
+turn-most t s =
+    or-most _ _ (when-most (nobodyOwes t) 4 (omega arith))
+    (or-most _ _ (when-most (not (seatOf t s .dealt .live)) 5 (omega arith)) (when-most (not (eqb (t .play .turn) s)) 6 (omega arith)))
+
+kind-most : (t : Table) (e : Entry) → kindCode t e ≤ 10
+unfolding checkCode callCode wagerCode sitCode leaveCode deadCode holeCode boardCode handCode settleCode
+kind-most t (Sit s a) = or-most _ _ (when-most (not (eqb (seatOf t s .sitting) 0)) 5 (omega arith)) (when-most (ltb 100000000 (chipsOf (t .chairs) + a)) 9 (omega arith))
+kind-most t (Leave s) = when-most (either (eqb (seatOf t s .sitting) 0) (seatOf t s .dealt .live)) 5 (omega arith)
+kind-most t (Hand s) = or-most _ _ (when-most (either (t .play .opened) (ltb (countOf (wantOf Chips) (t .chairs)) 2)) 4 (omega arith)) (when-most (not (isPuck t s)) 5 (omega arith))
+kind-most t (Hole s a b) =
+    or-most _ _ (when-most (not (t .play .opened)) 4 (omega arith))
+    (or-most _ _ (when-most (either (not (seatOf t s .dealt .live)) (seatOf t s .hole .entered)) 5 (omega arith))
+    (when-most (either (eqb a b) (either (usedOf t a) (usedOf t b))) 8 (omega arith)))
+kind-most t (Fold s) = turn-most t s
+kind-most t (Check s) = or-most _ _ (turn-most t s) (when-most (not (eqb (roundOf (seatOf t s)) (t .play .mark))) 7 (omega arith))
+kind-most t (Call s) = or-most _ _ (turn-most t s) (when-most (not (ltb (roundOf (seatOf t s)) (t .play .mark))) 7 (omega arith))
+kind-most t (Wager s a) = or-most _ _ (turn-most t s) (when-most (not (isWager t (seatOf t s) a)) 7 (omega arith))
+kind-most t (Board k) =
+    or-most _ _ (when-most (either (not (t .play .opened)) (either (not (nobodyOwes t)) (either (ltb (liveOf t) 2) (leb 5 (t .board .count))))) 4 (omega arith))
+    (when-most (usedOf t k) 8 (omega arith))
+kind-most t (Dead s) =
+    or-most _ _ (when-most (either (not (t .play .opened)) (ltb (liveOf t) 2)) 4 (omega arith)) (when-most (not (seatOf t s .dealt .live)) 5 (omega arith))
+kind-most t Settle =
+    or-most _ _ (when-most (not (both (t .play .opened) (either (eqb (liveOf t) 1) (both (nobodyOwes t) (eqb (t .board .count) 5))))) 4 (omega arith))
+    (when-most (both (leb 2 (liveOf t)) (not (eqb (countOf (wantOf Bare) (t .chairs)) 0))) 10 (omega arith))
+kind-most t Void = omega arith
+
+code-most : (t : Table) (n : ℕ) (e : Entry) → codeOf t n e ≤ 10
+unfolding codeOf
+code-most t n e =
+    or-most _ _ (when-most (not (inRange (t .sheet) n e)) 2 (omega arith))
+    (or-most _ _ (when-most (not (eqb (t .taken + 1) n)) 3 (omega arith)) (kind-most t e))
+
+parsed-most : (t : Table) (n : ℕ) (p : Parsed) → judgeParsed t n p .code ≤ 10
+parsed-most t n OutOfRange = omega arith
+parsed-most t n (Read e) = code-most t n e
+
+block-most : (t : Table) (b : Block) → judgeBlock t b .code ≤ 10
+block-most t (Raw n k s a b) = parsed-most t n (parsedOf k s a b)
+block-most t Malformed = omega arith
+block-most t Nothing = omega arith
+
+pub judged-most : (t : Table) (log : List ℕ) → judgedOf t log .code ≤ 10
+unfolding judgedOf
+judged-most t log = block-most t (blockOf log)
+
+pub twelve-keeps : (t : Table) (log sheet : List ℕ) → answeredOf t log sheet .code ≡ 12 → sheetAfter (blockBytes t log) sheet ≡ sheet
+unfolding answeredOf
+twelve-keeps t log sheet h = go (fits (blockBytes t log) sheet) h
+  where
+    go : (b : Bool) → answeredFrom t (judgedOf t log) (pick b (Bytes (length (blockBytes t log))) NoRoom) .code ≡ 12 → pick b (over (blockBytes t log) sheet) sheet ≡ sheet
+    go false e = refl
+    go true e = absurd (omega (arith, judged-most t log, e))
+
+-- and it is given exactly then
+pub twelve-when : (t : Table) (log sheet : List ℕ) → (length sheet < length (blockBytes t log)) → answeredOf t log sheet .code ≡ 12
+unfolding answeredOf
+twelve-when t log sheet h = rw (lt-leb (length (blockBytes t log)) (length sheet) h)
+
+-- ---- for the proofs of the functions
+
+pub read-judged : (t : Table) (n : ℕ) (p : Parsed) {e : Entry} {code : ℕ} {next : Table} {paid : Paid} → p ≡ Read e
+    → (code ≡ codeOf t n e) × (next ≡ nextOf t n e) × (paid ≡ payoutOf t n e) × Sound next → Sound t
+    → (_≡_ {A = Judged} (record { n = n; code = code; table = next; payout = paid }) (judgeParsed t n p)) × Sound next × SmallPaid paid
+read-judged t n p {e} {code} {next} {paid} q f h = (rw (q, f .0, f .1, f .2) refl, f .3, subst SmallPaid (sym (f .2)) (small-payout t n e h))
+
+pub refused-judged : (t : Table) (n code : ℕ) (p : Parsed) {r : Judged} → r ≡ refusedAt t n code → refusedAt t n code ≡ judgeParsed t n p → Sound t
+    → (r ≡ judgeParsed t n p) × Sound (r .table) × SmallPaid (r .payout)
+refused-judged t n code p {r} e q h = (e ∙ q, rw e h, rw e small-none)
+
+parsed-number : (t : Table) (n : ℕ) (p : Parsed) → judgeParsed t n p .n ≡ n
+parsed-number t n OutOfRange = refl
+parsed-number t n (Read e) = refl
+
+pub raw-judged : (t : Table) (b : Block) {n k s a c : ℕ} {p : Parsed} {r : Judged} → b ≡ Raw n k s a c → p ≡ parsedOf k s a c
+    → (r ≡ judgeParsed t n p) × Sound (r .table) × SmallPaid (r .payout) → numberOfBlock b < 10 ^ 9
+    → (r ≡ judgeBlock t b) × Sound (r .table) × SmallPaid (r .payout) × (r .n < 10 ^ 9)
+raw-judged t b {n} {k} {s} {a} {c} {p} {r} q e f h =
+    let h' : n < 10 ^ 9 = rw q at h in
+    let m : r .n ≡ n = ap (λ (j : Judged). j .n) (f .0) ∙ parsed-number t n p in
+    (f .0 ∙ rw (q, e), f .1, f .2, omega arith)
+
+pub bad-judged : (t : Table) (b : Block) {r : Judged} → refusedAt t 0 1 ≡ judgeBlock t b → r ≡ refusedAt t 0 1 → Sound t
+    → (r ≡ judgeBlock t b) × Sound (r .table) × SmallPaid (r .payout) × (r .n < 10 ^ 9)
+bad-judged t b {r} q e h = (e ∙ q, rw e h, rw e small-none, rw e (omega arith))
+
+rows-small : (ss ps : List ℕ) (k : ℕ) → ((i : ℕ) → getD ss i 0 < 10 ^ 9) → ((i : ℕ) → getD ps i 0 < 10 ^ 9) → SmallRow (getD (rowsOf ss ps) k (record { sitting = 0; paid = 0 }))
+rows-small [] ps k h q = record { sitting = omega arith; paid = omega arith }
+rows-small (s ∷ ss) [] k h q = record { sitting = omega arith; paid = omega arith }
+rows-small (s ∷ ss) (p ∷ ps) zero h q = record { sitting = h 0; paid = q 0 }
+rows-small (s ∷ ss) (p ∷ ps) (suc k) h q = rows-small ss ps k (λ i. h (suc i)) (λ i. q (suc i))
+
+shown-small : (n code : ℕ) (t : Table) (p : Paid) → Sound t → n < 10 ^ 9 → code < 256 → SmallPaid p → length (potsNow t) ≤ 9 → Small (shownOf n code t p)
+unfolding shownOf potsNow backNow
+shown-small n code t p r a b w d =
+    let ts = totalsOf t in
+    let live = livesOf t in
+    let s : sumOf ts ≤ 100000000 = totals-small t r in
+    let all : potSum (potsOf ts live) + backOf ts live ≡ sumOf ts = pots-and-back ts live in
+    record {
+      n = a;
+      code = omega arith;
+      turn = omega (arith, r .turn);
+      mark = omega (arith, r .mark);
+      count = d;
+      pots = λ k. omega (arith, padded-within 9 (potsOf ts live) k, all);
+      back = omega arith;
+      payout = record { fee = w .fee; rows = λ k. rows-small (p .sittings) (p .paid) k (w .sittings) (w .paid); unclaimed = w .unclaimed };
+    }
+
+pub made-shown : (n code : ℕ) (t : Table) (p : Paid) {ps : Pots} {back k : ℕ} {po : Payout}
+    → (ps .n ≡ length (potsNow t)) × (ps .list ≡ padded 9 (potsNow t)) × (ps .n ≤ 9)
+    → back ≡ backNow t → po ≡ payoutShown p → (k ≡ code) × (k < 256) → Sound t → n < 10 ^ 9 → SmallPaid p
+    → (_≡_ {A = Shown} (record { n = n; code = k; turn = t .play .turn; mark = t .play .mark; pots = ps; back = back; settled = p .settled; payout = po }) (shownOf n code t p))
+    × Small (record { n = n; code = k; turn = t .play .turn; mark = t .play .mark; pots = ps; back = back; settled = p .settled; payout = po })
+unfolding shownOf
+made-shown n code t p {ps} {back} {k} {po} v b o kc r h w =
+    let e : _≡_ {A = Shown} (record { n = n; code = k; turn = t .play .turn; mark = t .play .mark; pots = ps; back = back; settled = p .settled; payout = po }) (shownOf n code t p) =
+    rw (kc .0, o, b) (ap (λ (z : Pots). record { n = n; code = code; turn = t .play .turn; mark = t .play .mark; pots = z; back = backNow t; settled = p .settled; payout = payoutShown p }) (pots-eq ps (v .0) (v .1))) in
+    (e, subst Small (sym e) (shown-small n code t p r h (omega arith) w (omega arith)))
+  where
+    pots-eq : (z : Pots) {a : ℕ} {f : List Pot} → z .n ≡ a → z .list ≡ f → z ≡ record { n = a; list = f }
+    pots-eq z e f = rw (e, f)
+
+pub answered-is : (t : Table) (log sheet : List ℕ) {j : Judged} {s : Shown} {w : Written} {r : Answered} {out : List ℕ}
+    → j ≡ judgedOf t log → s ≡ shownOf (j .n) (j .code) (j .table) (j .payout) → w ≡ writtenOf (answerBytes s) sheet → out ≡ sheetAfter (answerBytes s) sheet
+    → r ≡ answeredFrom t j w → Sound (r .table)
+    → (r ≡ answeredOf t log sheet) × ((out ≡ sheetAfter (blockBytes t log) sheet) × Sound (r .table))
+unfolding answeredOf blockBytes
+answered-is t log sheet {j} {s} {w} {r} {out} p q e f g h =
+    let b : answerBytes s ≡ blockBytes t log =
+    ap answerBytes (q ∙ ap (λ (x : Judged). shownOf (x .n) (x .code) (x .table) (x .payout)) p) in
+    let e' : w ≡ writtenOf (blockBytes t log) sheet = e ∙ ap (λ (x : List ℕ). writtenOf x sheet) b in
+    let f' : out ≡ sheetAfter (blockBytes t log) sheet = f ∙ ap (λ (x : List ℕ). sheetAfter x sheet) b in
+    (g ∙ ap (λ (x : Judged). answeredFrom t x w) p ∙ ap (answeredFrom t (judgedOf t log)) e', (f', h))

@@ -1,0 +1,58 @@
+-- The whole paper as one function: a log, that is the sheet and then block after block, to what is written.
+-- "Reading uses up five lines at a time, whatever the code, 12 too; a last block without its fifth LF is malformed. No bytes left means no block."
+-- Refusal 11: "the program writes code=11 and one LF, nothing else, and ends".
+use Prim.Native.Nat.{ℕ, zero, suc, _-_}
+use mathlib.Core.List.{List, [], _∷_, _++_}
+use mathlib.Core.Bool.{Bool}
+use lib.ListN.{length}
+use lib.Dec.{eqb, leb}
+use Rattle.text.specs.Pick.{pick}
+use Rattle.text.specs.Block.{restOf}
+use Rattle.text.specs.TableSheet.{sheetOf, sheetEnd}
+use Rattle.text.specs.declared.sheet.Opening.{Opening}
+use Rattle.text.specs.declared.sheet.Opening.the-variants.{Read, Bad}
+use Rattle.table.specs.declared.table.Table.{Table}
+use Rattle.table.specs.Take.{freshTable}
+use Rattle.desk.specs.Desk.{judgedOf, blockBytes}
+
+-- the answers to the blocks of a log, one after another. The first number bounds how many; no log has more blocks than bytes
+abbrev pub blocksFrom : ℕ → Table → List ℕ → List ℕ
+blocksFrom zero t log = []
+blocksFrom (suc k) t log = pick (eqb (length log) 0) [] (blockBytes t log ++ blocksFrom k (judgedOf t log .table) (restOf log))
+
+-- `code=11` and one LF
+abbrev pub eleven : List ℕ
+eleven = 99 ∷ 111 ∷ 100 ∷ 101 ∷ 61 ∷ 49 ∷ 49 ∷ 10 ∷ []
+
+abbrev pub outputFrom : Opening → List ℕ → List ℕ
+outputFrom (Read s) log = blocksFrom (length log) (freshTable s) (sheetEnd log)
+outputFrom Bad log = eleven
+
+-- what is written for a log
+unfoldable pub outputOf : List ℕ → List ℕ
+outputOf log = outputFrom (sheetOf log) log
+
+-- ---- with so much room: a block that does not fit is refused with 12, leaves the table and writes nothing
+
+-- the bytes, where there is room for them, else none
+abbrev pub fitting : List ℕ → ℕ → List ℕ
+fitting bs room = pick (leb (length bs) room) bs []
+
+abbrev pub tableIn : Table → List ℕ → ℕ → Table
+tableIn t log room = pick (leb (length (blockBytes t log)) room) (judgedOf t log .table) t
+
+abbrev pub blocksIn : ℕ → Table → List ℕ → ℕ → List ℕ
+blocksIn zero t log room = []
+blocksIn (suc k) t log room =
+    pick (eqb (length log) 0) []
+    (fitting (blockBytes t log) room ++ blocksIn k (tableIn t log room) (restOf log) (room - length (fitting (blockBytes t log) room)))
+
+unfoldable pub answersIn : Table → List ℕ → ℕ → List ℕ
+answersIn t log room = blocksIn (length log) t log room
+
+abbrev pub outputInFrom : Opening → List ℕ → ℕ → List ℕ
+outputInFrom (Read s) log room = answersIn (freshTable s) (sheetEnd log) room
+outputInFrom Bad log room = fitting eleven room
+
+unfoldable pub outputIn : List ℕ → ℕ → List ℕ
+outputIn log room = outputInFrom (sheetOf log) log room

@@ -1,0 +1,197 @@
+// One block at the desk: read, taken at the table, answered.
+use answers::Payout;
+use answers::Row;
+use answers::Shown;
+use answers::write_answer;
+use table::table::Table;
+use text::Block;
+use text::Parsed;
+use text::Written;
+ghost use mathlib.Core.Path.{_≡_};
+ghost use Prim.Native.Nat.{ℕ, _+_, _-_, _*_, _≤_, _<_, _^_};
+ghost use mathlib.Core.List.{List, [], _∷_, _++_};
+ghost use lib.ListN.{length, take, drop, getD};
+ghost use Rattle.text.specs.Sheet.{sheetAfter};
+ghost use Rattle.text.specs.Block.{blockOf, restOf};
+ghost use Rattle.answers.specs.Answer.{Small};
+ghost use Rattle.table.specs.Take.{Sound};
+ghost use Rattle.desk.specs.Desk.{rowsOf, payoutShown, shownOf, judgeParsed, refusedAt, judgeBlock, judgedOf, blockBytes, answeredFrom, answeredOf, numberOfBlock, SmallPaid};
+
+pub mod log;
+
+fn wide(x: u8) -> u32
+    ensures { λ r. ⌜ (r ≡ x) × (r < 256) ⌝ }
+{
+    x as u32
+}
+
+// A row for each seat: the sitting dealt in there, and what it is paid.
+fn rows_of(sittings: [u32; 10], paid: [u32; 10]) -> [Row; 10]
+    ensures { λ r. ⌜ r ≡ rowsOf sittings paid ⌝ }
+{
+    let none = Row {
+        sitting: 0,
+        paid: 0,
+    };
+    let mut rows = [none; 10];
+    let mut i: usize = 0;
+    while i < 10 {
+        let r = Row {
+            sitting: sittings[i],
+            paid: paid[i],
+        };
+        rows[i] = r;
+        i += 1;
+    }
+    rows
+}
+
+// What an answer shows of a payout.
+fn payout_shown(p: table::table::Payout) -> Payout
+    ensures { λ r. ⌜ r ≡ payoutShown p ⌝ }
+{
+    let sittings = p.sittings;
+    let paid = p.paid;
+    Payout {
+        fee: p.fee,
+        rows: rows_of(sittings, paid),
+        unclaimed: p.unclaimed,
+    }
+}
+
+// What an answer shows of a table, and of what a settle that was taken paid.
+fn shown_of(n: u32, code: u8, t: Table, paid: table::table::Payout) -> Shown
+    requires { ⌜ Sound t × (n < 10 ^ 9) × SmallPaid paid ⌝ }
+    ensures { λ r. ⌜ (r ≡ shownOf n code t paid) × Small r ⌝ }
+{
+    let ps = table::settle::pots_now(t);
+    let back = table::settle::back_now(t);
+    let p = payout_shown(paid);
+    Shown {
+        n: n,
+        code: wide(code),
+        turn: t.play.turn,
+        mark: t.play.mark,
+        pots: ps,
+        back: back,
+        settled: paid.settled,
+        payout: p,
+    }
+}
+
+// A block's number, its code, the table after it, and what it paid.
+pub struct Judged {
+    pub n: u32,
+    pub code: u8,
+    pub table: Table,
+    pub payout: table::table::Payout,
+}
+
+fn refused(t: Table, n: u32, code: u8) -> Judged
+    ensures { λ r. ⌜ r ≡ refusedAt t n code ⌝ }
+{
+    let none = table::settle::no_payout();
+    Judged {
+        n: n,
+        code: code,
+        table: t,
+        payout: none,
+    }
+}
+
+fn judge_parsed(t: Table, n: u32, p: Parsed) -> Judged
+    requires { ⌜ Sound t ⌝ }
+    ensures { λ r. ⌜ (r ≡ judgeParsed t n p) × Sound (r .table) × SmallPaid (r .payout) ⌝ }
+{
+    match p {
+        Parsed::OutOfRange => refused(t, n, 2),
+        Parsed::Read(e) => {
+            let k = t.take(n, e);
+            let u = k.table;
+            let paid = k.payout;
+            Judged {
+                n: n,
+                code: k.code,
+                table: u,
+                payout: paid,
+            }
+        }
+    }
+}
+
+fn judge_block(t: Table, b: Block) -> Judged
+    requires { ⌜ Sound t × (numberOfBlock b < 10 ^ 9) ⌝ }
+    ensures { λ r. ⌜ (r ≡ judgeBlock t b) × Sound (r .table) × SmallPaid (r .payout) × (r .n < 10 ^ 9) ⌝ }
+{
+    match b {
+        Block::Raw {
+            n,
+            kind,
+            seat,
+            a,
+            b,
+        } => {
+            let p = text::entry_of(kind, seat, a, b);
+            judge_parsed(t, n, p)
+        }
+        Block::Malformed => refused(t, 0, 1),
+        Block::Nothing => refused(t, 0, 1),
+    }
+}
+
+// The block at the front of a log, judged at a table.
+pub fn judge(t: Table, log: &[u8]) -> Judged
+    requires { ⌜ Sound t ⌝ }
+    ensures { λ r. ⌜ (r ≡ judgedOf t (now (log .entry))) × Sound (r .table) × SmallPaid (r .payout) × (r .n < 10 ^ 9) ⌝ }
+{
+    judge_block(t, text::read_block(log))
+}
+
+// What the answer to a block says to the caller.
+pub struct Answered {
+    pub code: u8,
+    pub table: Table,
+    pub written: usize,
+}
+
+// A block whose answer was not written is not taken: code 12.
+fn closed(t: Table, j: Judged, w: Written) -> Answered
+    requires { ⌜ Sound t × Sound (j .table) ⌝ }
+    ensures { λ r. ⌜ (r ≡ answeredFrom t j w) × Sound (r .table) ⌝ }
+{
+    let Written::Bytes(k) = w else {
+        return Answered {
+            code: 12,
+            table: t,
+            written: 0,
+        };
+    };
+    let u = j.table;
+    Answered {
+        code: j.code,
+        table: u,
+        written: k,
+    }
+}
+
+// The answer to the block at the front of a log, at the front of the sheet.
+pub fn answer(table: Table, log: &[u8], sheet: &mut [u8]) -> Answered
+    requires { ⌜ Sound table ⌝ }
+    ensures answer { λ r. ⌜ r ≡ answeredOf table (now (log .entry)) (now (sheet .entry)) ⌝ }
+    ensures bytes { λ r. ⌜ now (sheet .exit) ≡ sheetAfter (blockBytes table (now (log .entry))) (now (sheet .entry)) ⌝ }
+    ensures sound { λ r. ⌜ Sound (r .table) ⌝ }
+{
+    let j = judge(table, log);
+    let u = j.table;
+    let paid = j.payout;
+    let s = shown_of(j.n, j.code, u, paid);
+    let w = write_answer(sheet, s);
+    closed(table, j, w)
+}
+
+// What follows the block.
+pub fn rest(log: &[u8]) -> &[u8]
+    ensures { λ r. ⌜ now r ≡ restOf (now (log .entry)) ⌝ }
+{
+    text::rest(log)
+}

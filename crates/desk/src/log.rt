@@ -1,0 +1,54 @@
+// The whole log: the sheet, then block after block.
+use crate::answer;
+use table::table::Table;
+use table::take::new_table;
+use text::rest;
+use text::sheet::Opening;
+use text::sheet::after_sheet;
+use text::sheet::read_sheet;
+ghost use mathlib.Core.Path.{_≡_};
+ghost use Prim.Native.Nat.{ℕ, _+_, _-_, _*_, _≤_, _<_, _^_};
+ghost use mathlib.Core.List.{List, [], _∷_, _++_};
+ghost use lib.ListN.{length, take, drop, getD};
+ghost use Rattle.text.specs.Sheet.{Wrote};
+ghost use Rattle.table.specs.Take.{Sound};
+ghost use Rattle.desk.specs.Log.{answersIn, outputIn, eleven, fitting};
+
+// The answers to the blocks of a log, each written behind the last where there is room for it.
+pub fn blocks(t: Table, log: &[u8], out: &mut [u8]) -> usize
+    requires { ⌜ Sound t ⌝ }
+    ensures { λ r. ⌜ Wrote (answersIn t (now (log .entry)) (length (now (out .entry)))) (now (out .entry)) (now (out .exit)) r ⌝ }
+{
+    let mut table = t;
+    let mut left = log;
+    let mut at: usize = 0;
+    while 0 < left.len() {
+        let a = answer(table, left, &mut out[at..]);
+        let u = a.table;
+        table = u;
+        at += a.written;
+        let next = rest(left);
+        left = &next[0..];
+    }
+    at
+}
+
+// The one line of a bad sheet.
+pub fn refuse_sheet(out: &mut [u8]) -> usize
+    ensures { λ r. ⌜ Wrote (fitting eleven (length (now (out .entry)))) (now (out .entry)) (now (out .exit)) r ⌝ }
+{
+    if out.len() < 8 {
+        return 0;
+    }
+    text::put_bytes(out, b"code=11\n")
+}
+
+// What the whole log gives.
+pub fn run(log: &[u8], out: &mut [u8]) -> usize
+    ensures { λ r. ⌜ Wrote (outputIn (now (log .entry)) (length (now (out .entry)))) (now (out .entry)) (now (out .exit)) r ⌝ }
+{
+    match read_sheet(log) {
+        Opening::Bad => refuse_sheet(out),
+        Opening::Read(s) => blocks(new_table(s), after_sheet(log), out),
+    }
+}

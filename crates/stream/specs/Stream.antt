@@ -1,0 +1,115 @@
+-- Request No. 9: "takes the log however the line chops it .. and keeps the unfinished block. A line that grows past 32 bytes is marked bad at once,
+-- but its block still ends at its fifth LF."
+use Prim.Native.Nat.{ℕ, suc, _+_, _*_, _≤_, _<_}
+use mathlib.Core.Path.{_≡_}
+use mathlib.Core.List.{List, [], _∷_, _++_}
+use mathlib.Core.Bool.{Bool, true, false}
+use lib.ListN.{length, take, drop}
+use lib.Dec.{eqb, ltb, leb}
+use Rattle.text.specs.Pick.{pick}
+use Rattle.table.specs.declared.table.Table.{Table}
+use Rattle.text.specs.TableSheet.{sheetOf}
+use Rattle.text.specs.declared.sheet.Opening.{Opening}
+use Rattle.text.specs.declared.sheet.Opening.the-variants.{Read, Bad}
+use Rattle.desk.specs.Desk.{judgedOf, blockBytes, answeredOf}
+use Rattle.table.specs.Take.{Sound, freshTable}
+use Rattle.desk.specs.Log.{eleven, fitting}
+use Rattle.desk.specs.declared.Answered.{Answered}
+use Rattle.stream.specs.declared.Step.{Step}
+use Rattle.stream.specs.declared.Clerk.{Clerk}
+use Rattle.stream.specs.declared.Fed.{Fed}
+use Rattle.text.specs.Sheet.{sheetAfter}
+use Rattle.stream.specs.declared.Mark.{Mark}
+
+-- what is kept of an unfinished block: bytes, how many LFs are among them, and how many bytes stand behind the last LF
+pub record Kept : Type 0 where
+  pub bytes : List ℕ
+  pub lines : ℕ
+  pub width : ℕ
+
+abbrev pub nothing : Kept
+nothing = record { bytes = []; lines = 0; width = 0 }
+
+-- one byte more: a line that has 33 bytes grows no further
+unfoldable pub keepOf : Kept → ℕ → Kept
+keepOf k b =
+    pick (eqb b 10) (record { bytes = k .bytes ++ (b ∷ []); lines = k .lines + 1; width = 0 })
+    (pick (ltb (k .width) 33) (record { bytes = k .bytes ++ (b ∷ []); lines = k .lines; width = k .width + 1 }) k)
+
+pub record Gathered : Type 0 where
+  pub kept : Kept
+  pub left : List ℕ
+
+-- up to the fifth LF, or all
+abbrev pub gatherOf : Kept → List ℕ → Gathered
+gatherOf k [] = record { kept = k; left = [] }
+gatherOf k (b ∷ bs) = pick (leb 5 (keepOf k b .lines)) (record { kept = keepOf k b; left = bs }) (gatherOf (keepOf k b) bs)
+
+abbrev pub stateOf : Mark → List ℕ → Kept
+stateOf m buf = record { bytes = take (m .count) buf; lines = m .lines; width = m .width }
+
+-- what is kept fits into 170 bytes
+pub record Room (m : Mark) : Type 0 where
+  pub count : m .count ≤ m .lines * 34 + m .width
+  pub width : m .width ≤ 33
+  pub lines : m .lines ≤ 5
+  pub most : m .count ≤ 170
+
+-- the answers of a table to bytes that come one by one, and at the close to what is left of an unfinished block
+abbrev pub streamFrom : Table → Kept → List ℕ → List ℕ
+streamFrom t k [] = pick (eqb (length (k .bytes)) 0) [] (blockBytes t (k .bytes))
+streamFrom t k (b ∷ bs) =
+    pick (leb 5 (keepOf k b .lines))
+    (blockBytes t (keepOf k b .bytes) ++ streamFrom (judgedOf t (keepOf k b .bytes) .table) nothing bs)
+    (streamFrom t (keepOf k b) bs)
+
+-- what five whole lines do: before the sheet was read they are the sheet, then a block
+abbrev pub stepFrom : Opening → Table → List ℕ → Step
+stepFrom (Read s) t out = record { opened = true; shut = false; table = freshTable s; written = 0 }
+stepFrom Bad t out = record { opened = false; shut = true; table = t; written = length (fitting eleven (length out)) }
+
+abbrev pub answeredStep : Answered → Step
+answeredStep a = record { opened = true; shut = false; table = a .table; written = a .written }
+
+unfoldable pub stepOf : Bool → Table → List ℕ → List ℕ → Step
+stepOf opened t block out = pick opened (answeredStep (answeredOf t block out)) (stepFrom (sheetOf block) t out)
+
+abbrev pub openingBytes : Opening → List ℕ
+openingBytes (Read s) = []
+openingBytes Bad = eleven
+
+unfoldable pub stepBytes : Bool → Table → List ℕ → List ℕ
+stepBytes opened t block = pick opened (blockBytes t block) (openingBytes (sheetOf block))
+
+-- what the clerk keeps between two bytes
+pub record Held (c : Clerk) : Type 0 where
+  pub sound : Sound (c .table)
+  pub room : Room (c .mark)
+  pub lines : c .mark .lines < 5
+
+-- what feeding a part does: a clerk whose sheet was bad does nothing more; else the part's bytes are kept up to the block's fifth LF, and then the
+-- five lines are answered and nothing is kept
+pub record FedAs (c : Clerk) (buf part out buf2 out2 : List ℕ) (r : Fed) : Type 0 where
+  pub shut : c .shut ≡ true → (r .clerk ≡ c) × (r .written ≡ 0) × (out2 ≡ out)
+  pub left : c .shut ≡ false → drop (r .used) part ≡ gatherOf (stateOf (c .mark) buf) part .left
+  pub kept : c .shut ≡ false → gatherOf (stateOf (c .mark) buf) part .kept .lines < 5
+      → (stateOf (r .clerk .mark) buf2 ≡ gatherOf (stateOf (c .mark) buf) part .kept)
+      × (r .clerk .opened ≡ c .opened) × (r .clerk .shut ≡ false) × (r .clerk .table ≡ c .table) × (r .written ≡ 0) × (out2 ≡ out)
+  pub whole : c .shut ≡ false → 5 ≤ gatherOf (stateOf (c .mark) buf) part .kept .lines
+      → (stateOf (r .clerk .mark) buf2 ≡ nothing)
+      × (_≡_ {A = Step} (record { opened = r .clerk .opened; shut = r .clerk .shut; table = r .clerk .table; written = r .written })
+      (stepOf (c .opened) (c .table) (gatherOf (stateOf (c .mark) buf) part .kept .bytes) out))
+      × (out2 ≡ sheetAfter (stepBytes (c .opened) (c .table) (gatherOf (stateOf (c .mark) buf) part .kept .bytes)) out)
+
+-- the output for bytes that come one by one: the sheet first, and at the close a sheet that is not whole is bad
+abbrev pub openedFrom : Opening → List ℕ → List ℕ
+openedFrom (Read s) bs = streamFrom (freshTable s) nothing bs
+openedFrom Bad bs = eleven
+
+abbrev pub bytewise : Kept → List ℕ → List ℕ
+bytewise k [] = eleven
+bytewise k (b ∷ bs) = pick (leb 5 (keepOf k b .lines)) (openedFrom (sheetOf (keepOf k b .bytes)) bs) (bytewise (keepOf k b) bs)
+
+-- what the clerk writes at the close
+unfoldable pub closeBytes : Clerk → List ℕ → List ℕ
+closeBytes c buf = pick (c .shut) [] (pick (c .opened) (pick (eqb (c .mark .count) 0) [] (blockBytes (c .table) (take (c .mark .count) buf))) eleven)

@@ -1,0 +1,227 @@
+// A log that comes in parts: the unfinished block is kept, each line cut after 33 bytes, and answered at its fifth LF.
+use desk::answer;
+use desk::log::refuse_sheet;
+use table::table::Table;
+use table::take::new_table;
+use text::sheet::Opening;
+use paper::Sheet;
+use text::sheet::read_sheet;
+ghost use mathlib.Core.Path.{_≡_};
+ghost use Prim.Native.Nat.{ℕ, _+_, _-_, _*_, _≤_, _<_};
+ghost use lib.ListN.{length, take, drop};
+ghost use Rattle.text.specs.Sheet.{sheetAfter, Wrote};
+ghost use Rattle.desk.specs.Log.{fitting};
+ghost use Rattle.table.specs.Take.{Sound};
+ghost use Rattle.stream.specs.Stream.{stateOf, keepOf, gatherOf, Room, Held, FedAs, stepOf, stepBytes, closeBytes};
+
+// How much is kept: its bytes, its LFs, and the bytes of the line that is not ended.
+pub struct Mark {
+    pub count: usize,
+    pub lines: usize,
+    pub width: usize,
+}
+
+// One byte more.
+fn keep(buf: &mut [u8], m: Mark, b: u8) -> Mark
+    requires { ⌜ Room m × (m .lines < 5) × (170 ≤ length (now buf)) ⌝ }
+    ensures { λ r. ⌜ (stateOf r (now (buf .exit)) ≡ keepOf (stateOf m (now (buf .entry))) b) × Room r ⌝ }
+{
+    let at = m.count;
+    if b == 10 {
+        buf[at] = b;
+        return Mark {
+            count: at + 1,
+            lines: m.lines + 1,
+            width: 0,
+        };
+    }
+    if m.width < 33 {
+        buf[at] = b;
+        return Mark {
+            count: at + 1,
+            lines: m.lines,
+            width: m.width + 1,
+        };
+    }
+    m
+}
+
+pub struct Got {
+    pub mark: Mark,
+    pub used: usize,
+}
+
+// The bytes of a part up to the block's fifth LF, or all of them.
+pub fn gather(buf: &mut [u8], m: Mark, part: &[u8]) -> Got
+    requires { ⌜ Room m × (m .lines < 5) × (170 ≤ length (now buf)) ⌝ }
+    ensures kept { λ r. ⌜ (stateOf (r .mark) (now (buf .exit)) ≡ gatherOf (stateOf m (now (buf .entry))) (now (part .entry)) .kept) × (drop (r .used) (now (part .entry)) ≡ gatherOf (stateOf m (now (buf .entry))) (now (part .entry)) .left) ⌝ }
+    ensures room { λ r. ⌜ Room (r .mark) × (r .used ≤ length (now (part .entry))) × (0 < length (now (part .entry)) → 0 < r .used) ⌝ }
+{
+    let mut mark = m;
+    let mut i: usize = 0;
+    while i < part.len() {
+        let b = part[i];
+        mark = keep(buf, mark, b);
+        i += 1;
+        let n = mark.lines;
+        if 5 <= n {
+            return Got { mark, used: i };
+        }
+    }
+    Got { mark, used: i }
+}
+
+// The clerk between two bytes: whether the sheet was read, whether it was bad, the table, and what is kept.
+pub struct Clerk {
+    pub opened: bool,
+    pub shut: bool,
+    pub table: Table,
+    pub mark: Mark,
+}
+
+pub struct Fed {
+    pub clerk: Clerk,
+    pub used: usize,
+    pub written: usize,
+}
+
+fn empty() -> Mark
+    ensures { λ r. ⌜ Room r × (r .lines ≡ 0) × (r .count ≡ 0) × (r .width ≡ 0) ⌝ }
+{
+    Mark {
+        count: 0,
+        lines: 0,
+        width: 0,
+    }
+}
+
+pub struct Step {
+    pub opened: bool,
+    pub shut: bool,
+    pub table: Table,
+    pub written: usize,
+}
+
+// Five whole lines: the sheet, or a block that the table answers.
+fn whole(opened: bool, t: Table, block: &[u8], out: &mut [u8]) -> Step
+    requires { ⌜ Sound t ⌝ }
+    ensures step { λ r. ⌜ r ≡ stepOf opened t (now (block .entry)) (now (out .entry)) ⌝ }
+    ensures bytes { λ r. ⌜ now (out .exit) ≡ sheetAfter (stepBytes opened t (now (block .entry))) (now (out .entry)) ⌝ }
+    ensures sound { λ r. ⌜ Sound (r .table) × (r .written ≤ length (now (out .entry))) ⌝ }
+{
+    if opened {
+        let a = answer(t, block, out);
+        let u = a.table;
+        return Step {
+            opened: true,
+            shut: false,
+            table: u,
+            written: a.written,
+        };
+    }
+    match read_sheet(block) {
+        Opening::Bad => Step {
+            opened: false,
+            shut: true,
+            table: t,
+            written: refuse_sheet(out),
+        },
+        Opening::Read(s) => Step {
+            opened: true,
+            shut: false,
+            table: new_table(s),
+            written: 0,
+        },
+    }
+}
+
+// A part of the log: its bytes up to the end of a block, whose answer is written, or all of them.
+pub fn feed(c: Clerk, buf: &mut [u8], part: &[u8], out: &mut [u8]) -> Fed
+    requires { ⌜ Held c × (170 ≤ length (now buf)) ⌝ }
+    ensures fed { λ r. ⌜ FedAs c (now (buf .entry)) (now (part .entry)) (now (out .entry)) (now (buf .exit)) (now (out .exit)) r ⌝ }
+    ensures held { λ r. ⌜ Held (r .clerk) × (r .used ≤ length (now (part .entry))) × (0 < length (now (part .entry)) → 0 < r .used) × (r .written ≤ length (now (out .entry))) ⌝ }
+{
+    if c.shut {
+        return Fed {
+            clerk: c,
+            used: part.len(),
+            written: 0,
+        };
+    }
+    let t = c.table;
+    let m = c.mark;
+    let g = gather(buf, m, part);
+    let k = g.mark;
+    let n = k.lines;
+    if n < 5 {
+        let d = Clerk {
+            opened: c.opened,
+            shut: false,
+            table: t,
+            mark: k,
+        };
+        return Fed {
+            clerk: d,
+            used: g.used,
+            written: 0,
+        };
+    }
+    let e = k.count;
+    let s = whole(c.opened, t, &buf[0..e], out);
+    let u = s.table;
+    let z = empty();
+    let d = Clerk {
+        opened: s.opened,
+        shut: s.shut,
+        table: u,
+        mark: z,
+    };
+    Fed {
+        clerk: d,
+        used: g.used,
+        written: s.written,
+    }
+}
+
+// Before the first byte.
+pub fn start() -> Clerk
+    ensures { λ r. ⌜ Held r ⌝ }
+{
+    let s = Sheet {
+        seats: 2,
+        small: 1,
+        big: 1,
+        rate: 0,
+        cap: 0,
+    };
+    let t = new_table(s);
+    let z = empty();
+    Clerk {
+        opened: false,
+        shut: false,
+        table: t,
+        mark: z,
+    }
+}
+
+// The end of the log: a sheet that is not whole is bad, and a block that is not whole is malformed.
+pub fn close(c: Clerk, buf: &[u8], out: &mut [u8]) -> usize
+    requires { ⌜ Held c × (170 ≤ length (now buf)) ⌝ }
+    ensures bytes { λ r. ⌜ Wrote (fitting (closeBytes c (now (buf .entry))) (length (now (out .entry)))) (now (out .entry)) (now (out .exit)) r ⌝ }
+    ensures within { λ r. ⌜ r ≤ length (now (out .entry)) ⌝ }
+{
+    if c.shut {
+        return 0;
+    }
+    if c.opened {
+        let m = c.mark;
+        let e = m.count;
+        if e == 0 {
+            return 0;
+        }
+        let t = c.table;
+        let a = answer(t, &buf[0..e], out);
+        return a.written;
+    }
+    refuse_sheet(out)
+}

@@ -1,0 +1,166 @@
+-- Laws of owing seats, of cards that are out and of what a code of 0 says, over tables. Assumes nothing.
+use Prim.Native.Nat.{ℕ, zero, suc, _+_, _<_, _≤_}
+use mathlib.Core.Bool.{true, false, not}
+use mathlib.Core.Path.{_≡_, refl, sym, _∙_}
+use mathlib.Core.List.{List, [], _∷_, map}
+use native.Mathlib.Numerals.{add-one}
+use native.Mathlib.Omega.{arith}
+use lib.ListN.{length, getD, drop}
+use lib.Seq.{drop-cons}
+use lib.Dec.{eqb, leb, ltb}
+use borrow.Author.Tests.{le-leb, lt-leb, leb-false, leb-true}
+use Rattle.paper.specs.Paper.{both, either, when, isSheet}
+use Rattle.paper.proofs.Codes.{or-zero, when-zero, either-false, both-true}
+use Rattle.paper.specs.declared.Sheet.{Sheet}
+use Rattle.pots.specs.Heights.{sumOf}
+use Rattle.pots.specs.Hand.{feeOfHand, dueOf, paidOf, unclaimedOf}
+use Rattle.pots.proofs.Hands.{none-lost, map-length, paid-and-unclaimed, at-most-sum}
+use Rattle.cards.specs.Order.{places, bestOf}
+use Rattle.cards.proofs.Spelled.{strength-small}
+use Rattle.table.specs.Settle.{Payable, totalsOf, livesOf, hereOf, scoreOf, scoresOf, dueNow, payoutNow}
+use Rattle.table.specs.declared.table.Board.{Board}
+use Rattle.table.specs.declared.table.Payout.{Payout}
+use Rattle.chairs.specs.Chairs.{firstOf, chipsOf, wantOf, clockwise, columnOf, noChair, paidOf as paysOf}
+use Rattle.chairs.proofs.Laws.{first-cong, chips-put, chips-paid}
+use Rattle.chairs.specs.declared.Chair.{Chair}
+use Rattle.chairs.specs.declared.Who.the-variants.{Owing}
+use Rattle.table.specs.Table.{liveOf, aloneOf, owingOf, firstOwing, hasCard, seatOf, usedOf}
+use Rattle.table.specs.Acts.{nobodyOwes, postedTo, boardCode}
+use Rattle.table.specs.declared.table.Table.{Table}
+use Rattle.chairs.specs.declared.What.the-variants as what
+
+first-false : (cs : List Chair) (ss : List ℕ) → firstOf (λ c. false) cs ss ≡ 0
+first-false cs [] = refl
+first-false cs (s ∷ ss) = first-false cs ss
+
+-- with fewer than two live hands nobody owes; with two or more, those that `Who.Owing` looks for
+pub owing-few : (t : Table) (s : ℕ) → liveOf t < 2 → firstOwing t s ≡ 0
+unfolding firstOwing owingOf
+owing-few t s h = first-cong (owingOf t) (λ c. false) (t .chairs) none (clockwise (t .sheet .seats) s) ∙ first-false (t .chairs) (clockwise (t .sheet .seats) s)
+  where
+    none : (c : Chair) → owingOf t c ≡ false
+    none c = rw (lt-leb 2 (liveOf t) h)
+
+pub owing-many : (t : Table) (s : ℕ) → 2 ≤ liveOf t
+    → firstOwing t s ≡ firstOf (wantOf (Owing (t .play .mark) (aloneOf t))) (t .chairs) (clockwise (t .sheet .seats) s)
+unfolding firstOwing owingOf
+owing-many t s h = first-cong (owingOf t) (wantOf (Owing (t .play .mark) (aloneOf t))) (t .chairs) same (clockwise (t .sheet .seats) s)
+  where
+    same : (c : Chair) → owingOf t c ≡ wantOf (Owing (t .play .mark) (aloneOf t)) c
+    same c = rw (le-leb 2 (liveOf t) h)
+
+pub has-step : (k : ℕ) (xs : List ℕ) (i : ℕ) → i < length xs
+    → hasCard k (drop i xs) ≡ either (eqb (getD xs i 0) k) (hasCard k (drop (i + 1) xs))
+has-step k xs i h = rw (add-one, drop-cons xs i 0)
+
+-- a blind makes no chips
+pub chips-posted : (t : Table) (s a : ℕ) → chipsOf (postedTo t s a .chairs) ≤ chipsOf (t .chairs)
+unfolding postedTo
+chips-posted t s a = omega (arith, chips-put (t .chairs) s (paysOf (seatOf t s) a), chips-paid (seatOf t s) a)
+
+-- a board entry that is taken has room
+pub board-room : (t : Table) (k : ℕ) → boardCode t k ≡ 0 → t .board .count < 5
+unfolding boardCode
+board-room t k h =
+    let full = leb 5 (t .board .count) in
+    let few = either (ltb (liveOf t) 2) full in
+    let owed = either (not (nobodyOwes t)) few in
+    let e = when-zero (either (not (t .play .opened)) owed) 3 (or-zero (when (either (not (t .play .opened)) owed) 4) (when (usedOf t k) 8) h .0) in
+    let e1 = either-false (not (t .play .opened)) owed e .1 in
+    let e2 = either-false (not (nobodyOwes t)) few e1 .1 in
+    leb-false 5 (t .board .count) (either-false (ltb (liveOf t) 2) full e2 .1)
+
+-- the totals are at most all chips
+pub totals-within : (cs : List Chair) → sumOf (map (columnOf what.Total) cs) ≤ chipsOf cs
+unfolding sumOf
+totals-within [] = omega arith
+totals-within (c ∷ cs) = omega (arith, totals-within cs)
+
+-- a sheet's rate and seats
+pub sheet-rate : (s : Sheet) → isSheet s ≡ true → s .rate ≤ 100
+unfolding isSheet
+sheet-rate s h =
+    let blinds = both (leb 1 (s .small)) (both (leb (s .small) (s .big)) (leb (s .big) 10000)) in
+    let rest = both (leb (s .rate) 100) (leb (s .cap) 1000000) in
+    let p = both-true (both (leb 2 (s .seats)) (leb (s .seats) 10)) (both blinds rest) h in
+    leb-true (s .rate) 100 (both-true (leb (s .rate) 100) (leb (s .cap) 1000000) (both-true blinds rest (p .1) .1) .0)
+
+pub sheet-seats : (s : Sheet) → isSheet s ≡ true → s .seats ≤ 10
+unfolding isSheet
+sheet-seats s h =
+    let blinds = both (leb 1 (s .small)) (both (leb (s .small) (s .big)) (leb (s .big) 10000)) in
+    let rest = both (leb (s .rate) 100) (leb (s .cap) 1000000) in
+    let p = both-true (both (leb 2 (s .seats)) (leb (s .seats) 10)) (both blinds rest) h in
+    leb-true (s .seats) 10 (both-true (leb 2 (s .seats)) (leb (s .seats) 10) (p .0) .1)
+
+pub sheet-big : (s : Sheet) → isSheet s ≡ true → s .big ≤ 10000
+unfolding isSheet
+sheet-big s h =
+    let blinds = both (leb 1 (s .small)) (both (leb (s .small) (s .big)) (leb (s .big) 10000)) in
+    let rest = both (leb (s .rate) 100) (leb (s .cap) 1000000) in
+    let p = both-true (both (leb 2 (s .seats)) (leb (s .seats) 10)) (both blinds rest) h in
+    let q = both-true (leb 1 (s .small)) (both (leb (s .small) (s .big)) (leb (s .big) 10000)) (both-true blinds rest (p .1) .0) in
+    leb-true (s .big) 10000 (both-true (leb (s .small) (s .big)) (leb (s .big) 10000) (q .1) .1)
+
+-- ---- what a settle pays
+pub five-is : (l : List ℕ) → length l ≡ 5 → _≡_ {A = List ℕ} (getD l 0 0 ∷ getD l 1 0 ∷ getD l 2 0 ∷ getD l 3 0 ∷ getD l 4 0 ∷ []) l
+five-is [] h = absurd (omega arith)
+five-is (a ∷ []) h = absurd (omega arith)
+five-is (a ∷ b ∷ []) h = absurd (omega arith)
+five-is (a ∷ b ∷ c ∷ []) h = absurd (omega arith)
+five-is (a ∷ b ∷ c ∷ d ∷ []) h = absurd (omega arith)
+five-is (a ∷ b ∷ c ∷ d ∷ e ∷ []) h = refl
+five-is (a ∷ b ∷ c ∷ d ∷ e ∷ f ∷ l) h = absurd (omega arith)
+
+score-at : (b : Board) (cs : List Chair) (i : ℕ) → getD (map (scoreOf b) cs) i 0 ≤ 100000000
+unfolding scoreOf
+score-at b [] i = omega arith
+score-at b (c ∷ cs) zero = omega (arith, strength-small places (bestOf places (c .hole .first ∷ c .hole .second ∷ b .cards)))
+score-at b (c ∷ cs) (suc i) = score-at b cs i
+
+pub scores-within : (b : Board) (cs : List Chair) (xs : List ℕ) → xs ≡ map (scoreOf b) cs → (i : ℕ) → getD xs i 0 ≤ 100000000
+scores-within b cs xs e i = rw e (score-at b cs i)
+
+due-within : (ts : List ℕ) (live : ℕ) (scores : List ℕ) (rate cap puck : ℕ) → length scores ≡ length ts → rate ≤ 1000 → sumOf (dueOf ts live scores rate cap puck) ≤ sumOf ts
+due-within ts live scores rate cap puck l r = omega (arith, none-lost ts live scores rate cap puck l r)
+
+-- what all are due is at most what all have put in
+pub due-totals : (t : Table) → Payable t → sumOf (dueNow t) ≤ sumOf (totalsOf t)
+due-totals t h =
+    due-within (totalsOf t) (livesOf t) (scoresOf t) (t .sheet .rate) (t .sheet .cap) (t .play .puck)
+    (map-length (scoreOf (t .board)) (t .chairs) ∙ sym (map-length (columnOf what.Total) (t .chairs)))
+    (omega (arith, sheet-rate (t .sheet) (h .sheet)))
+
+pub due-small : (t : Table) → Payable t → sumOf (dueNow t) ≤ 100000000
+due-small t h = omega (arith, due-totals t h, totals-within (t .chairs), h .chips)
+
+module _ (t : Table) (ts sc due paid sits : List ℕ) (lv hr fee un : ℕ) (ts-is : ts ≡ totalsOf t) (lv-is : lv ≡ livesOf t) (sc-is : sc ≡ scoresOf t)
+    (due-is : due ≡ dueOf ts lv sc (t .sheet .rate) (t .sheet .cap) (t .play .puck)) where
+  pub due-now : due ≡ dueNow t
+  due-now = rw (ts-is, lv-is, sc-is) at due-is
+
+  pub payout-is : fee ≡ feeOfHand ts lv (t .sheet .rate) (t .sheet .cap) → hr ≡ hereOf t → paid ≡ paidOf due hr → un ≡ unclaimedOf due hr → sits ≡ map (columnOf what.Sitting) (t .chairs)
+      → _≡_ {A = Payout} (record { settled = true; fee = fee; paid = paid; sittings = sits; unclaimed = un }) (payoutNow t)
+  unfolding payoutNow
+  payout-is fee-is hr-is paid-is un-is sits-is =
+      let f = rw (ts-is, lv-is) at fee-is in
+      let p = rw (due-now, hr-is) at paid-is in
+      let u = rw (due-now, hr-is) at un-is in
+      rw (f, p, u, sits-is)
+
+-- what is paid to one is at most what all have put in
+pub paid-at : (t : Table) → Payable t → (i : ℕ) → getD (payoutNow t .paid) i 0 ≤ 100000000
+unfolding payoutNow
+paid-at t h i = omega (arith, due-small t h, paid-and-unclaimed (dueNow t) (hereOf t), at-most-sum (paidOf (dueNow t) (hereOf t)) i)
+
+pub paid-sum : (t : Table) → Payable t → sumOf (payoutNow t .paid) ≤ sumOf (totalsOf t)
+unfolding payoutNow
+paid-sum t h = omega (arith, due-totals t h, paid-and-unclaimed (dueNow t) (hereOf t))
+
+pub stack-at : (cs : List Chair) (i : ℕ) → getD cs i noChair .stack ≤ chipsOf cs
+stack-at [] i = omega arith
+stack-at (c ∷ cs) zero = omega arith
+stack-at (c ∷ cs) (suc i) = omega (arith, stack-at cs i)
+
+pub room-at : (t : Table) → Payable t → (ps : List ℕ) → ps ≡ payoutNow t .paid → (i : ℕ) → getD (t .chairs) i noChair .stack + getD ps i 0 ≤ 4000000000
+room-at t h ps e i = rw e (omega (arith, stack-at (t .chairs) i, paid-at t h i, h .chips))

@@ -1,0 +1,93 @@
+-- Document 01, "Chip heights and pots" and `settle` at a table: the totals of the sittings dealt in, the pots they make, who is paid what,
+-- and the table with its hand closed. Assumes nothing.
+use Prim.Native.Nat.{ℕ, zero, suc, _+_, _-_, _≤_}
+use mathlib.Core.Bool.{Bool, true, false, not}
+use mathlib.Core.List.{List, [], _∷_, map}
+use mathlib.Core.Path.{_≡_}
+use lib.Dec.{ltb, leb, eqb}
+use lib.ListN.{replicate}
+use Rattle.paper.specs.Paper.{both, either, when, orElse, isSheet}
+use Rattle.cards.specs.Order.{places, bestOf, strengthBy}
+use Rattle.pots.specs.Heights.{maskAt, backOf}
+use Rattle.pots.specs.Runs.{potsOf}
+use Rattle.pots.specs.Hand.{feeOfHand, dueOf, paidOf, unclaimedOf}
+use Rattle.pots.specs.declared.Pot.{Pot}
+use Rattle.chairs.specs.Chairs.{countOf, wantOf, columnOf, chipsOf, closeAll}
+use Rattle.chairs.specs.declared.Chair.{Chair}
+use Rattle.chairs.specs.declared.Who.the-variants.{Bare}
+use Rattle.chairs.specs.declared.What.the-variants as what
+use Rattle.table.specs.Table.{liveOf, noBoard}
+use Rattle.table.specs.Acts.{nobodyOwes}
+use Rattle.table.specs.declared.table.Table.{Table}
+use Rattle.table.specs.declared.table.Play.{Play}
+use Rattle.table.specs.declared.table.Board.{Board}
+use Rattle.table.specs.declared.table.Payout.{Payout}
+
+-- settle: one live; or nobody owes and five board cards lie. With two live or more, each live seat has its cards entered
+unfoldable pub settleCode : Table → ℕ
+settleCode t =
+    orElse (when (not (both (t .play .opened) (either (eqb (liveOf t) 1) (both (nobodyOwes t) (eqb (t .board .count) 5))))) 4)
+    (when (both (leb 2 (liveOf t)) (not (eqb (countOf (wantOf Bare) (t .chairs)) 0))) 10)
+
+-- what each sitting dealt in has put in, and the live ones as a mask of dealt-in seats
+abbrev pub totalsOf : Table → List ℕ
+totalsOf t = map (columnOf what.Total) (t .chairs)
+
+abbrev pub livesOf : Table → ℕ
+livesOf t = maskAt (map (columnOf what.Live) (t .chairs)) 1
+
+-- the sittings dealt in that are still there
+abbrev pub hereOf : Table → ℕ
+hereOf t = maskAt (map (columnOf what.Here) (t .chairs)) 1
+
+-- the pots of the open hand from the lowest, and the sum of its returned heights
+unfoldable pub potsNow : Table → List Pot
+potsNow t = potsOf (totalsOf t) (livesOf t)
+
+unfoldable pub backNow : Table → ℕ
+backNow t = backOf (totalsOf t) (livesOf t)
+
+-- the number of the best hand of five among a seat's two hole and the five board cards
+unfoldable pub scoreOf : Board → Chair → ℕ
+scoreOf b c = strengthBy places (bestOf places (c .hole .first ∷ c .hole .second ∷ b .cards))
+
+abbrev pub scoresOf : Table → List ℕ
+scoresOf t = map (scoreOf (t .board)) (t .chairs)
+
+-- what the sitting dealt in at each seat is due: its part of the pots less commission, and its returned chips
+abbrev pub dueNow : Table → List ℕ
+dueNow t = dueOf (totalsOf t) (livesOf t) (scoresOf t) (t .sheet .rate) (t .sheet .cap) (t .play .puck)
+
+-- what a settle pays: to a sitting that left 0, and what it is due is unclaimed
+unfoldable pub payoutNow : Table → Payout
+payoutNow t = record {
+  settled = true;
+  fee = feeOfHand (totalsOf t) (livesOf t) (t .sheet .rate) (t .sheet .cap);
+  paid = paidOf (dueNow t) (hereOf t);
+  sittings = map (columnOf what.Sitting) (t .chairs);
+  unclaimed = unclaimedOf (dueNow t) (hereOf t);
+}
+
+abbrev pub noPayout : Payout
+noPayout = record { settled = false; fee = 0; paid = replicate 10 0; sittings = replicate 10 0; unclaimed = 0 }
+
+-- no hand: of the last one only the puck seat is kept
+abbrev pub closedPlay : Play → Play
+closedPlay p = record { opened = false; puck = p .puck; mark = 0; lift = 0; turn = 0 }
+
+-- the hand is closed and its records cleared; what is paid is added to the stacks
+unfoldable pub settledTo : Table → Table
+settledTo t = record {
+  sheet = t .sheet;
+  taken = t .taken;
+  sittings = t .sittings;
+  play = closedPlay (t .play);
+  board = noBoard;
+  chairs = closeAll (t .chairs) (payoutNow t .paid);
+}
+
+-- what paying asks of a table: it is part of Sound
+pub record Payable (t : Table) : Type 0 where
+  pub chips : chipsOf (t .chairs) ≤ 100000000
+  pub sheet : isSheet (t .sheet) ≡ true
+  pub puck : t .play .puck ≤ 10

@@ -1,0 +1,202 @@
+// What the open hand's pots are, what a settle pays, and the table after it.
+use crate::table;
+use crate::table::Board;
+use crate::table::Payout;
+use crate::table::Play;
+use crate::table::Table;
+use chairs::Chair;
+use chairs::What;
+use chairs::Who;
+use paper::both;
+use paper::either;
+use paper::or_else;
+use paper::when;
+use pots::Pots;
+ghost use mathlib.Core.Path.{_≡_};
+ghost use mathlib.Core.List.{map};
+ghost use Prim.Native.Nat.{_+_, _-_, _≤_, _<_};
+ghost use lib.ListN.{length};
+ghost use Rattle.chairs.specs.Chairs.{chipsOf, closeAll};
+ghost use Rattle.pots.specs.Runs.{padded};
+ghost use Rattle.table.specs.Settle.{Payable, settleCode, totalsOf, livesOf, hereOf, scoreOf, potsNow, backNow, payoutNow, settledTo, closedPlay, noPayout};
+
+// The table after an entry that is taken, and what it pays.
+pub struct Done {
+    pub table: Table,
+    pub payout: Payout,
+}
+
+// One live; or nobody owes and five board cards lie. With two live or more each live seat has its cards.
+pub fn settle_code(t: Table) -> u8
+    ensures { λ r. ⌜ r ≡ settleCode t ⌝ }
+{
+    let cs = t.chairs;
+    let live = table::lives(t);
+    let none = table::first_owing(t, 0) == 0;
+    let five = t.board.count == 5;
+    let now = both(t.play.opened, either(live == 1, both(none, five)));
+    let bare = chairs::count(cs, Who::Bare) != 0;
+    or_else(when(!now, 4), when(both(2 <= live, bare), 10))
+}
+
+// What each sitting dealt in has put in.
+pub fn totals(t: Table) -> [u32; 10]
+    ensures { λ r. ⌜ r ≡ totalsOf t ⌝ }
+{
+    let cs = t.chairs;
+    chairs::column(cs, What::Total)
+}
+
+// The live ones, as a mask of dealt-in seats.
+pub fn live_seats(t: Table) -> u16
+    ensures { λ r. ⌜ r ≡ livesOf t ⌝ }
+{
+    let cs = t.chairs;
+    pots::mask_at(chairs::column(cs, What::Live), 1)
+}
+
+// Those that are still there.
+pub fn here_seats(t: Table) -> u16
+    ensures { λ r. ⌜ r ≡ hereOf t ⌝ }
+{
+    let cs = t.chairs;
+    pots::mask_at(chairs::column(cs, What::Here), 1)
+}
+
+// The number of the best hand of the seven cards.
+fn score(b: Board, c: Chair) -> u32
+    ensures { λ r. ⌜ r ≡ scoreOf b c ⌝ }
+{
+    let k = b.cards;
+    let seven = [c.hole.first, c.hole.second, k[0], k[1], k[2], k[3], k[4]];
+    cards::strength(cards::best_hand(&seven))
+}
+
+fn scores(b: Board, cs: [Chair; 10]) -> [u32; 10]
+    ensures { λ r. ⌜ r ≡ map (scoreOf b) cs ⌝ }
+{
+    let mut a = [0u32; 10];
+    let mut i: usize = 0;
+    while i < 10 {
+        let c = cs[i];
+        a[i] = score(b, c);
+        i += 1;
+    }
+    a
+}
+
+// What a settle pays.
+pub fn payout(t: Table) -> Payout
+    requires { ⌜ Payable t ⌝ }
+    ensures { λ r. ⌜ r ≡ payoutNow t ⌝ }
+{
+    let cs = t.chairs;
+    let b = t.board;
+    let sc = scores(b, cs);
+    let puck = t.play.puck as usize;
+    let s = pots::hand::settle_hand(
+        totals(t),
+        live_seats(t),
+        sc,
+        t.sheet.rate,
+        t.sheet.cap,
+        puck,
+    );
+    let due = s.due;
+    let p = pots::hand::pay_out(due, here_seats(t));
+    let paid = p.paid;
+    Payout {
+        settled: true,
+        fee: s.fee,
+        paid,
+        sittings: chairs::column(cs, What::Sitting),
+        unclaimed: p.unclaimed,
+    }
+}
+
+// No hand: of the last one only the puck seat is kept.
+fn closed_play(p: Play) -> Play
+    ensures { λ r. ⌜ r ≡ closedPlay p ⌝ }
+{
+    Play {
+        opened: false,
+        puck: p.puck,
+        mark: 0,
+        lift: 0,
+        turn: 0,
+    }
+}
+
+// The hand is closed, and what is paid is added to the stacks.
+fn shut(t: Table, p: Payout) -> Table
+    requires { ⌜ Payable t × (p ≡ payoutNow t) ⌝ }
+    ensures { λ r. ⌜ r ≡ settledTo t ⌝ }
+{
+    let cs = t.chairs;
+    let paid = p.paid;
+    let sheet = t.sheet;
+    let play = t.play;
+    let after = closed_play(play);
+    let board = table::no_board();
+    let ds = chairs::close_all(cs, paid);
+    Table {
+        sheet: sheet,
+        taken: t.taken,
+        sittings: t.sittings,
+        play: after,
+        board: board,
+        chairs: ds,
+    }
+}
+
+// A settle: the table after it, and what it pays.
+pub fn settled(t: Table) -> Done
+    requires { ⌜ Payable t ⌝ }
+    ensures { λ r. ⌜ (r .table ≡ settledTo t) × (r .payout ≡ payoutNow t) ⌝ }
+{
+    let p = payout(t);
+    let u = shut(t, p);
+    Done {
+        table: u,
+        payout: p,
+    }
+}
+
+// Any other entry pays nothing.
+pub fn plain(t: Table) -> Done
+    ensures { λ r. ⌜ (r .table ≡ t) × (r .payout ≡ noPayout) ⌝ }
+{
+    let p = no_payout();
+    Done {
+        table: t,
+        payout: p,
+    }
+}
+
+pub fn no_payout() -> Payout
+    ensures { λ r. ⌜ r ≡ noPayout ⌝ }
+{
+    Payout {
+        settled: false,
+        fee: 0,
+        paid: [0; 10],
+        sittings: [0; 10],
+        unclaimed: 0,
+    }
+}
+
+// The pots of the open hand, from the lowest.
+pub fn pots_now(t: Table) -> Pots
+    requires { ⌜ chipsOf (t .chairs) ≤ 100000000 ⌝ }
+    ensures { λ r. ⌜ (r .n ≡ length (potsNow t)) × (r .list ≡ padded 9 (potsNow t)) × (r .n ≤ 9) ⌝ }
+{
+    pots::pots_of(totals(t), live_seats(t))
+}
+
+// The sum of returned heights.
+pub fn back_now(t: Table) -> u32
+    requires { ⌜ chipsOf (t .chairs) ≤ 100000000 ⌝ }
+    ensures { λ r. ⌜ r ≡ backNow t ⌝ }
+{
+    pots::back(totals(t), live_seats(t))
+}

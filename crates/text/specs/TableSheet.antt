@@ -1,0 +1,72 @@
+-- Document 01: "The sheet comes first: seats (2 to 10), small, big (1 ≤ small ≤ big ≤ 10,000), rate (0 to 100, thousandths), cap (0 to 1,000,000)."
+-- Refusal 11: "a sheet line is missing, malformed or out of its range".
+use Prim.Native.Nat.{ℕ, zero, suc}
+use mathlib.Core.List.{List, [], _∷_}
+use mathlib.Core.Bool.{Bool, true, false}
+use lib.ListN.{getD}
+use lib.Dec.{leb}
+use Rattle.text.specs.Pick.{pick, both}
+use Rattle.text.specs.Line.{lineNumber}
+use Rattle.text.specs.Block.{afterLines}
+use Rattle.paper.specs.Paper.{between}
+use Rattle.text.specs.declared.Number.{Number}
+use Rattle.text.specs.declared.Number.the-variants.{Value, Bad}
+use Rattle.paper.specs.declared.Sheet.{Sheet}
+use Rattle.text.specs.declared.sheet.Opening.{Opening}
+use Rattle.text.specs.declared.sheet.Opening.the-variants as opening
+
+-- the sheet's lines in their order: the key of each, and the least and the greatest number that it may have
+abbrev pub sheetKeys : List (List ℕ)
+sheetKeys =
+    (115 ∷ 101 ∷ 97 ∷ 116 ∷ 115 ∷ [])
+    ∷ (115 ∷ 109 ∷ 97 ∷ 108 ∷ 108 ∷ [])
+    ∷ (98 ∷ 105 ∷ 103 ∷ [])
+    ∷ (114 ∷ 97 ∷ 116 ∷ 101 ∷ [])
+    ∷ (99 ∷ 97 ∷ 112 ∷ [])
+    ∷ []
+
+abbrev pub sheetFrom : List ℕ
+sheetFrom = 2 ∷ 1 ∷ 1 ∷ 0 ∷ 0 ∷ []
+
+abbrev pub sheetTo : List ℕ
+sheetTo = 10 ∷ 10_000 ∷ 10_000 ∷ 100 ∷ 1_000_000 ∷ []
+
+-- a number where it is in a range
+abbrev pub ranged : ℕ → ℕ → Number → Number
+ranged from to (Value v) = pick (between from to v) (Value v) Bad
+ranged from to Bad = Bad
+
+-- the number of the sheet's k-th line, counted from 0, where it is in its range
+unfoldable pub sheetNumber : ℕ → List ℕ → Number
+sheetNumber k log = ranged (getD sheetFrom k 0) (getD sheetTo k 0) (lineNumber (getD sheetKeys k []) (afterLines k log))
+
+abbrev pub isValue : Number → Bool
+isValue (Value v) = true
+isValue Bad = false
+
+abbrev pub valueIn : Number → ℕ
+valueIn (Value v) = v
+valueIn Bad = 0
+
+-- the first k lines are good
+abbrev pub allGood : ℕ → List ℕ → Bool
+allGood zero log = true
+allGood (suc k) log = both (isValue (sheetNumber k log)) (allGood k log)
+
+unfoldable pub sheetWith : List ℕ → Sheet
+sheetWith log = record {
+  seats = valueIn (sheetNumber 0 log);
+  small = valueIn (sheetNumber 1 log);
+  big = valueIn (sheetNumber 2 log);
+  rate = valueIn (sheetNumber 3 log);
+  cap = valueIn (sheetNumber 4 log);
+}
+
+-- the sheet at the front of a log: each of its lines is good, and small is at most big
+unfoldable pub sheetOf : List ℕ → Opening
+sheetOf log =
+    pick (both (allGood 5 log) (leb (valueIn (sheetNumber 1 log)) (valueIn (sheetNumber 2 log)))) (opening.Read (sheetWith log)) opening.Bad
+
+-- what follows the sheet: its lines are used up
+unfoldable pub sheetEnd : List ℕ → List ℕ
+sheetEnd log = afterLines 5 log

@@ -1,0 +1,121 @@
+//! `count [--demand] LOG...`: runs the second program on the logs and prints
+//! what occurred in them. With `--demand` it fails where something that a run
+//! must contain was missed.
+
+mod lifts;
+
+use lifts::Lifts;
+use second::answer::{answer_block, Answer};
+use second::entries::{read_block, Entry};
+use second::pots::by_levels;
+use second::table::Table;
+use second::text::{sheet, ENTRY_KEYS, LF, SHEET_KEYS};
+use std::collections::BTreeMap;
+
+/// How often each named thing occurred.
+#[derive(Default)]
+pub struct Counts(BTreeMap<String, u64>);
+
+/// What a run of all profiles must contain, besides the codes 0 to 11.
+const DEMANDED: [&str; 10] = [
+    "pots 9",
+    "unclaimed chips",
+    "seat changed hands inside a hand",
+    "odd units shared",
+    "two short lifts in a row",
+    "short lift over one who checked",
+    "short lift over one who called",
+    "short lift over one who has not acted",
+    "short lift over one who raised",
+    "short lift over the big blind's option",
+];
+
+impl Counts {
+    pub fn add(&mut self, name: impl Into<String>) {
+        *self.0.entry(name.into()).or_default() += 1;
+    }
+
+    fn missed(&self) -> Vec<String> {
+        let codes = (0..=11).map(|code| format!("code {code:2}"));
+        let demanded = codes.chain(DEMANDED.map(String::from));
+        demanded.filter(|name| !self.0.contains_key(name)).collect()
+    }
+}
+
+fn main() {
+    let mut logs: Vec<String> = std::env::args().skip(1).collect();
+    let demand = logs.first().is_some_and(|first| first == "--demand");
+    logs.drain(..usize::from(demand));
+    let mut counts = Counts::default();
+    for log in &logs {
+        let bytes = std::fs::read(log).unwrap_or_else(|error| panic!("{log}: {error}"));
+        count_log(&bytes, &mut counts);
+    }
+    for (name, count) in &counts.0 {
+        println!("{count:10}  {name}");
+    }
+    if demand && !counts.missed().is_empty() {
+        println!("missed: {}", counts.missed().join(", "));
+        std::process::exit(1);
+    }
+}
+
+/// The bytes up to and with that LF, or all there are; and what follows.
+fn split_after_line(bytes: &[u8], lines: usize) -> (&[u8], &[u8]) {
+    let ends = bytes.iter().enumerate().filter(|(_, byte)| **byte == LF);
+    let end = ends.map(|(place, _)| place + 1).nth(lines - 1);
+    bytes.split_at(end.unwrap_or(bytes.len()))
+}
+
+fn count_log(log: &[u8], counts: &mut Counts) {
+    counts.add("logs");
+    let (first, mut rest) = split_after_line(log, SHEET_KEYS.len());
+    let Some(sheet) = sheet(first) else { return counts.add("code 11") };
+    let mut table = Table::new(sheet, by_levels);
+    let mut lifts = Lifts::new(sheet.seats);
+    while !rest.is_empty() {
+        let block;
+        (block, rest) = split_after_line(rest, ENTRY_KEYS.len());
+        let before = table.clone();
+        let answer = answer_block(&mut table, block);
+        count_answer(&answer, counts);
+        let entry = read_block(block).and_then(|written| written.entry(sheet.seats));
+        if let Some(entry) = entry.filter(|_| answer.code == 0) {
+            count_taken(&before, &entry, &answer, counts);
+            lifts.note(&before, &table, &entry, counts);
+        }
+    }
+}
+
+fn count_answer(answer: &Answer, counts: &mut Counts) {
+    counts.add("entries");
+    counts.add(format!("code {:2}", answer.code));
+    counts.add(format!("pots {}", answer.pots.pots.len()));
+}
+
+fn count_taken(before: &Table, entry: &Entry, answer: &Answer, counts: &mut Counts) {
+    let shown = format!("{entry:?}");
+    let kind = shown.split(' ').next().unwrap_or_default();
+    counts.add(format!("taken {}", kind.to_lowercase()));
+    match *entry {
+        Entry::Sit { seat, .. } if before.dealt(seat).is_some() => {
+            counts.add("seat changed hands inside a hand");
+        }
+        Entry::Dead { seat } if seat != before.turn() => counts.add("dead out of turn"),
+        Entry::Settle => count_settle(before, answer, counts),
+        _ => (),
+    }
+}
+
+fn count_settle(before: &Table, answer: &Answer, counts: &mut Counts) {
+    let (Some(settlement), Some(shares)) = (&answer.settlement, before.shares()) else { return };
+    if settlement.unclaimed > 0 {
+        counts.add("unclaimed chips");
+    }
+    if settlement.fee > 0 {
+        counts.add("fee taken");
+    }
+    for (amount, winners) in shares.divided.iter().filter(|(_, winners)| *winners > 1) {
+        counts.add(if amount % winners == 0 { "pot shared evenly" } else { "odd units shared" });
+    }
+}

@@ -1,0 +1,152 @@
+//! P1 to P12; what is expected stands in the paper.
+
+mod play;
+
+use play::{block, sheet_text, Play};
+use second::clerk::answers_to;
+use second::hands::{best_of_seven, of_five, Strength, CLASSES};
+use second::pots::{by_heights, by_levels, literally, Commission, Pots, Stake};
+use std::cmp::Ordering;
+
+/// Cards written as rank and suit, `A` `K` `Q` `J` `T` `9` .. `2` and `0` to `3`.
+fn cards<const N: usize>(text: &str) -> [u8; N] {
+    let card = |word: &str| {
+        let (rank, suit) = word.split_at(1);
+        let rank = "23456789TJQKA".find(rank).expect("a rank") as u8;
+        4 * rank + suit.parse::<u8>().expect("a suit")
+    };
+    let cards: Vec<u8> = text.split(' ').map(card).collect();
+    cards.try_into().expect("that many cards")
+}
+
+fn five(text: &str) -> Strength {
+    of_five(cards(text))
+}
+
+fn class(text: &str) -> &'static str {
+    CLASSES[five(text).class]
+}
+
+#[test]
+fn p1_to_p4_order_of_hands() {
+    assert!(five("A0 21 32 43 50") < five("20 31 42 53 60"));
+    assert_eq!(class("Q0 K1 A2 23 30"), "five odd cards");
+    assert!(five("K0 K1 K2 Q0 Q1") > five("A0 K0 Q0 J0 90"));
+    assert_eq!(class("A0 K0 Q0 J0 90"), "flush");
+    assert_eq!(five("A0 K1 Q2 J3 90").cmp(&five("A1 K2 Q3 J0 91")), Ordering::Equal);
+}
+
+#[test]
+fn the_nine_classes_in_order() {
+    let low_to_high = [
+        "A0 K1 Q2 J3 90",
+        "20 21 33 40 51",
+        "20 21 33 30 41",
+        "20 21 22 33 40",
+        "A0 21 32 43 50",
+        "20 30 40 50 70",
+        "20 21 22 33 30",
+        "20 21 22 23 30",
+        "A0 20 30 40 50",
+    ];
+    for (place, hand) in low_to_high.iter().enumerate() {
+        assert_eq!(five(hand).class, place, "{hand}");
+    }
+    assert!(five("T0 J0 Q0 K0 A0") > five("90 T0 J0 Q0 K0"));
+}
+
+/// Known counts: 52 over 5 hands, 7,462 of them different in worth.
+#[test]
+fn all_hands_of_five() {
+    let mut counts = [0; 9];
+    let mut worths = std::collections::BTreeSet::new();
+    for_each_five(|cards| {
+        let strength = of_five(cards);
+        counts[strength.class] += 1;
+        worths.insert(strength);
+    });
+    assert_eq!(counts, [1_302_540, 1_098_240, 123_552, 54_912, 10_200, 5_108, 3_744, 624, 40]);
+    assert_eq!(worths.len(), 7_462);
+}
+
+fn for_each_five(mut visit: impl FnMut([u8; 5])) {
+    let mut cards = [0, 1, 2, 3, 4];
+    loop {
+        visit(cards);
+        // The last place that can still rise does, and those behind it follow.
+        let Some(place) = (0..5).rev().find(|place| cards[*place] < 47 + *place as u8) else { return };
+        cards[place] += 1;
+        (place + 1..5).for_each(|later| cards[later] = cards[later - 1] + 1);
+    }
+}
+
+#[test]
+fn p5_and_p6_best_of_seven() {
+    assert_eq!(best_of_seven(cards("K0 K1 90 91 40 41 A0")).ranks, [13, 13, 9, 9, 14]);
+    assert_eq!(best_of_seven(cards("80 81 82 50 51 52 20")).ranks, [8, 8, 8, 5, 5]);
+}
+
+fn stakes(given: &[(u64, bool)]) -> Vec<Stake> {
+    let seats = given.iter().map(|(total, live)| Stake { total: *total, live: *live });
+    std::iter::once(Stake::default()).chain(seats).collect()
+}
+
+fn amounts(pots: &Pots) -> Vec<u64> {
+    pots.pots.iter().map(|pot| pot.amount).collect()
+}
+
+const P7: [(u64, bool); 4] = [(100, true), (40, true), (200, true), (100, false)];
+const P9: [(u64, bool); 3] = [(100, false), (100, false), (40, true)];
+
+#[test]
+fn p7_and_p9_pots_and_back() {
+    for rule in [by_heights, by_levels, literally] {
+        let pots = rule(&stakes(&P7));
+        assert_eq!((amounts(&pots), pots.back()), (vec![160, 180], 100));
+        let pots = rule(&stakes(&P9));
+        assert_eq!((amounts(&pots), pots.back()), (vec![120], 120));
+        assert_eq!(pots.returned, [0, 60, 60, 0]);
+    }
+}
+
+#[test]
+fn p8_fees() {
+    let commission = Commission { rate: 50, cap: 15 };
+    let shares = literally(&stakes(&P7)).share(commission, 1, &[0, 3, 4, 3, 9]);
+    assert_eq!(shares.fee, 15);
+    assert_eq!(shares.divided, [(152, 1), (173, 2)]);
+}
+
+#[test]
+fn p10_odd_units() {
+    // P7 again: the second pot, 173 after P8's fees, is contested by 1 and 3.
+    let commission = Commission { rate: 50, cap: 15 };
+    let shares = literally(&stakes(&P7)).share(commission, 3, &[0, 3, 4, 3, 9]);
+    assert_eq!(shares.due, [0, 87, 152, 86 + 100, 0]);
+}
+
+#[test]
+fn p11_wagers() {
+    let opened = |stack: &str| {
+        let mut play = Play::new([3, 5, 10, 50, 15]);
+        play.take(&["sit 1 100", "sit 2 100", &format!("sit 3 {stack}"), "hand 1"]);
+        play
+    };
+    let mut play = opened("500");
+    assert_eq!([play.code("wager 3 19"), play.code("wager 3 20")], [7, 0]);
+    let mut play = opened("17");
+    assert_eq!(play.code("wager 3 17"), 0);
+    assert_eq!([play.code("wager 1 26"), play.code("wager 1 27")], [7, 0]);
+}
+
+#[test]
+fn p12_whole_output() {
+    let entries = ["sit 1 100", "sit 2 100", "hand 1", "fold 1", "settle"];
+    let blocks = (1..).zip(entries).map(|(n, entry)| block(n, entry));
+    let log = sheet_text([3, 5, 10, 50, 15]) + &blocks.collect::<String>();
+    let expected = "n=1 code=0 turn=0 mark=0 back=0 n=2 code=0 turn=0 mark=0 back=0 \
+        n=3 code=0 turn=1 mark=10 pot=10 back=5 n=4 code=0 turn=0 mark=10 pot=10 back=5 \
+        n=5 code=0 turn=0 mark=0 back=0 fee=0 sitting=1 paid=0 sitting=2 paid=15 unclaimed=0 ";
+    let answers = answers_to(log.as_bytes(), literally);
+    assert_eq!(String::from_utf8(answers), Ok(expected.replace(' ', "\n")));
+}

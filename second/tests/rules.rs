@@ -1,0 +1,195 @@
+//! Rules the paper's examples do not touch, and the readings decided on.
+
+mod play;
+
+use play::{block, sheet_text, Play};
+use second::clerk::{answers_to, Clerk};
+use second::pots::literally;
+
+const SHEET: [u64; 5] = [4, 5, 10, 0, 0];
+
+fn opened() -> Play {
+    let mut play = Play::new(SHEET);
+    play.take(&["sit 1 100", "sit 2 100", "sit 3 100", "hand 1"]);
+    play
+}
+
+fn output(text: &[u8]) -> String {
+    String::from_utf8(answers_to(text, literally)).expect("answers are plain text")
+}
+
+#[test]
+fn bad_sheets() {
+    let good = sheet_text(SHEET);
+    assert_eq!(output(good.as_bytes()), "");
+    let mut bad: Vec<String> = ["", "seats=4", "\n\n\n\n\n"].map(String::from).to_vec();
+    bad.push(good[..good.len() - 1].to_string());
+    let changes = [
+        ("seats=4", "seats=1"),
+        ("seats=4", "seats=11"),
+        ("small=5", "small=0"),
+        ("small=5", "small=11"),
+        ("big=10", "big=10001"),
+        ("rate=0", "rate=101"),
+        ("cap=0", "cap=1000001"),
+        ("cap=0", "cap=00"),
+        ("cap=0", "cap=0\r"),
+        ("rate=0", "Rate=0"),
+        ("rate=0\n", ""),
+        ("rate=0", "rate=+0"),
+    ];
+    bad.extend(changes.map(|(from, to)| good.replace(from, to)));
+    for sheet in bad {
+        let log = sheet.clone() + &block(1, "sit 1 100");
+        let log = if sheet.len() < good.len() { sheet } else { log };
+        assert_eq!(output(log.as_bytes()), "code=11\n", "{log:?}");
+    }
+}
+
+#[test]
+fn malformed_blocks() {
+    let good = block(1, "sit 1 100");
+    let changes = [
+        ("n=1\n", "n=01\n"),
+        ("n=1\n", "n= 1\n"),
+        ("n=1\n", "n=+1\n"),
+        ("n=1\n", "n=1\r\n"),
+        ("n=1\n", "n1\n"),
+        ("n=1\n", "n=1234567890\n"),
+        ("n=1\n", "n=\n"),
+        ("do=sit", "do=Sit"),
+        ("do=sit", "do="),
+        ("do=sit", "do=abcdefghi"),
+        ("a=100", "b=100"),
+        ("a=100", "a=10\0"),
+        ("a=100", "a=-1"),
+        ("b=0", "b=00000000000000000000000000000000000"),
+    ];
+    for (from, to) in changes {
+        let log = sheet_text(SHEET) + &good.replacen(from, to, 1) + &good;
+        let expected = "n=0\ncode=1\nturn=0\nmark=0\nback=0\nn=1\ncode=0\nturn=0\nmark=0\nback=0\n";
+        assert_eq!(output(log.as_bytes()), expected, "{to:?}");
+    }
+}
+
+#[test]
+fn a_block_ends_at_its_fifth_lf_or_not_at_all() {
+    let log = sheet_text(SHEET) + &"x".repeat(100_000) + "\n\n\n\n\n" + "n=1";
+    assert_eq!(output(log.as_bytes()).matches("n=0\ncode=1\n").count(), 2);
+}
+
+#[test]
+fn any_cut_of_the_input_gives_the_same() {
+    let log = sheet_text(SHEET) + &block(1, "sit 1 100") + &block(2, "sit 2 9") + &block(3, "hand 2") + "n=";
+    let whole = answers_to(log.as_bytes(), literally);
+    for size in 1..log.len() {
+        let (mut clerk, mut out) = (Clerk::new(literally), Vec::new());
+        log.as_bytes().chunks(size).for_each(|piece| clerk.feed(piece, &mut out));
+        clerk.close(&mut out);
+        assert_eq!(out, whole, "pieces of {size}");
+    }
+}
+
+#[test]
+fn ranges_come_before_n_and_the_n_read_is_shown() {
+    let mut play = Play::new(SHEET);
+    let entries = [
+        "raise 1",
+        "sit 5 1",
+        "sit 0 1",
+        "sit 1 0",
+        "sit 1 1000001",
+        "sit 1 1 1",
+        "fold 1 1",
+        "board 1 0",
+        "settle 1",
+        "hole 1 52 0",
+        "hole 1 0 52",
+        "wager 1 0",
+        "wager 1 100000001",
+        "void 0 0 1",
+        "hand 0",
+    ];
+    for entry in entries {
+        let answer = play.answer(entry);
+        assert_eq!((answer.code, answer.n), (2, 1), "{entry}");
+    }
+    assert_eq!(play.code("void"), 4);
+}
+
+#[test]
+fn moments_and_seats() {
+    let mut play = Play::new(SHEET);
+    assert_eq!(play.code("hand 1"), 4);
+    play.take(&["sit 1 100", "sit 2 100", "sit 3 100"]);
+    assert_eq!(
+        ["sit 1 5", "leave 4", "hand 4", "hole 1 0 1", "settle"].map(|entry| play.code(entry)),
+        [5, 5, 5, 4, 4]
+    );
+    play.take(&["hand 2"]);
+    let refused =
+        ["hand 3", "leave 1", "board 0 7", "fold 4", "fold 2", "settle", "dead 4", "check 1", "call 1"];
+    assert_eq!(refused.map(|entry| play.code(entry)), [4, 5, 4, 5, 6, 4, 5, 7, 0]);
+    play.take(&["hole 1 0 1"]);
+    assert_eq!(["hole 1 2 3", "hole 2 1 5", "hole 2 5 5"].map(|entry| play.code(entry)), [5, 8, 8]);
+}
+
+#[test]
+fn the_big_blind_keeps_its_option() {
+    let mut play = opened();
+    play.take(&["call 3", "call 1"]);
+    assert_eq!(play.answer("board 0 1").turn, 2);
+    assert_eq!(play.answer("check 2").turn, 0);
+    play.take(&["board 0 1", "board 0 2"]);
+    let flop = play.answer("board 0 3");
+    assert_eq!((flop.turn, flop.mark), (1, 0));
+}
+
+#[test]
+fn a_short_big_blind_does_not_lower_the_mark() {
+    let mut play = Play::new(SHEET);
+    play.take(&["sit 1 100", "sit 2 3"]);
+    let opened = play.answer("hand 1");
+    assert_eq!((opened.turn, opened.mark, opened.pots.back()), (1, 10, 2));
+    assert_eq!(play.answer("call 1").turn, 0);
+}
+
+#[test]
+fn a_newcomer_has_no_total_and_the_one_who_left_is_paid_nothing() {
+    let mut play = opened();
+    play.take(&["wager 3 50", "dead 3", "leave 3", "sit 3 70", "fold 1"]);
+    let settled = play.answer("settle").settlement.expect("one live");
+    assert_eq!(settled.rows, [(1, 0), (2, 25), (3, 0)]);
+    assert_eq!((settled.unclaimed, play.table.stack(3)), (40, 70));
+}
+
+#[test]
+fn dead_in_and_out_of_turn() {
+    let mut play = opened();
+    assert_eq!(play.answer("dead 1").turn, 3);
+    assert_eq!(play.answer("dead 3").turn, 0);
+    assert_eq!(play.code("dead 2"), 4);
+    let settled = play.answer("settle").settlement.expect("one live");
+    assert_eq!(settled.rows, [(1, 0), (2, 15), (3, 0)]);
+    assert_eq!(["hand 1", "hand 3", "hand 2"].map(|entry| play.code(entry)), [5, 5, 0]);
+}
+
+#[test]
+fn the_limit_of_chips_counts_those_in_the_hand() {
+    let mut play = opened();
+    play.table.chairs[1].as_mut().expect("a sitter").stack = 99_999_000;
+    // 99,999,000 + 5 + 200 - 10 + 10 lie on the table.
+    assert_eq!([play.code("sit 4 796"), play.code("sit 4 795")], [9, 0]);
+}
+
+#[test]
+fn two_live_need_cards() {
+    let mut play = Play::new(SHEET);
+    play.take(&["sit 1 10", "sit 2 10", "hand 1", "call 1"]);
+    play.take(&["board 0 0", "board 0 4", "board 0 8", "board 0 13", "board 0 51", "hole 1 1 2"]);
+    assert_eq!(play.code("settle"), 10);
+    assert_eq!([play.code("board 0 50"), play.code("hole 2 51 9"), play.code("hole 2 5 9")], [4, 8, 0]);
+    // 2-3-4-5-A on the board plays for both.
+    let settled = play.answer("settle").settlement.expect("both have cards");
+    assert_eq!(settled.rows, [(1, 10), (2, 10)]);
+}
