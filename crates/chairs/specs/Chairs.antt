@@ -5,7 +5,7 @@ use mathlib.Core.Bool.{Bool, true, false, not}
 use mathlib.Core.List.{List, [], _∷_, _++_}
 use lib.ListN.{getD, set}
 use lib.Dec.{ltb, leb, eqb}
-use Rattle.paper.specs.Paper.{both, either, pick}
+use Rattle.laws.specs.Tests.{both, either, pick, one}
 use Rattle.chairs.specs.declared.Chair.{Chair}
 use Rattle.chairs.specs.declared.Dealt.{Dealt}
 use Rattle.chairs.specs.declared.Hole.{Hole}
@@ -52,10 +52,6 @@ noHole = record { entered = false; first = 0; second = 0 }
 
 abbrev pub noChair : Chair
 noChair = record { sitting = 0; stack = 0; dealt = noDealt; hole = noHole }
-
-abbrev pub one : Bool → ℕ
-one true = 1
-one false = 0
 
 abbrev pub countOf : (Chair → Bool) → List Chair → ℕ
 countOf p [] = 0
@@ -161,11 +157,6 @@ abbrev pub closeAll : List Chair → List ℕ → List Chair
 closeAll [] ps = []
 closeAll (c ∷ cs) [] = closedOf c 0 ∷ closeAll cs []
 closeAll (c ∷ cs) (p ∷ ps) = closedOf c p ∷ closeAll cs ps
-
--- every chair is so
-abbrev pub All : (Chair → Type 0) → List Chair → Type 0
-All P [] = Unit {0}
-All P (c ∷ cs) = P c × All P cs
 
 -- the sitting that sits here, and the one that was dealt in here, are among the first k
 pub record Numbered (k : ℕ) (c : Chair) : Type 0 where

@@ -12,7 +12,8 @@ use Rattle.table.specs.Table.{liveOf as livesIn, aloneOf, owingOf, firstOwing, 
 use Rattle.table.specs.Acts.{turnCode, foldedTo, sitCode, satTo, isPuck, handCode, postedTo, openedTo}
 use Rattle.table.specs.Settle.{settleCode, potsNow, backNow, scoreOf, payoutNow, settledTo}
 use Rattle.table.specs.Take.{codeOf, nextOf, payoutOf}
-use Rattle.pots.specs.Heights.{has, chipsAt, liveOf, maskAt, contenders, contested, contest, over, maxOf, sumOf, backAt, backOf, returnedOf}
+use Rattle.pots.specs.Heights.{has, chipsAt, liveOf, maskAt, contenders, contested, contest, over, backAt, backOf, returnedOf}
+use Rattle.laws.specs.Lists.{maxOf, sumOf}
 use Rattle.pots.specs.Runs.{join, runs, keyed, potsOf, padded}
 use Rattle.pots.specs.Settle.{feesOf, ones, shareOut, sharesOf}
 use Rattle.pots.specs.Hand.{winnersOf, plus, wonOf, unclaimedOf}

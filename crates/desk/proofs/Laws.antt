@@ -9,7 +9,7 @@ use lib.ListN.{length, getD, replicate, take, drop, set, drop-of-length-le}
 use lib.Seq.{drop-cons, take-all}
 use lib.Dec.{eqb, leb, ltb}
 use borrow.Author.Tests.{ne-eqb, lt-leb}
-use Rattle.text.specs.Pick.{pick, both, either}
+use Rattle.laws.specs.Tests.{pick, both, either}
 use Rattle.text.specs.Line.{lineNumber, afterLine, valueOf}
 use Rattle.text.specs.Block.{blockOf, blockFrom, lineKind}
 use Rattle.text.specs.Entry.{parsedOf}
@@ -26,23 +26,24 @@ use Rattle.text.specs.declared.Written.the-variants.{Bytes, NoRoom}
 use Rattle.paper.specs.Paper.{when, orElse, inRange}
 use Rattle.paper.specs.declared.Entry.{Entry}
 use Rattle.paper.specs.declared.Entry.the-variants.{Sit, Leave, Hand, Hole, Fold, Check, Call, Wager, Board, Dead, Settle, Void}
-use Rattle.chairs.specs.Chairs.{chipsOf, countOf, wantOf, roundOf, columnOf, All, Numbered}
+use Rattle.chairs.specs.Chairs.{chipsOf, countOf, wantOf, roundOf, columnOf, Numbered}
+use Rattle.laws.specs.Lists.{All, sumOf}
 use Rattle.chairs.specs.declared.Chair.{Chair}
 use Rattle.chairs.specs.declared.Who.the-variants.{Chips, Bare}
 use Rattle.table.specs.Table.{seatOf, usedOf, liveOf}
 use Rattle.table.specs.Acts.{nobodyOwes, isWager, isPuck, turnCode, checkCode, callCode, wagerCode, sitCode, leaveCode, deadCode, holeCode, boardCode, handCode}
 use Rattle.table.specs.Settle.{settleCode, totalsOf, livesOf, hereOf, scoresOf, dueNow, potsNow, backNow, payoutNow, noPayout}
-use Rattle.table.specs.Take.{Sound, kindCode, codeOf, nextOf, payoutOf, payoutBy, pickPayout}
+use Rattle.table.specs.Take.{Sound, kindCode, codeOf, nextOf, payoutOf, payoutBy}
 use Rattle.table.proofs.Laws.{totals-within, paid-at, due-small, sheet-rate}
 use Rattle.table.specs.declared.table.Table.{Table}
 use Rattle.table.specs.declared.table.Payout.{Payout as Paid}
-use Rattle.pots.specs.Heights.{sumOf, backOf}
+use Rattle.pots.specs.Heights.{backOf}
 use Rattle.pots.specs.Hand.{unclaimedOf, feeOfHand, dueOf}
 use Rattle.pots.specs.Runs.{pot, potSum, potsOf, padded}
 use Rattle.pots.specs.declared.Pot.{Pot}
 use Rattle.pots.specs.declared.Pots.{Pots}
 use Rattle.pots.proofs.PotLevels.{pots-and-back}
-use Rattle.pots.proofs.Places.{store-front}
+use Rattle.laws.proofs.Places.{store-front}
 use Rattle.pots.proofs.Hands.{none-lost, map-length, paid-and-unclaimed}
 use Rattle.answers.specs.declared.Row.{Row}
 use Rattle.answers.specs.declared.Payout.{Payout}
@@ -171,7 +172,7 @@ pub small-payout : (t : Table) (n : ℕ) (e : Entry) → Sound t → SmallPaid (
 unfolding payoutOf
 small-payout t n e h = go (eqb (codeOf t n e) 0)
   where
-    go : (b : Bool) → SmallPaid (pickPayout b (payoutBy t e) noPayout)
+    go : (b : Bool) → SmallPaid (pick b (payoutBy t e) noPayout)
     go true = small-by t e h
     go false = small-none
 

@@ -10,7 +10,7 @@ use lib.Dec.{eqb, leb}
 use lib.Seq.{take-all}
 use borrow.Author.Tests.{eq-eqb, ne-eqb, eqb-false, leb-true, le-leb}
 use borrow.Rule.Slice.PartMut.{midOf, putMid}
-use Rattle.text.specs.Pick.{pick}
+use Rattle.laws.specs.Tests.{pick}
 use Rattle.text.specs.Block.{restOf}
 use Rattle.text.specs.Sheet.{Wrote, over, fits, sheetAfter}
 use Rattle.text.proofs.Sheets.{then, part-is}

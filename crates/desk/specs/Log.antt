@@ -6,7 +6,7 @@ use mathlib.Core.List.{List, [], _∷_, _++_}
 use mathlib.Core.Bool.{Bool}
 use lib.ListN.{length}
 use lib.Dec.{eqb, leb}
-use Rattle.text.specs.Pick.{pick}
+use Rattle.laws.specs.Tests.{pick}
 use Rattle.text.specs.Block.{restOf}
 use Rattle.text.specs.TableSheet.{sheetOf, sheetEnd}
 use Rattle.text.specs.declared.sheet.Opening.{Opening}

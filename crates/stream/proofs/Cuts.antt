@@ -8,7 +8,7 @@ use native.Mathlib.Omega.{arith}
 use lib.ListN.{length, getD, drop, length-append, length-take, drop-of-length-le}
 use lib.Dec.{eqb, ltb, leb}
 use borrow.Author.Tests.{ne-eqb, ltb-true, ltb-false, lt-ltb, le-ltb, leb-true, leb-false, lt-leb}
-use Rattle.text.specs.Pick.{pick, both}
+use Rattle.laws.specs.Tests.{pick, both}
 use Rattle.text.specs.Number.{numberOf, wellFormed}
 use Rattle.text.specs.Line.{lineLen, lineOf, afterLine, lineEnded, hasKey, valueOf}
 use Rattle.text.specs.Block.{afterLines, restOf, blockOf}

@@ -7,7 +7,7 @@ use native.Mathlib.Omega.{arith}
 use lib.ListN.{length, take, drop}
 use lib.Dec.{leb, eqb}
 use borrow.Author.Tests.{eq-eqb, ne-eqb}
-use Rattle.text.specs.Pick.{pick}
+use Rattle.laws.specs.Tests.{pick}
 use Rattle.text.specs.Sheet.{Wrote, over, sheetAfter}
 use Rattle.text.specs.TableSheet.{sheetOf}
 use Rattle.paper.specs.declared.Sheet.{Sheet}

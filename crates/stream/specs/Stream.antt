@@ -6,7 +6,7 @@ use mathlib.Core.List.{List, [], _∷_, _++_}
 use mathlib.Core.Bool.{Bool, true, false}
 use lib.ListN.{length, take, drop}
 use lib.Dec.{eqb, ltb, leb}
-use Rattle.text.specs.Pick.{pick}
+use Rattle.laws.specs.Tests.{pick}
 use Rattle.table.specs.declared.table.Table.{Table}
 use Rattle.text.specs.TableSheet.{sheetOf}
 use Rattle.text.specs.declared.sheet.Opening.{Opening}

@@ -8,11 +8,12 @@ use native.Mathlib.Omega.{arith}
 use lib.Dec.{eqb, ltb, leb}
 use lib.ListN.{length, getD, replicate, length-set}
 use borrow.Author.Tests.{eqb-true, eqb-false, eq-eqb, ne-eqb, ltb-false}
-use Rattle.paper.specs.Paper.{pick, isSheet}
+use Rattle.paper.specs.Paper.{isSheet}
+use Rattle.laws.specs.Tests.{pick, one}
 use Rattle.paper.specs.declared.Sheet.{Sheet}
 use Rattle.paper.specs.declared.Entry.{Entry}
 use Rattle.paper.specs.declared.Entry.the-variants.{Sit, Leave, Hand, Hole, Fold, Check, Call, Wager, Board, Dead, Settle, Void}
-use Rattle.chairs.specs.Chairs.{chairAt, putAt, noChair, one, roundOf, paidOf, actedOf, foldedOf, heldOf, seatedOf, dealtOf, roundedOf, againOf, closedOf, closeAll, columnOf}
+use Rattle.chairs.specs.Chairs.{chairAt, putAt, noChair, roundOf, paidOf, actedOf, foldedOf, heldOf, seatedOf, dealtOf, roundedOf, againOf, closedOf, closeAll, columnOf}
 use Rattle.chairs.specs.declared.Chair.{Chair}
 use Rattle.chairs.specs.declared.Dealt.{Dealt}
 use Rattle.pots.specs.Heights.{has}
@@ -20,7 +21,7 @@ use Rattle.pots.proofs.Contest.{has-none}
 use Rattle.pots.proofs.Hands.{map-length}
 use Rattle.pots.proofs.Bounds.{bitAt, live-at, mask-bit, reach, reach-zero, due-at-most}
 use Rattle.table.specs.Table.{seatOf, nextChips, withTaken, withCard, afterAct}
-use Rattle.table.specs.Acts.{pickTable, foldedTo, checkedTo, calledTo, wageredTo, satTo, leftTo, deadTo, heldTo, boardedTo, openedTo, postedTo, newRound}
+use Rattle.table.specs.Acts.{foldedTo, checkedTo, calledTo, wageredTo, satTo, leftTo, deadTo, heldTo, boardedTo, openedTo, postedTo, newRound}
 use Rattle.table.specs.Settle.{settledTo, payoutNow, totalsOf, livesOf, hereOf, scoreOf, scoresOf, dueNow}
 use Rattle.table.specs.Take.{Sound, kindCode, codeOf, appliedTo, nextOf}
 use Rattle.table.specs.History.{run, AllTaken, by, posts, blinds, hasChips, Note, nothing, puts, givesUp, noted, noteOf, sitsIn, sits}
@@ -31,7 +32,6 @@ use Rattle.table.proofs.Told.{ChairOk, no-ok, ok-at, ok-acts, ok-fold, 
 use Rattle.table.proofs.Noted.{Seated, Notes, seated-put, seated-map, notes-put, notes-again, notes-round, notes-fold, notes-pay, round-at, seated-sit, seated-leave, seated-close, notes-close, seated-deal, notes-deal}
 use Rattle.table.proofs.Sounds.{passed, sound-taken}
 use Rattle.chairs.specs.declared.What.the-variants as what
-use Rattle.pots.specs.Heights as pots
 
 pub record Told (k : ℕ) (n : ℕ → Note) (cs : List Chair) : Type 0 where
   pub seated : Seated k cs
@@ -169,7 +169,7 @@ told-board : (k : ℕ) (n : ℕ → Note) (t : Table) (c : ℕ) → Told k n (t 
 unfolding boardedTo newRound
 told-board k n t c h = go (leb 3 (t .board .count + 1))
   where
-    go : (b : Bool) → Told k (λ s. record { put = n s .put; round = pick b 0 (n s .round); live = n s .live }) (pickTable b (newRound (withCard t c)) (withCard t c) .chairs)
+    go : (b : Bool) → Told k (λ s. record { put = n s .put; round = pick b 0 (n s .round); live = n s .live }) (pick b (newRound (withCard t c)) (withCard t c) .chairs)
     go true =
         record {
           seated = seated-map k roundedOf (t .chairs) (h .seated) ok-round (λ c. refl) (λ c. refl);
@@ -200,7 +200,7 @@ size-applied t (Call x) = no-chair-length (t .chairs) x _
 size-applied t (Wager x a) = no-chair-length _ x _ ∙ map-length againOf (t .chairs)
 size-applied t (Board k) = go (leb 3 (t .board .count + 1))
   where
-    go : (b : Bool) → length (pickTable b (newRound (withCard t k)) (withCard t k) .chairs) ≡ length (t .chairs)
+    go : (b : Bool) → length (pick b (newRound (withCard t k)) (withCard t k) .chairs) ≡ length (t .chairs)
     go true = map-length roundedOf (t .chairs)
     go false = refl
 size-applied t (Dead x) = no-chair-length (t .chairs) x _
@@ -230,11 +230,11 @@ paid-none t i a n k l e = live-at (dueNow t) (hereOf t) i ∙ go (eqb (dealer c)
     c : Chair
     c = getD (t .chairs) i noChair
 
-    nil : (b : Bool) (v : ℕ) → v ≡ 0 → pots.pick b v 0 ≡ 0
+    nil : (b : Bool) (v : ℕ) → v ≡ 0 → pick b v 0 ≡ 0
     nil true v z = z
     nil false v z = refl
 
-    go : (b : Bool) → eqb (getD (t .chairs) i noChair .dealt .sitting) 0 ≡ b → pots.pick (eqb (bitAt (hereOf t) i) 1) (getD (dueNow t) i 0) 0 ≡ 0
+    go : (b : Bool) → eqb (getD (t .chairs) i noChair .dealt .sitting) 0 ≡ b → pick (eqb (bitAt (hereOf t) i) 1) (getD (dueNow t) i 0) 0 ≡ 0
     go true q =
         let z : getD (totalsOf t) i 0 ≡ 0 = col-at (columnOf what.Total) (t .chairs) i (omega arith) ∙ ok-place (t .chairs) i a .none (eqb-true _ 0 q) in
         let d = due-reach t i n k l in
@@ -243,7 +243,7 @@ paid-none t i a n k l e = live-at (dueNow t) (hereOf t) i ∙ go (eqb (dealer c)
         let away : eqb (getD (t .chairs) i noChair .sitting) (getD (t .chairs) i noChair .dealt .sitting) ≡ false = ne-eqb _ _ (λ z. eqb-false _ 0 q (sym z ∙ e)) in
         let h : getD (map (columnOf what.Here) (t .chairs)) i 0 ≡ 0 = col-at (columnOf what.Here) (t .chairs) i (omega arith) ∙ ap one away in
         let z : bitAt (hereOf t) i ≡ 0 = mask-bit (map (columnOf what.Here) (t .chairs)) 1 i (omega arith) ∙ ap (λ v. has v 1) h ∙ has-none 0 1 (omega arith) in
-        ap (λ b. pots.pick b (getD (dueNow t) i 0) 0) (ne-eqb (bitAt (hereOf t) i) 1 (λ y. omega arith))
+        ap (λ b. pick b (getD (dueNow t) i 0) 0) (ne-eqb (bitAt (hereOf t) i) 1 (λ y. omega arith))
 
 ok-close : (cs : List Chair) (ps : List ℕ) → All ChairOk cs → ((i : ℕ) → i < length cs → getD cs i noChair .sitting ≡ 0 → getD ps i 0 ≡ 0) → All ChairOk (closeAll cs ps)
 ok-close [] ps a h = tt
@@ -282,7 +282,7 @@ sits-board : (t : Table) (k : ℕ) → boardedTo t k .sittings ≡ t .sittings
 unfolding boardedTo newRound
 sits-board t k = go (leb 3 (t .board .count + 1))
   where
-    go : (b : Bool) → pickTable b (newRound (withCard t k)) (withCard t k) .sittings ≡ t .sittings
+    go : (b : Bool) → pick b (newRound (withCard t k)) (withCard t k) .sittings ≡ t .sittings
     go true = refl
     go false = refl
 
@@ -356,7 +356,7 @@ none-seated =
 nil-sum : (s : ℕ) → sumOver (λ (c : Chair). pick (eqb 0 s) 0 0) (replicate 10 noChair) ≡ 0
 nil-sum s = over-zero (λ (c : Chair). pick (eqb 0 s) 0 0) (replicate 10 noChair) (λ c. nil (eqb 0 s))
   where
-    nil : (b : Bool) → pick b 0 0 ≡ 0
+    nil : (b : Bool) → _≡_ {A = ℕ} (pick b 0 0) 0
     nil true = refl
     nil false = refl
 

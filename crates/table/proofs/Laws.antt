@@ -9,10 +9,12 @@ use lib.ListN.{length, getD, drop}
 use lib.Seq.{drop-cons}
 use lib.Dec.{eqb, leb, ltb}
 use borrow.Author.Tests.{le-leb, lt-leb, leb-false, leb-true}
-use Rattle.paper.specs.Paper.{both, either, when, isSheet}
-use Rattle.paper.proofs.Codes.{or-zero, when-zero, either-false, both-true}
+use Rattle.paper.specs.Paper.{when, isSheet}
+use Rattle.laws.specs.Tests.{both, either}
+use Rattle.paper.proofs.Codes.{or-zero, when-zero}
+use Rattle.laws.proofs.Tests.{either-false, both-true}
 use Rattle.paper.specs.declared.Sheet.{Sheet}
-use Rattle.pots.specs.Heights.{sumOf}
+use Rattle.laws.specs.Lists.{sumOf}
 use Rattle.pots.specs.Hand.{feeOfHand, dueOf, paidOf, unclaimedOf}
 use Rattle.pots.proofs.Hands.{none-lost, map-length, paid-and-unclaimed, at-most-sum}
 use Rattle.cards.specs.Order.{places, bestOf}

@@ -6,14 +6,15 @@ use mathlib.Core.List.{List, [], _∷_, map}
 use native.Mathlib.Omega.{arith}
 use lib.ListN.{replicate}
 use lib.Dec.{leb, ltb}
-use Rattle.paper.specs.Paper.{pick}
+use Rattle.laws.specs.Tests.{pick}
 use Rattle.paper.specs.declared.Entry.{Entry}
 use Rattle.paper.specs.declared.Entry.the-variants.{Sit, Leave, Hand, Hole, Fold, Check, Call, Wager, Board, Dead, Settle, Void}
-use Rattle.chairs.specs.Chairs.{All, Numbered, noChair, chairAt, putAt, sweepOf, foldedOf, actedOf, againOf, paidOf, seatedOf, heldOf, dealtOf, roundedOf, roundOf, closeAll}
+use Rattle.chairs.specs.Chairs.{Numbered, noChair, chairAt, putAt, sweepOf, foldedOf, actedOf, againOf, paidOf, seatedOf, heldOf, dealtOf, roundedOf, roundOf, closeAll}
+use Rattle.laws.specs.Lists.{All}
 use Rattle.chairs.specs.declared.Chair.{Chair}
 use Rattle.chairs.specs.declared.Sweep.the-variants.{Again, Round, Deal}
 use Rattle.table.specs.Table.{afterAct, seatOf, nextChips, withCard}
-use Rattle.table.specs.Acts.{pickTable, foldedTo, checkedTo, calledTo, wageredTo, satTo, leftTo, deadTo, heldTo, boardedTo, openedTo, postedTo, newRound}
+use Rattle.table.specs.Acts.{foldedTo, checkedTo, calledTo, wageredTo, satTo, leftTo, deadTo, heldTo, boardedTo, openedTo, postedTo, newRound}
 use Rattle.table.specs.Settle.{settledTo, payoutNow}
 use Rattle.table.specs.Take.{appliedTo}
 use Rattle.table.specs.declared.table.Table.{Table}
@@ -49,7 +50,7 @@ close-all k [] ps a = tt
 close-all k (c ∷ cs) [] a = (record { here = a .0 .here; dealt = omega arith }, close-all k cs [] (a .1))
 close-all k (c ∷ cs) (p ∷ ps) a = (record { here = a .0 .here; dealt = omega arith }, close-all k cs ps (a .1))
 
-all-pick : (b : Bool) (t u : Table) → All (Numbered (t .sittings)) (t .chairs) → All (Numbered (u .sittings)) (u .chairs) → All (Numbered (pickTable b t u .sittings)) (pickTable b t u .chairs)
+all-pick : (b : Bool) (t u : Table) → All (Numbered (t .sittings)) (t .chairs) → All (Numbered (u .sittings)) (u .chairs) → All (Numbered (pick b t u .sittings)) (pick b t u .chairs)
 all-pick true t u p q = p
 all-pick false t u p q = q
 

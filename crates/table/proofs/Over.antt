@@ -7,9 +7,9 @@ use mathlib.Core.List.{List, [], _∷_, map}
 use native.Mathlib.Omega.{arith}
 use lib.Dec.{eqb}
 use borrow.Author.Tests.{eqb-true, eqb-false}
-use Rattle.paper.specs.Paper.{pick}
+use Rattle.laws.specs.Tests.{pick}
 use Rattle.chairs.specs.Chairs.{chairAt, putAt, noChair, closeAll, closedOf, paidOf}
-pub use Rattle.chairs.specs.Chairs.{All}
+pub use Rattle.laws.specs.Lists.{All}
 use Rattle.chairs.specs.declared.Chair.{Chair}
 
 abbrev pub sumOver : (Chair → ℕ) → List Chair → ℕ
@@ -77,13 +77,13 @@ module _ (key : Chair → ℕ) (s : ℕ) (f : Chair → ℕ) where
   keyed-at cs zero e v o = absurd (v refl)
   keyed-at [] (suc k) e v o = absurd (v refl)
   keyed-at (c ∷ cs) (suc zero) e v o =
-      let z = keyed-none cs (omega (arith, ap (λ b. pick b 1 0) e)) in
+      let z = keyed-none cs (omega (arith, ap {B = ℕ} (λ b. pick b 1 0) e)) in
       omega (arith, ap (λ b. pick b (f c) 0) e, z)
   keyed-at (c ∷ cs) (suc (suc k)) e v o = go (eqb (key c) s) o (keyed-at cs (suc k) e v)
     where
       some : (cs : List Chair) (k : ℕ) → eqb (key (chairAt cs (suc k))) s ≡ true → (chairAt cs (suc k) ≡ noChair → ⊥) → 1 ≤ sumOver (keyed key s (λ c. 1)) cs
       some [] k e v = absurd (v refl)
-      some (c ∷ cs) zero e v = omega (arith, ap (λ b. pick b 1 0) e)
+      some (c ∷ cs) zero e v = omega (arith, ap {B = ℕ} (λ b. pick b 1 0) e)
       some (c ∷ cs) (suc k) e v = omega (arith, some cs k e v)
 
       go : (b : Bool) → pick b 1 0 + sumOver (keyed key s (λ c. 1)) cs ≤ 1

@@ -7,18 +7,20 @@ use mathlib.Core.List.{List, [], _∷_, map}
 use native.Mathlib.Omega.{arith}
 use borrow.Author.Tests.{ltb-false, eqb-true, not-false}
 use lib.Dec.{eqb, leb, ltb}
-use Rattle.paper.specs.Paper.{both, when, orElse, between, isSeat, isCard, inKind, inRange}
-use Rattle.paper.proofs.Codes.{or-zero, when-zero, both-true, between-in}
+use Rattle.paper.specs.Paper.{when, orElse, between, isSeat, isCard, inKind, inRange}
+use Rattle.laws.specs.Tests.{both, pick}
+use Rattle.paper.proofs.Codes.{or-zero, when-zero, between-in}
+use Rattle.laws.proofs.Tests.{both-true}
 use Rattle.paper.specs.declared.Sheet.{Sheet}
 use Rattle.paper.specs.declared.Entry.{Entry}
 use Rattle.paper.specs.declared.Entry.the-variants.{Sit, Leave, Hand, Hole, Fold, Check, Call, Wager, Board, Dead, Settle, Void}
-use Rattle.pots.specs.Heights.{sumOf}
+use Rattle.laws.specs.Lists.{sumOf}
 use Rattle.chairs.specs.Chairs.{chairAt, chipsOf, sweepOf, foldedOf, actedOf, paidOf, seatedOf, heldOf, roundOf, closeAll, columnOf}
 use Rattle.chairs.proofs.Laws.{chips-put, chips-paid, chips-sweep}
 use Rattle.chairs.specs.declared.Chair.{Chair}
 use Rattle.chairs.specs.declared.Sweep.the-variants.{Again, Round, Deal}
 use Rattle.table.specs.Table.{withTaken, seatOf, withChair, withChairs, withMark, withCard, nextChips, afterAct}
-use Rattle.table.specs.Acts.{liftAfter, sitCode, foldedTo, checkedTo, calledTo, wageredTo, satTo, leftTo, deadTo, heldTo, boardedTo, openedTo, postedTo, newRound, pickTable}
+use Rattle.table.specs.Acts.{liftAfter, sitCode, foldedTo, checkedTo, calledTo, wageredTo, satTo, leftTo, deadTo, heldTo, boardedTo, openedTo, postedTo, newRound}
 use Rattle.table.specs.Settle.{Payable, settledTo, payoutNow}
 use Rattle.table.specs.Take.{Sound, kindCode, codeOf, appliedTo}
 use Rattle.table.specs.declared.table.Table.{Table}
@@ -91,7 +93,7 @@ kept-board : (t : Table) (k : ℕ) → Kept t (boardedTo t k)
 unfolding boardedTo
 kept-board t k = go (leb 3 (t .board .count + 1))
   where
-    go : (b : Bool) → Kept t (pickTable b (newRound (withCard t k)) (withCard t k))
+    go : (b : Bool) → Kept t (pick b (newRound (withCard t k)) (withCard t k))
     go true = let r = kept-round (withCard t k) in record { chips = r .chips; sittings = r .sittings; sheet = r .sheet; puck = r .puck }
     go false = record { chips = omega arith; sittings = refl; sheet = refl; puck = refl }
 

@@ -5,15 +5,17 @@ use mathlib.Core.Path.{_≡_, refl}
 use mathlib.Core.List.{List, [], _∷_, _++_, map}
 use native.Mathlib.Omega.{arith}
 use lib.Dec.{eqb, leb}
-use Rattle.paper.specs.Paper.{both, pick, between, isSeat, inKind}
-use Rattle.paper.proofs.Codes.{both-true, between-in}
+use Rattle.paper.specs.Paper.{between, isSeat, inKind}
+use Rattle.laws.specs.Tests.{both, pick}
+use Rattle.paper.proofs.Codes.{between-in}
+use Rattle.laws.proofs.Tests.{both-true}
 use Rattle.paper.specs.declared.Entry.{Entry}
 use Rattle.paper.specs.declared.Entry.the-variants.{Sit, Leave, Hand, Hole, Fold, Check, Call, Wager, Board, Dead, Settle, Void}
 use Rattle.chairs.specs.Chairs.{chairAt, firstOf, seatsFrom, clockwise, wantOf}
 use Rattle.chairs.specs.declared.Chair.{Chair}
 use Rattle.chairs.specs.declared.Who.the-variants.{Chips}
 use Rattle.table.specs.Table.{owingOf, firstOwing, nextChips, afterAct, withChair, withCard, seatOf}
-use Rattle.table.specs.Acts.{nobodyOwes, turnAfter, pickTable, foldedTo, checkedTo, calledTo, wageredTo, satTo, leftTo, deadTo, heldTo, boardedTo, openedTo, postedTo, newRound}
+use Rattle.table.specs.Acts.{nobodyOwes, turnAfter, foldedTo, checkedTo, calledTo, wageredTo, satTo, leftTo, deadTo, heldTo, boardedTo, openedTo, postedTo, newRound}
 use Rattle.table.specs.Settle.{settledTo}
 use Rattle.table.specs.Take.{Sound, appliedTo}
 use Rattle.table.specs.declared.table.Table.{Table}
@@ -47,7 +49,7 @@ chips-most t s h q = clockwise-most (wantOf Chips) (t .chairs) (t .sheet .seats)
 abbrev Small : Table → Type 0
 Small t = (t .play .mark ≤ 100000000) × (t .play .turn ≤ 10)
 
-small-pick : (b : Bool) (t u : Table) → Small t → Small u → Small (pickTable b t u)
+small-pick : (b : Bool) (t u : Table) → Small t → Small u → Small (pick b t u)
 small-pick true t u p q = p
 small-pick false t u p q = q
 

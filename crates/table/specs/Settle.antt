@@ -6,7 +6,8 @@ use mathlib.Core.List.{List, [], _∷_, map}
 use mathlib.Core.Path.{_≡_}
 use lib.Dec.{ltb, leb, eqb}
 use lib.ListN.{replicate}
-use Rattle.paper.specs.Paper.{both, either, when, orElse, isSheet}
+use Rattle.paper.specs.Paper.{when, orElse, isSheet}
+use Rattle.laws.specs.Tests.{both, either}
 use Rattle.cards.specs.Order.{places, bestOf, strengthBy}
 use Rattle.pots.specs.Heights.{maskAt, backOf}
 use Rattle.pots.specs.Runs.{potsOf}

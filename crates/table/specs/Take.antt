@@ -9,9 +9,11 @@ use Rattle.paper.specs.Paper.{when, orElse, isSheet, inRange}
 use Rattle.paper.specs.declared.Sheet.{Sheet}
 use Rattle.paper.specs.declared.Entry.{Entry}
 use Rattle.paper.specs.declared.Entry.the-variants.{Sit, Leave, Hand, Hole, Fold, Check, Call, Wager, Board, Dead, Settle, Void}
-use Rattle.chairs.specs.Chairs.{chipsOf, noChair, All, Numbered}
+use Rattle.chairs.specs.Chairs.{chipsOf, noChair, Numbered}
+use Rattle.laws.specs.Lists.{All}
 use Rattle.table.specs.Table.{withTaken, noBoard}
-use Rattle.table.specs.Acts.{pickTable, turnCode, checkCode, callCode, wagerCode, sitCode, leaveCode, deadCode, holeCode, boardCode, handCode, foldedTo, checkedTo, calledTo, wageredTo, satTo, leftTo, deadTo, heldTo, boardedTo, openedTo}
+use Rattle.table.specs.Acts.{turnCode, checkCode, callCode, wagerCode, sitCode, leaveCode, deadCode, holeCode, boardCode, handCode, foldedTo, checkedTo, calledTo, wageredTo, satTo, leftTo, deadTo, heldTo, boardedTo, openedTo}
+use Rattle.laws.specs.Tests.{pick}
 use Rattle.table.specs.Settle.{Payable, settleCode, settledTo, payoutNow, noPayout}
 use Rattle.table.specs.declared.table.Table.{Table}
 use Rattle.table.specs.declared.table.Payout.{Payout}
@@ -76,14 +78,10 @@ codeOf t n e = orElse (when (not (inRange (t .sheet) n e)) 2) (orElse (when (not
 
 -- after a refusal the table and the count of taken entries equal those before
 unfoldable pub nextOf : Table → ℕ → Entry → Table
-nextOf t n e = pickTable (eqb (codeOf t n e) 0) (withTaken (appliedTo t e) n) t
-
-abbrev pub pickPayout : Bool → Payout → Payout → Payout
-pickPayout true a b = a
-pickPayout false a b = b
+nextOf t n e = pick (eqb (codeOf t n e) 0) (withTaken (appliedTo t e) n) t
 
 unfoldable pub payoutOf : Table → ℕ → Entry → Payout
-payoutOf t n e = pickPayout (eqb (codeOf t n e) 0) (payoutBy t e) noPayout
+payoutOf t n e = pick (eqb (codeOf t n e) 0) (payoutBy t e) noPayout
 
 -- a table with nobody seated, and no entry taken
 abbrev pub freshTable : Sheet → Table

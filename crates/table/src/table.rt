@@ -234,5 +234,5 @@ pub fn used(t: Table, card: u32) -> bool
     let bs = t.board.cards;
     let lies = on_board(bs, t.board.count, card);
     let held = chairs::count(cs, Who::Holding(card)) != 0;
-    paper::either(lies, held)
+    laws::either(lies, held)
 }

@@ -11,7 +11,7 @@ use native.Mathlib.Omega.{arith}
 use lib.ListN.{getD}
 use lib.Dec.{leb}
 use borrow.Author.Tests.{leb-true, le-leb}
-use Rattle.text.specs.Pick.{pick, both}
+use Rattle.laws.specs.Tests.{pick, both}
 use Rattle.text.specs.Line.{afterLine, lineNumber}
 use Rattle.text.specs.Block.{afterLines}
 use Rattle.paper.specs.Paper.{between, isSheet}
@@ -20,7 +20,7 @@ use Rattle.text.specs.TableSheet.{sheetKeys, sheetFrom, sheetTo, ranged,
 use Rattle.text.specs.declared.Number.{Number}
 use Rattle.text.specs.declared.Number.the-variants.{Value, Bad}
 use Rattle.paper.specs.declared.Sheet.{Sheet}
-use Rattle.text.proofs.Numbers.{both-true}
+use Rattle.laws.proofs.Tests.{both-true}
 use Rattle.text.specs.declared.sheet.Opening.the-variants as opening
 
 pub lines-none : (l : List ℕ) (k : ℕ) → k ≡ 0 → l ≡ afterLines k l

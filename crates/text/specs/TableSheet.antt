@@ -5,7 +5,7 @@ use mathlib.Core.List.{List, [], _∷_}
 use mathlib.Core.Bool.{Bool, true, false}
 use lib.ListN.{getD}
 use lib.Dec.{leb}
-use Rattle.text.specs.Pick.{pick, both}
+use Rattle.laws.specs.Tests.{pick, both}
 use Rattle.text.specs.Line.{lineNumber}
 use Rattle.text.specs.Block.{afterLines}
 use Rattle.paper.specs.Paper.{between}

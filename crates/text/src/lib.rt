@@ -1,6 +1,6 @@
 // The text form of document 01: numbers, lines, blocks and entries.
 use paper::Entry;
-use paper::both;
+use laws::both;
 ghost use mathlib.Core.Path.{_≡_};
 ghost use Prim.Native.Nat.{ℕ, _+_, _-_, _*_, _≤_, _<_, _^_};
 ghost use mathlib.Core.List.{List, [], _∷_, _++_};

@@ -2,49 +2,34 @@ use Rattle.desk.proofs.Laws.{raw-judged, bad-judged}
 use borrow.Author.Needs.{needs}
 use Rattle.desk.proofs.judge_block.Statement.{statement}
 use Rattle.desk.proofs.judge_block.Tie as tie
-use Rattle.desk.proofs.judge_block.Reads as reads
-use Rattle.desk.proofs.judge_block.Lts as lts
-use Rattle.desk.proofs.judge_parsed.Reads as judge-parsed-reads
-use Rattle.desk.proofs.refused.Reads as refused-reads
-use Rattle.text.proofs.entry_of.Reads as entry-of-reads
 
--- src/lib.rt:128:13
 enum-known-b : tie.Need-enum-known-b
 enum-known-b c = search needs
 
--- src/lib.rt:134:17
 entry-of-requires : tie.Need-entry-of-requires
 entry-of-requires c κs = search needs
 
--- src/lib.rt:135:13
 judge-parsed-requires : tie.Need-judge-parsed-requires
 judge-parsed-requires c κs = search needs
 
--- src/lib.rt:137:29
 enum-told : tie.Need-enum-told
 enum-told c = search needs
 
--- src/lib.rt:137:29
 refused-requires : tie.Need-refused-requires
 refused-requires c κs = search needs
 
--- src/lib.rt:138:27
 enum-told-2 : tie.Need-enum-told-2
 enum-told-2 c = search needs
 
--- src/lib.rt:138:27
 refused-requires-2 : tie.Need-refused-requires-2
 refused-requires-2 c κs = search needs
 
--- src/lib.rt:122:1
 returns : tie.Need-returns
 returns c = raw-judged ((c .before .before .before .before .before) .args .t) ((c .before .before .before .before .before) .args .b) (c .before .before .before .b .given .1) (c .before .entry-of .ensures) (c .judge-parsed .ensures) ((c .before .before .before .before .before) .pre .1)
 
--- src/lib.rt:122:1
 returns-2 : tie.Need-returns-2
 returns-2 c = bad-judged ((c .before .before .before) .args .t) ((c .before .before .before) .args .b) (rw (c .before .enum-told .given .1)) (c .refused .ensures) ((c .before .before .before) .pre .0)
 
--- src/lib.rt:122:1
 returns-3 : tie.Need-returns-3
 returns-3 c = bad-judged ((c .before .before .before) .args .t) ((c .before .before .before) .args .b) (rw (c .before .enum-told2 .given .1)) (c .refused2 .ensures) ((c .before .before .before) .pre .0)
 

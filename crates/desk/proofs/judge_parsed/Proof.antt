@@ -2,32 +2,22 @@ use Rattle.desk.proofs.Laws.{read-judged, refused-judged}
 use borrow.Author.Needs.{needs}
 use Rattle.desk.proofs.judge_parsed.Statement.{statement}
 use Rattle.desk.proofs.judge_parsed.Tie as tie
-use Rattle.desk.proofs.judge_parsed.Reads as reads
-use Rattle.desk.proofs.judge_parsed.Lts as lts
-use Rattle.desk.proofs.refused.Reads as refused-reads
-use Rattle.table.proofs.table.Table.take.Reads as take-reads
 
--- src/lib.rt:107:31
 enum-told : tie.Need-enum-told
 enum-told c = search needs
 
--- src/lib.rt:107:31
 refused-requires : tie.Need-refused-requires
 refused-requires c κs = search needs
 
--- src/lib.rt:108:22
 enum-known-p : tie.Need-enum-known-p
 enum-known-p c = search needs
 
--- src/lib.rt:109:17
 take-requires : tie.Need-take-requires
 take-requires c κs = search needs
 
--- src/lib.rt:102:1
 returns : tie.Need-returns
 returns c = refused-judged ((c .before .before .before) .args .t) ((c .before .before .before) .args .n) 2 ((c .before .before .before) .args .p) (c .refused .ensures) (rw (c .before .enum-told .given .1)) ((c .before .before .before) .pre)
 
--- src/lib.rt:102:1
 returns-2 : tie.Need-returns-2
 returns-2 c = read-judged ((c .before .before .before .before .before .before) .args .t) ((c .before .before .before .before .before .before) .args .n) ((c .before .before .before .before .before .before) .args .p) (c .before .before .before .before .p .given .1) (c .before .before .take .ensures) ((c .before .before .before .before .before .before) .pre)
 

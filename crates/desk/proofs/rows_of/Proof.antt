@@ -8,8 +8,6 @@ use mathlib.Core.List.{_++_}
 use mathlib.Core.Path.{_≡_, refl}
 use Rattle.desk.proofs.rows_of.Statement.{statement}
 use Rattle.desk.proofs.rows_of.Tie as tie
-use Rattle.desk.proofs.rows_of.Reads as reads
-use Rattle.desk.proofs.rows_of.Lts as lts
 
 abbrev Inv-loop : tie.InvT-loop
 Inv-loop sittings paid rows₀ i₀ rows i =
@@ -18,43 +16,33 @@ Inv-loop sittings paid rows₀ i₀ rows i =
 abbrev μ-loop : tie.MeasureT-loop
 μ-loop sittings paid rows₀ i₀ rows i = 10 - i
 
--- src/lib.rt:38:5
 loop-holds : tie.Need-loop-holds Inv-loop μ-loop
 loop-holds c = (omega arith, refl, refl)
 
--- src/lib.rt:40:22
 mul-t10 : tie.Need-mul-t10 Inv-loop μ-loop
 mul-t10 c = search needs
 
--- src/lib.rt:40:22
 array-read-t13 : tie.Need-array-read-t13 Inv-loop μ-loop
 array-read-t13 c = search needs
 
--- src/lib.rt:41:19
 mul-t14 : tie.Need-mul-t14 Inv-loop μ-loop
 mul-t14 c = search needs
 
--- src/lib.rt:41:19
 array-read-t17 : tie.Need-array-read-t17 Inv-loop μ-loop
 array-read-t17 c = search needs
 
--- src/lib.rt:43:9
 mul-rows : tie.Need-mul-rows Inv-loop μ-loop
 mul-rows c = search needs
 
--- src/lib.rt:43:9
 array-set-from-rows : tie.Need-array-set-from-rows Inv-loop μ-loop
 array-set-from-rows c = search needs
 
--- src/lib.rt:44:9
 add-i : tie.Need-add-i Inv-loop μ-loop
 add-i c = search needs
 
--- src/lib.rt:38:5
 loop-less : tie.Need-loop-less Inv-loop μ-loop
 loop-less c = search needs
 
--- src/lib.rt:38:5
 loop-again : tie.Need-loop-again Inv-loop μ-loop
 loop-again c = let ss = (c .before .before) .args .t1 in
     let ps = (c .before .before) .args .t2 in
@@ -62,7 +50,6 @@ loop-again c = let ss = (c .before .before) .args .t1 in
     let lp : length ps ≡ 10 = search needs in
     (omega arith, simp length-set (c .before .loop .inv .1), rows-turn (c .before .loop .rows) (rowsOf ss ps) ss ps (c .before .loop .i) (omega arith) (omega arith) (omega arith) (c .before .loop .inv .2))
 
--- src/lib.rt:29:1
 returns : tie.Need-returns Inv-loop μ-loop
 returns c = let ss = (c .before .before) .args .t1 in
     let ps = (c .before .before) .args .t2 in

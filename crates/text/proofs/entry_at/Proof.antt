@@ -1,5 +1,4 @@
 -- `entry_at` meets its contract: in each arm the kind is a numeral, at which the table of entries computes.
-use borrow.Author.Needs.{needs}
 use Prim.Native.Nat.{zero-le, _≤_}
 use Rattle.text.proofs.Entries.{past, only}
 use Rattle.text.proofs.entry_at.Statement.{statement}

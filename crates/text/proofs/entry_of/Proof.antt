@@ -6,28 +6,19 @@ use mathlib.Core.Path.{sym, ap, _∙_}
 use borrow.Author.Needs.{needs}
 use Rattle.text.proofs.entry_of.Statement.{statement}
 use Rattle.text.proofs.entry_of.Tie as tie
-use Rattle.text.proofs.entry_of.Reads as reads
-use Rattle.text.proofs.entry_of.Lts as lts
-use Rattle.text.proofs.entry_at.Reads as entry-at-reads
-use Rattle.text.proofs.spared.Reads as spared-reads
 
--- src/lib.rt:432:9
 returns : tie.Need-returns
 returns c = sym (kind-unknown ((c .before) .args .kind) ((c .before) .args .seat) ((c .before) .args .a) ((c .before) .args .b) (c .if1 .taken))
 
--- src/lib.rt:434:8
 spared-requires : tie.Need-spared-requires
 spared-requires c κs = search needs
 
--- src/lib.rt:435:29
 entry-at-requires : tie.Need-entry-at-requires
 entry-at-requires c κs = search needs
 
--- src/lib.rt:435:9
 returns-2 : tie.Need-returns-2
 returns-2 c = ap (λ (e : Entry). Read e) (c .entry-at .ensures) ∙ sym (entry-read ((c .before .before .before .before) .args .kind) ((c .before .before .before .before) .args .seat) ((c .before .before .before .before) .args .a) ((c .before .before .before .before) .args .b) (omega arith) (sym (c .before .before .spared .ensures) ∙ c .before .if2 .taken))
 
--- src/lib.rt:427:1
 returns-3 : tie.Need-returns-3
 returns-3 c = sym (not-spared ((c .before .before .before) .args .kind) ((c .before .before .before) .args .seat) ((c .before .before .before) .args .a) ((c .before .before .before) .args .b) (omega arith) (sym (c .before .spared .ensures) ∙ c .if2 .left))
 

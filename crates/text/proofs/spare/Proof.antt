@@ -1,14 +1,10 @@
 use borrow.Author.Tests.{eq-eqb, ne-eqb}
 use Rattle.text.proofs.spare.Statement.{statement}
 use Rattle.text.proofs.spare.Tie as tie
-use Rattle.text.proofs.spare.Reads as reads
-use Rattle.text.proofs.spare.Lts as lts
 
--- src/lib.rt:388:1
 returns : tie.Need-returns
 returns c = rw (eq-eqb _ 0 (c .if1 .taken))
 
--- src/lib.rt:388:1
 returns-2 : tie.Need-returns-2
 returns-2 c = rw (ne-eqb _ 0 (c .if1 .left))
 

@@ -5,55 +5,37 @@ use lib.ListN.{length}
 use mathlib.Core.Path.{sym, _∙_}
 use Rattle.desk.proofs.log.run.Statement.{statement}
 use Rattle.desk.proofs.log.run.Tie as tie
-use Rattle.desk.proofs.log.run.Reads as reads
-use Rattle.desk.proofs.log.run.Lts as lts
-use Rattle.desk.proofs.log.blocks.Reads as blocks-reads
-use Rattle.desk.proofs.log.refuse_sheet.Reads as refuse-sheet-reads
-use Rattle.table.proofs.take.new_table.Reads as new-table-reads
-use Rattle.text.proofs.sheet.after_sheet.Reads as after-sheet-reads
-use Rattle.text.proofs.sheet.read_sheet.Reads as read-sheet-reads
 
--- src/log.rt:50:11
 read-sheet-requires : tie.Need-read-sheet-requires
 read-sheet-requires c κs = search needs
 
--- src/log.rt:51:38
 enum-told : tie.Need-enum-told
 enum-told c = search needs
 
--- src/log.rt:51:25
 refuse-sheet-requires : tie.Need-refuse-sheet-requires
 refuse-sheet-requires c κs = search needs
 
--- src/log.rt:52:23
 enum-known-s : tie.Need-enum-known-s
 enum-known-s c = search needs
 
--- src/log.rt:52:36
 new-table-requires : tie.Need-new-table-requires
 new-table-requires c κs = sheet-is ((c .before .before .before .before .before .before) .args .log .now) _ (sym (c .before .before .before .read-sheet .ensures) ∙ c .before .s .given .1)
 
--- src/log.rt:52:50
 after-sheet-requires : tie.Need-after-sheet-requires
 after-sheet-requires c κs = search needs
 
--- src/log.rt:52:29
 blocks-requires : tie.Need-blocks-requires
 blocks-requires c κs = search needs
 
--- src/log.rt:47:1
 same-length : tie.Need-same-length
 same-length c = search needs
 
--- src/log.rt:47:1
 returns : tie.Need-returns
 returns c = rw (run-bad ((c .before .before .before .before .before .before .before .before .before) .args .log .now) _ (length ((c .before .before .before .before .before .before .before .before .before) .args .out .now)) (c .before .before .before .before .before .before .read-sheet .ensures) (c .before .before .before .before .enum-told .given .1)) (c .before .before .refuse-sheet .ensures)
 
--- src/log.rt:47:1
 same-length-2 : tie.Need-same-length-2
 same-length-2 c = search needs
 
--- src/log.rt:47:1
 returns-2 : tie.Need-returns-2
 returns-2 c = rw (run-good ((c .before .before .before .before .before .before .before .before .before .before .before .before) .args .log .now) _ _ (length ((c .before .before .before .before .before .before .before .before .before .before .before .before) .args .out .now)) (c .before .before .before .before .before .before .before .before .before .read-sheet .ensures) (c .before .before .before .before .before .before .before .s .given .1) (c .before .before .before .before .before .new-table .ensures .0) (c .before .before .before .before .after-sheet .ensures)) (c .before .before .blocks2 .ensures)
 

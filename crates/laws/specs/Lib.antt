@@ -1,0 +1,3 @@
+-- Words that every section of the paper uses: tests, lists.
+pub mod Tests
+pub mod Lists

@@ -1,0 +1,15 @@
+-- Sums, the largest, a fact of every element, over lists of any length. Assumes nothing.
+use Prim.Native.Nat.{ℕ, _+_, max}
+use mathlib.Core.List.{List, [], _∷_}
+
+unfoldable pub sumOf : List ℕ → ℕ
+sumOf [] = 0
+sumOf (x ∷ xs) = x + sumOf xs
+
+unfoldable pub maxOf : List ℕ → ℕ
+maxOf [] = 0
+maxOf (x ∷ xs) = max x (maxOf xs)
+
+abbrev pub All : {A : Type 0} → (A → Type 0) → List A → Type 0
+All P [] = Unit {0}
+All P (x ∷ xs) = P x × All P xs
