@@ -1,0 +1,3 @@
+-- The mission's sentences.
+pub mod Someone
+pub mod Taken

@@ -1,0 +1,2 @@
+-- What the mission's sentences say.
+pub mod Allowed
