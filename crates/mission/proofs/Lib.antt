@@ -1,3 +1,4 @@
 -- The mission's sentences.
 pub mod Someone
 pub mod Taken
+pub mod Settled

@@ -1,2 +1,3 @@
 -- What the mission's sentences say.
 pub mod Allowed
+pub mod Settled
