@@ -2,3 +2,6 @@
 pub mod Someone
 pub mod Taken
 pub mod Settled
+pub mod Late
+pub mod Answers
+pub mod Same

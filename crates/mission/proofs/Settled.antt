@@ -68,7 +68,7 @@ marks sheet es k = maskAt (map (λ s. one (liveIn sheet es s)) (sittingsTo k)) 1
 -- ---- what one sitting is paid, where it was dealt in at one seat at most
 
 module _ (s : ℕ) where
-  none-paid : (cs : List Chair) (ps : List ℕ) → sumOver (deals s) cs ≡ 0 → paidTo (map (columnOf what.Sitting) cs) ps s ≡ 0
+  pub none-paid : (cs : List Chair) (ps : List ℕ) → sumOver (deals s) cs ≡ 0 → paidTo (map (columnOf what.Sitting) cs) ps s ≡ 0
   unfolding paidTo
   none-paid [] ps h = refl
   none-paid (c ∷ cs) [] h = refl
@@ -116,7 +116,7 @@ module _ (sheet : Sheet) (ok : isSheet sheet ≡ true) (es : List Entry) (taken 
   abbrev now : Table
   now = run sheet es
 
-  paying : settles sheet es ≡ payoutNow now
+  pub paying : settles sheet es ≡ payoutNow now
   unfolding payoutOf
   paying = rw (eq-eqb (codeOf now (length es + 1) Settle) 0 (taken .0))
 
