@@ -14,7 +14,7 @@ use Rattle.laws.specs.Often.{tally, count, SameNumbers}
 use Rattle.laws.proofs.Tests.{test}
 
 -- x taken out of a list, once
-abbrev without : ℕ → List ℕ → List ℕ
+abbrev pub without : ℕ → List ℕ → List ℕ
 without x [] = []
 without x (y ∷ l) = cond (eqb x y) l (y ∷ without x l)
 
@@ -29,7 +29,7 @@ one-small true = omega arith
 one-small false = omega arith
 
 -- what is counted of the list is what is counted of x and of the rest
-without-tally : (f : ℕ → Bool) (x : ℕ) (l : List ℕ) → 0 < count x l → tally f l ≡ one (f x) + tally f (without x l)
+pub without-tally : (f : ℕ → Bool) (x : ℕ) (l : List ℕ) → 0 < count x l → tally f l ≡ one (f x) + tally f (without x l)
 without-tally f x [] h = absurd (omega arith)
 without-tally f x (y ∷ l) h =
     ⊎-elim
@@ -70,6 +70,9 @@ tally-all (x ∷ l) = let ih = tally-all l in omega arith
 
 pub same-length : (l m : List ℕ) → SameNumbers l m → length l ≡ length m
 same-length l m s = sym (tally-all l) ∙ tally-same (λ x. true) l m s ∙ tally-all m
+
+pub without-length : (x : ℕ) (l : List ℕ) → 0 < count x l → length l ≡ 1 + length (without x l)
+without-length x l h = sym (tally-all l) ∙ without-tally (λ y. true) x l h ∙ ap (λ (n : ℕ). 1 + n) (tally-all (without x l))
 
 pub tally-most : {A : Type 0} (f : A → Bool) (l : List A) → tally f l ≤ length l
 tally-most f [] = omega arith
