@@ -2,3 +2,8 @@
 pub mod Tests
 pub mod Places
 pub mod Rules
+pub mod Some
+pub mod Rows
+pub mod Five
+pub mod Compare
+pub mod Often

@@ -1,0 +1,40 @@
+-- No section of the paper: the bytes that the program `hands` writes about a hand. Assumes nothing.
+use mathlib.Core.Path.{_≡_}
+use mathlib.Core.List.{List, [], _∷_, _++_}
+use Prim.Native.Nat.{ℕ, _+_, _-_, _/_, _%_}
+use lib.Dec.{ltb}
+use lib.ListN.{length, set}
+use Rattle.laws.specs.Tests.{pick}
+use Rattle.cards.specs.Reading.{codeOfReading}
+use Rattle.cards.specs.declared.Hand.{Hand}
+use Rattle.cards.specs.declared.Reading.{Reading}
+use Rattle.cards.specs.declared.Reading.the-variants.{Known, NotSeven, NoCard, Repeat}
+
+-- the list with the bytes in it from a place on
+unfoldable pub written : List ℕ → ℕ → List ℕ → List ℕ
+written l at [] = l
+written l at (b ∷ bs) = written (set l at b) (at + 1) bs
+
+-- the bytes were written from a place on, and r is the place behind them
+pub record Wrote (bs : List ℕ) (at : ℕ) (old new : List ℕ) (r : ℕ) : Type 0 where
+  pub end : r ≡ at + length bs
+  pub sheet : new ≡ written old at bs
+
+-- a number below 100, in decimal
+unfoldable pub numberBytes : ℕ → List ℕ
+numberBytes n = pick (ltb n 10) ((48 + n) ∷ []) ((48 + n / 10) ∷ (48 + n % 10) ∷ [])
+
+-- a rank, behind a blank
+unfoldable pub rankBytes : ℕ → List ℕ
+rankBytes n = 32 ∷ numberBytes n
+
+-- the class, 8 for the highest, and the five ranks
+unfoldable pub handBytes : Hand → List ℕ
+handBytes h = numberBytes (8 - h .class) ++ rankBytes (h .r1) ++ rankBytes (h .r2) ++ rankBytes (h .r3) ++ rankBytes (h .r4) ++ rankBytes (h .r5)
+
+-- the hand, or the paper's number
+unfoldable pub readingBytes : Reading → List ℕ
+readingBytes (Known h) = handBytes h
+readingBytes NotSeven = numberBytes (codeOfReading NotSeven)
+readingBytes NoCard = numberBytes (codeOfReading NoCard)
+readingBytes Repeat = numberBytes (codeOfReading Repeat)

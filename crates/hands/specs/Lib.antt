@@ -1,0 +1,3 @@
+-- What the program `hands` reads and writes.
+pub mod Answers
+pub mod Lines

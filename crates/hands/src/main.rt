@@ -1,0 +1,269 @@
+// Hands: a line of card numbers after another on standard input, and for each what the box answers when it is asked about them: the class of the
+// best five, 8 for a straight flush down to 0 for five odd cards, and their ranks as they are compared; or the paper's number for a refusal.
+use cards::Hand;
+use cards::Reading;
+use libc::STDIN_FILENO;
+use libc::STDOUT_FILENO;
+ghost use mathlib.Core.Path.{_≡_};
+ghost use mathlib.Core.List.{[], _∷_};
+ghost use Prim.Native.Nat.{_+_, _-_, _≤_, _<_};
+ghost use lib.ListN.{length, set};
+ghost use Rattle.hands.specs.Lines.{noLine, grownOf, endedTo, cardsTo, takenTo, cardsWith, answerOf};
+ghost use Rattle.hands.specs.Answers.{Wrote, numberBytes, rankBytes, handBytes, readingBytes};
+
+// A line that is being read: how many numbers stand in it so far, and the one that has begun.
+struct Line {
+    have: usize,
+    word: u8,
+    begun: bool,
+}
+
+fn fresh() -> Line
+    ensures { λ r. ⌜ (r ≡ noLine) × (r .have ≡ 0) ⌝ }
+{
+    Line {
+        have: 0,
+        word: 0,
+        begun: false,
+    }
+}
+
+// A number with one digit more. What is no number, or does not fit, is 255, which is no card.
+fn grown(word: u8, b: u8) -> u8
+    ensures { λ r. ⌜ r ≡ grownOf word b ⌝ }
+{
+    if b < 48 {
+        return 255;
+    }
+    if 57 < b {
+        return 255;
+    }
+    let n = word as u16 * 10 + (b - 48) as u16;
+    if n < 255 { n as u8 } else { 255 }
+}
+
+// The number that has begun, if any, becomes the next card. A line of too many is read on, and keeps too many.
+fn end_word(l: Line, cards: &mut [u8]) -> Line
+    ensures is { λ r. ⌜ (r ≡ endedTo l (length (now (cards .entry)))) × (now (cards .exit) ≡ cardsTo l (now (cards .entry))) ⌝ }
+    ensures held { λ r. ⌜ (l .have ≤ length (now (cards .entry)) → r .have ≤ length (now (cards .entry))) ⌝ }
+{
+    let at = l.have;
+    let begun = l.begun;
+    if begun {
+        if at < cards.len() {
+            cards[at] = l.word;
+            return Line {
+                have: at + 1,
+                word: 0,
+                begun: false,
+            };
+        }
+        return Line {
+            have: at,
+            word: 0,
+            begun: false,
+        };
+    }
+    l
+}
+
+// A byte of a line: a blank ends a number, any other belongs to one.
+fn take_byte(l: Line, cards: &mut [u8], b: u8) -> Line
+    ensures is { λ r. ⌜ (r ≡ takenTo l (length (now (cards .entry))) b) × (now (cards .exit) ≡ cardsWith l (now (cards .entry)) b) ⌝ }
+    ensures held { λ r. ⌜ (l .have ≤ length (now (cards .entry)) → r .have ≤ length (now (cards .entry))) ⌝ }
+{
+    if b == 32 {
+        return end_word(l, cards);
+    }
+    Line {
+        have: l.have,
+        word: grown(l.word, b),
+        begun: true,
+    }
+}
+
+fn put(out: &mut [u8], at: usize, b: u8) -> usize
+    requires { ⌜ at < length (now out) ⌝ }
+    ensures wrote { λ r. ⌜ Wrote (b ∷ []) at (now (out .entry)) (now (out .exit)) r ⌝ }
+    ensures room { λ r. ⌜ r ≡ at + 1 ⌝ }
+{
+    out[at] = b;
+    at + 1
+}
+
+// A number of one digit or two.
+fn put_number(out: &mut [u8], at: usize, n: u8) -> usize
+    requires { ⌜ at + 2 ≤ length (now out) ⌝ }
+    ensures wrote { λ r. ⌜ Wrote (numberBytes n) at (now (out .entry)) (now (out .exit)) r ⌝ }
+    ensures room { λ r. ⌜ r ≤ at + 2 ⌝ }
+{
+    if n < 10 {
+        return put(out, at, 48 + n);
+    }
+    let next = put(out, at, 48 + n / 10);
+    put(out, next, 48 + n % 10)
+}
+
+// A rank, behind a blank.
+fn put_rank(out: &mut [u8], at: usize, n: u8) -> usize
+    requires { ⌜ at + 3 ≤ length (now out) ⌝ }
+    ensures wrote { λ r. ⌜ Wrote (rankBytes n) at (now (out .entry)) (now (out .exit)) r ⌝ }
+    ensures room { λ r. ⌜ r ≤ at + 3 ⌝ }
+{
+    let next = put(out, at, 32);
+    put_number(out, next, n)
+}
+
+// The classes are counted from the highest; here the highest is 8.
+fn from_lowest(class: u8) -> u8
+    ensures { λ r. ⌜ r ≡ 8 - class ⌝ }
+{
+    if class <= 8 { 8 - class } else { 0 }
+}
+
+fn put_hand(h: Hand, out: &mut [u8], at: usize) -> usize
+    requires { ⌜ at + 17 ≤ length (now out) ⌝ }
+    ensures wrote { λ r. ⌜ Wrote (handBytes h) at (now (out .entry)) (now (out .exit)) r ⌝ }
+    ensures room { λ r. ⌜ r ≤ at + 17 ⌝ }
+{
+    let a = put_number(out, at, from_lowest(h.class));
+    let b = put_rank(out, a, h.r1);
+    let c = put_rank(out, b, h.r2);
+    let d = put_rank(out, c, h.r3);
+    let e = put_rank(out, d, h.r4);
+    put_rank(out, e, h.r5)
+}
+
+fn put_reading(r: Reading, out: &mut [u8], at: usize) -> usize
+    requires { ⌜ at + 17 ≤ length (now out) ⌝ }
+    ensures wrote { λ n. ⌜ Wrote (readingBytes r) at (now (out .entry)) (now (out .exit)) n ⌝ }
+    ensures room { λ n. ⌜ n ≤ at + 17 ⌝ }
+{
+    match r {
+        Reading::Known(h) => put_hand(h, out, at),
+        Reading::NotSeven => put_number(out, at, cards::code_of(r)),
+        Reading::NoCard => put_number(out, at, cards::code_of(r)),
+        Reading::Repeat => put_number(out, at, cards::code_of(r)),
+    }
+}
+
+// The answer to the line, in a line of its own.
+fn answer(l: Line, cards: &mut [u8], out: &mut [u8], at: usize) -> usize
+    requires { ⌜ (l .have ≤ length (now cards)) × (at + 18 ≤ length (now out)) ⌝ }
+    ensures wrote { λ r. ⌜ Wrote (answerOf l (now (cards .entry))) at (now (out .entry)) (now (out .exit)) r ⌝ }
+    ensures room { λ r. ⌜ r ≤ at + 18 ⌝ }
+{
+    let ended = end_word(l, cards);
+    let n = ended.have;
+    let end = put_reading(cards::read_hand(&cards[0..n]), out, at);
+    put(out, end, 10)
+}
+
+struct Served {
+    line: Line,
+    at: usize,
+}
+
+// Writes out the answers where there is no room for another behind them; how much of them is still to be written.
+fn flush(answers: &[u8]) -> usize
+    ensures { λ r. ⌜ (r ≤ length (now (answers .entry))) × (r ≤ 65500) ⌝ }
+{
+    let at = answers.len();
+    if at <= 65500 {
+        return at;
+    }
+    io::write_all(STDOUT_FILENO, answers);
+    0
+}
+
+// A byte of the input: an LF ends a line, which is answered.
+fn serve_byte(l: Line, cards: &mut [u8], b: u8, out: &mut [u8], at: usize) -> Served
+    requires { ⌜ (l .have ≤ length (now cards)) × (at ≤ length (now out)) × (length (now out) ≡ 65536) ⌝ }
+    ensures { λ r. ⌜ (r .line .have ≤ length (now (cards .entry))) × (r .at ≤ length (now (out .entry))) ⌝ }
+{
+    if b != 10 {
+        let line = take_byte(l, cards, b);
+        return Served { line, at };
+    }
+    let k = flush(&out[0..at]);
+    let end = answer(l, cards, out, k);
+    let line = fresh();
+    Served { line, at: end }
+}
+
+// Answers every line that ends in this part of the input, in one write where the answers fit.
+fn serve(l: Line, cards: &mut [u8], part: &[u8]) -> Line
+    requires { ⌜ l .have ≤ length (now cards) ⌝ }
+    ensures { λ r. ⌜ r .have ≤ length (now (cards .entry)) ⌝ }
+{
+    let mut out = io::large_buffer();
+    let mut line = l;
+    let mut at: usize = 0;
+    let mut i: usize = 0;
+    while i < part.len() {
+        let s = serve_byte(line, cards, part[i], &mut out, at);
+        let d = s.line;
+        line = d;
+        at = s.at;
+        i += 1;
+    }
+    io::write_all(STDOUT_FILENO, &out[0..at]);
+    line
+}
+
+struct Turn {
+    line: Line,
+    more: bool,
+}
+
+// One read, and the answers to it.
+fn read_some(l: Line, cards: &mut [u8]) -> Turn
+    requires { ⌜ l .have ≤ length (now cards) ⌝ }
+    ensures { λ r. ⌜ r .line .have ≤ length (now (cards .entry)) ⌝ }
+{
+    let mut input = io::large_buffer();
+    let got = libc::read(STDIN_FILENO, &mut input);
+    if got <= 0 {
+        return Turn {
+            line: l,
+            more: false,
+        };
+    }
+    let n = io::count(got, &input);
+    let line = serve(l, cards, &input[..n]);
+    Turn { line, more: true }
+}
+
+// Reads to the end of the input. A proved loop has to end, so it counts its turns down from a number that no run uses up.
+fn read_all(cards: &mut [u8]) -> Line
+    ensures { λ r. ⌜ r .have ≤ length (now (cards .entry)) ⌝ }
+{
+    let mut line = fresh();
+    let mut turns = u64::MAX;
+    while turns > 0 {
+        let t = read_some(line, cards);
+        let d = t.line;
+        line = d;
+        if !t.more {
+            return line;
+        }
+        turns -= 1;
+    }
+    line
+}
+
+// Whether something stands in the line.
+fn is_begun(l: Line) -> bool {
+    if l.begun { true } else { 0 < l.have }
+}
+
+// The last line may lack its LF.
+fn main() {
+    let mut cards = [0u8; 8];
+    let mut out = [0u8; 18];
+    let line = read_all(&mut cards);
+    if is_begun(line) {
+        let n = answer(line, &mut cards, &mut out, 0);
+        io::write_all(STDOUT_FILENO, &out[0..n]);
+    }
+}
