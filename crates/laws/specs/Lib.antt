@@ -1,3 +1,4 @@
 -- Words that every section of the paper uses: tests, lists.
 pub mod Tests
 pub mod Lists
+pub mod Bits
