@@ -1,6 +1,5 @@
 -- Sums and largest of lists, and what stands at a place of a list that a function made. For any list.
 -- Assumes nothing.
--- of two numbers one is not above the other
 use Prim.Native.Nat.{ℕ, zero, suc, _+_, _≤_, _<_, zero-le}
 use mathlib.Core.Path.{_≡_, refl, sym, ap, ap₂}
 use mathlib.Core.Bool.{Bool, true, false}
@@ -13,6 +12,7 @@ use lib.ListN.{length, getD, drop, replicate}
 use borrow.Author.Tests.{leb-true, leb-false}
 use Rattle.laws.specs.Lists.{sumOf, maxOf}
 
+-- of two numbers one is not above the other
 pub le-or-lt : (a b : ℕ) → (a ≤ b) ⊎ (b < a)
 le-or-lt a b = go (leb a b) refl
   where

@@ -1,7 +1,5 @@
 -- What a wager and a fold change of the heights: a wager only what lies between the old total and the new one, a fold no chip. For any number of sittings.
 -- Assumes nothing.
--- ---- a wager
--- raising one total from a to b changes the chips at no height outside a + 1 to b
 use Prim.Native.Nat.{ℕ, zero, suc, _+_, _-_, _*_, _/_, _%_, _^_, _≤_, _<_, zero-le}
 use mathlib.Core.Path.{_≡_, refl, sym, ap, ap₂, _∙_}
 use mathlib.Core.Bool.{Bool, true, false}
@@ -23,6 +21,8 @@ use Rattle.pots.proofs.Masks.{live-length, ones-mask}
 use Rattle.pots.proofs.Contest.{contested-is, has-one, has-none}
 use Rattle.pots.proofs.PotLevels.{pots-and-back}
 
+-- ---- a wager
+-- raising one total from a to b changes the chips at no height outside a + 1 to b
 has-outside : (a b h : ℕ) → a ≤ b → (h ≤ a) ⊎ (b < h) → has b h ≡ has a h
 has-outside a b h l w =
     ⊎-elim (λ (p : h ≤ a). has-one b h (omega arith) ∙ sym (has-one a h p)) (λ (p : b < h). has-none b h p ∙ sym (has-none a h (omega arith))) w

@@ -1,6 +1,5 @@
 -- What one seat gets of a pot that winners share: nothing if it is no winner, and else the equal share or one unit more. For any number of seats.
 -- Assumes nothing.
--- ---- along a list of winners
 use Prim.Native.Nat.{ℕ, zero, suc, _+_, _-_, _/_, _%_, _≤_, _<_, min}
 use mathlib.Core.Path.{_≡_, refl, ap, _∙_}
 use mathlib.Core.List.{List, [], _∷_}
@@ -19,6 +18,7 @@ use Rattle.pots.proofs.Masks.{live-length, live-kept, live-zero}
 use Rattle.pots.proofs.Settling.{turned-at, turned-length}
 use Rattle.pots.proofs.Hands.{share-length}
 
+-- ---- along a list of winners
 share-zero : (base odd : ℕ) (ws : List ℕ) (j : ℕ) → getD ws j 0 ≡ 0 → getD (shareOut base odd ws) j 0 ≡ 0
 unfolding shareOut
 share-zero base odd [] j e = refl

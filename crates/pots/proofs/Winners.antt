@@ -35,7 +35,7 @@ rated-mask (s ∷ ss) who l =
 
 -- ---- the contenders with the best score
 module _ (scores : List ℕ) (who : ℕ) (some : 0 < ones (length scores) who) where
-  top-one : 1 ≤ maxOf (rated scores who)
+  pub top-one : 1 ≤ maxOf (rated scores who)
   top-one = ⊎-elim (λ a. a) (λ (a : maxOf (rated scores who) < 1). absurd (omega (arith, chips-above (rated scores who) 1 a, rated-count scores who))) (le-or-lt 1 (maxOf (rated scores who)))
 
   -- where someone contends, someone is best

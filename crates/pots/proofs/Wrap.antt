@@ -1,7 +1,6 @@
 -- The wrap: odd units go clockwise over a table of n seats just as over any longer row of places in which nobody above seat n wins; so the code, which goes
 -- around ten places, shares as the paper does around `seats`. For any two lengths.
 -- Assumes nothing.
--- ---- flags: none above n
 use Prim.Native.Nat.{ℕ, zero, suc, _+_, _-_, _/_, _%_, _^_, _≤_, _<_, min}
 use mathlib.Core.Path.{_≡_, refl, sym, ap, ap₂, _∙_}
 use mathlib.Core.List.{List, [], _∷_, _++_, append-assoc}
@@ -18,7 +17,8 @@ use Rattle.pots.proofs.Chips.{has-none}
 use Rattle.pots.proofs.Masks.{live-length}
 use Rattle.pots.proofs.Hands.{share-length}
 
-live-none : (ts : List ℕ) → liveOf ts 0 ≡ replicate (length ts) 0
+-- ---- flags: none above n
+pub live-none : (ts : List ℕ) → liveOf ts 0 ≡ replicate (length ts) 0
 unfolding liveOf
 live-none [] = refl
 live-none (t ∷ ts) = ap (λ l. 0 ∷ l) (live-none ts)

@@ -1,3 +1,5 @@
+-- `best` meets its contract.
+-- Assumes nothing.
 use mathlib.Core.Path.{ap, _∙_}
 use borrow.Author.Needs.{needs}
 use Rattle.pots.specs.Heights.{liveOf, maskAt}
