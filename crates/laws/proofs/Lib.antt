@@ -7,3 +7,5 @@ pub mod Rows
 pub mod Five
 pub mod Compare
 pub mod Often
+pub mod Bits
+pub mod Sums

@@ -3,3 +3,4 @@ pub mod Tests
 pub mod Lists
 pub mod Often
 pub mod Some
+pub mod Bits

@@ -1,0 +1,116 @@
+// A hand out of a line's numbers, and whether it is one that the crate `pots` takes.
+ghost use mathlib.Core.Path.{_≡_};
+ghost use mathlib.Core.Bool.{true};
+ghost use Prim.Native.Nat.{ℕ, _≤_, _<_};
+ghost use lib.ListN.{getD};
+ghost use Rattle.laws.specs.Lists.{sumOf, maxOf};
+
+pub struct Hand {
+    pub seats: usize,
+    pub puck: usize,
+    pub rate: u32,
+    pub cap: u32,
+    pub totals: [u32; 10],
+    pub live: u16,
+    pub scores: [u32; 10],
+    pub here: u16,
+}
+
+fn number_at(nums: &[u32], i: usize) -> u32 {
+    if i < nums.len() { nums[i] } else { 0 }
+}
+
+// The list of a line that begins at a place, with a number for each seat, and 0 for the seats above.
+fn column(nums: &[u32], from: usize, seats: usize) -> [u32; 10]
+    requires { ⌜ (from ≤ 34) × (seats ≤ 10) ⌝ }
+{
+    let mut a = [0u32; 10];
+    let mut i: usize = 0;
+    while i < seats {
+        a[i] = number_at(nums, from + i);
+        i += 1;
+    }
+    a
+}
+
+// How many seats a line of so many numbers is for: 0 where they are not two to ten, or the numbers are too few or too many.
+fn seats_of(nums: &[u32], count: usize) -> usize
+    ensures { λ r. ⌜ r ≤ 10 ⌝ }
+{
+    let n = number_at(nums, 0) as usize;
+    if n < 2 {
+        return 0;
+    }
+    if 10 < n {
+        return 0;
+    }
+    if count == 4 + 4 * n { n } else { 0 }
+}
+
+pub fn hand_of(nums: &[u32], count: usize) -> Hand {
+    let seats = seats_of(nums, count);
+    Hand {
+        seats,
+        puck: number_at(nums, 1) as usize,
+        rate: number_at(nums, 2),
+        cap: number_at(nums, 3),
+        totals: column(nums, 4, seats),
+        live: pots::mask_at(column(nums, 4 + seats, seats), 1),
+        scores: column(nums, 4 + 2 * seats, seats),
+        here: pots::mask_at(column(nums, 4 + 3 * seats, seats), 1),
+    }
+}
+
+fn wide(x: u32) -> u64
+    ensures { λ r. ⌜ (r ≡ x) × (r ≤ 4294967295) ⌝ }
+{
+    x as u64
+}
+
+fn sum(xs: [u32; 10]) -> u64
+    ensures { λ r. ⌜ r ≡ sumOf xs ⌝ }
+{
+    let mut s: u64 = 0;
+    let mut i: usize = 10;
+    while 0 < i {
+        i -= 1;
+        s = wide(xs[i]) + s;
+    }
+    s
+}
+
+fn largest(xs: [u32; 10]) -> u32
+    ensures { λ r. ⌜ r ≡ maxOf xs ⌝ }
+{
+    let mut m: u32 = 0;
+    let mut i: usize = 10;
+    while 0 < i {
+        i -= 1;
+        m = laws::most(xs[i], m);
+    }
+    m
+}
+
+// Whether a hand keeps the bounds that `pots` asks for.
+pub fn fair(h: Hand) -> bool
+    ensures { λ r. ⌜ (r ≡ true → (h .seats ≤ 10) × (sumOf (h .totals) ≤ 100000000) × (h .rate ≤ 100) × (h .puck ≤ 10) × ((i : ℕ) → getD (h .scores) i 0 ≤ 100000000)) ⌝ }
+{
+    let totals = h.totals;
+    let scores = h.scores;
+    if h.seats == 0 {
+        return false;
+    }
+    if 10 < h.seats {
+        return false;
+    }
+    if 100000000 < sum(totals) {
+        return false;
+    }
+    if 100 < h.rate {
+        return false;
+    }
+    if 10 < h.puck {
+        return false;
+    }
+    largest(scores) <= 100000000
+}
