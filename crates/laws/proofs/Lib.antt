@@ -2,3 +2,5 @@
 pub mod Tests
 pub mod Places
 pub mod Rules
+pub mod Conjunction
+pub mod Parts

@@ -1,19 +1,16 @@
 -- The table of rows: the tests of a row's numbers in the order that the code takes them, and when code 2 applies. Assumes nothing.
+-- three numbers, each used or not
 use Prim.Native.Nat.{ℕ, _≤_, _<_}
 use mathlib.Core.Bool.{Bool, true, false, not}
 use mathlib.Core.Path.{_≡_, refl, sym, _∙_}
 use mathlib.Core.List.{[]}
 use borrow.Author.Tests.{lt-ltb, le-ltb}
 use Rattle.laws.specs.Tests.{both, either}
+use Rattle.laws.proofs.Conjunction.{both-end, both-none}
 use Rattle.paper.specs.SheetAndEntries.{ifUsed, allOf, rowAt, spared, ranged, makesEntry, isCount, blockFits}
 use Rattle.paper.specs.declared.Sheet.{Sheet}
 use Rattle.paper.specs.declared.Numbers.{Numbers}
 
-both-end : (a : Bool) → both a true ≡ a
-both-end true = refl
-both-end false = refl
-
--- three numbers, each used or not
 pub used-tests : (u v w s a b : Bool)
     → both (either (not u) s) (both (either (not v) a) (either (not w) b)) ≡ allOf (ifUsed u s (ifUsed v a (ifUsed w b [])))
 used-tests true true true s a b = refl
@@ -24,10 +21,6 @@ used-tests false true true s a b = refl
 used-tests false true false s a b = both-end a
 used-tests false false true s a b = refl
 used-tests false false false s a b = refl
-
-pub both-none : (a : Bool) → both a false ≡ false
-both-none true = refl
-both-none false = refl
 
 module _ (x : Numbers) where
   pub kind-known : x .kind < 12 → spared (rowAt (x .kind)) x ≡ makesEntry x

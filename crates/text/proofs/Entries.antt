@@ -12,9 +12,8 @@ use Rattle.paper.specs.declared.Sheet.{Sheet}
 use Rattle.paper.specs.declared.Numbers.{Numbers}
 use Rattle.paper.specs.declared.Entry.{Entry}
 use Rattle.paper.specs.declared.Entry.the-variants.{Sit, Leave, Hand, Hole, Fold, Check, Call, Wager, Board, Dead, Settle, Void}
-use Rattle.paper.proofs.Rows.{both-none}
+use Rattle.laws.proofs.Conjunction.{both-none}
 use Rattle.text.specs.Entry.{entryAt, parsedOf}
-use Rattle.text.specs.declared.Parsed.{Parsed}
 use Rattle.text.specs.declared.Parsed.the-variants.{Read, OutOfRange}
 
 module _ (from to x : ℕ) where

@@ -5,53 +5,58 @@ use paper::Entry;
 use paper::Numbers;
 use paper::makes_entry;
 ghost use mathlib.Core.Path.{_≡_};
-ghost use mathlib.Core.List.{[]};
+ghost use mathlib.Core.Bool.{true};
 ghost use Prim.Native.Nat.{_≤_, _<_};
-ghost use lib.ListN.{getD};
-ghost use Rattle.text.specs.Bytes.{allWithin};
-ghost use Rattle.text.specs.Block.{eqList, kindNames, placeIn, kindOf};
+ghost use lib.ListN.{length};
+ghost use Rattle.text.specs.Bytes.{allWithin, packOf};
+ghost use Rattle.text.specs.Block.{allLetters, kindNames, placeIn, kindOf};
 ghost use Rattle.text.specs.Entry.{entryAt, parsedOf};
 
-// Whether two slices have the same bytes.
-fn same_bytes(x: &[u8], y: &[u8]) -> bool
-    ensures { λ r. ⌜ r ≡ eqList (now (x .entry)) (now (y .entry)) ⌝ }
+// The words of the twelve kinds in the order of the paper's table, each as one number, its first letter the lowest byte.
+const KINDS: [u64; 12] = [
+    0x746973,
+    0x657661656c,
+    0x646e6168,
+    0x656c6f68,
+    0x646c6f66,
+    0x6b63656863,
+    0x6c6c6163,
+    0x7265676177,
+    0x6472616f62,
+    0x64616564,
+    0x656c74746573,
+    0x64696f76,
+];
+
+fn wide(b: u8) -> u64
+    ensures { λ r. ⌜ r ≡ b ⌝ }
 {
-    let mut i = 0;
-    while i < x.len() {
-        if y.len() <= i {
-            return false;
-        }
-        if x[i] != y[i] {
-            return false;
-        }
-        i += 1;
+    b as u64
+}
+
+// A word of at most eight bytes as one number, its first byte the lowest.
+fn packed(w: &[u8]) -> u64
+    requires { ⌜ length (now w) ≤ 8 ⌝ }
+    ensures { λ r. ⌜ r ≡ packOf (now (w .entry)) ⌝ }
+{
+    let mut v: u64 = 0;
+    let mut i = w.len();
+    while 0 < i {
+        i -= 1;
+        v = v * 256 + wide(w[i]);
     }
-    y.len() <= i
+    v
 }
 
-// The words of the twelve kinds, one behind the other, and where each starts, with the last one's end.
-const KIND_TEXT: [u8; 53] = *b"sitleavehandholefoldcheckcallwagerboarddeadsettlevoid";
-
-const KIND_ENDS: [usize; 13] = [0, 3, 8, 12, 16, 20, 25, 29, 34, 39, 43, 49, 53];
-
-// Whether a word is the k-th of the table of kinds.
-fn is_kind(w: &[u8], k: usize) -> bool
-    requires { ⌜ k < 12 ⌝ }
-    ensures { λ r. ⌜ r ≡ eqList (now (w .entry)) (getD kindNames k []) ⌝ }
-{
-    let text = KIND_TEXT;
-    let from = KIND_ENDS[k];
-    let to = KIND_ENDS[k + 1];
-    same_bytes(w, &text[from..to])
-}
-
-// The place of a word in the table of kinds, 12 where it is none of them.
+// The place of a word of small letters in the table of kinds, 12 where it is none of them.
 fn kind_place(w: &[u8]) -> usize
+    requires { ⌜ (length (now w) ≤ 8) × (allLetters (now w) ≡ true) ⌝ }
     ensures { λ r. ⌜ r ≡ placeIn kindNames (now (w .entry)) ⌝ }
 {
+    let word = packed(w);
     let mut k: usize = 0;
     while k < 12 {
-        if is_kind(w, k) {
+        if KINDS[k] == word {
             return k;
         }
         k += 1;

@@ -25,11 +25,36 @@ struct SheetLine {
 }
 
 const TABLE: [SheetLine; LINES] = [
-    SheetLine { key: *b"seats", letters: 5, least: 2, most: 10 },
-    SheetLine { key: *b"small", letters: 5, least: 1, most: 10000 },
-    SheetLine { key: *b"big  ", letters: 3, least: 1, most: 10000 },
-    SheetLine { key: *b"rate ", letters: 4, least: 0, most: 100 },
-    SheetLine { key: *b"cap  ", letters: 3, least: 0, most: 1000000 },
+    SheetLine {
+        key: *b"seats",
+        letters: 5,
+        least: 2,
+        most: 10,
+    },
+    SheetLine {
+        key: *b"small",
+        letters: 5,
+        least: 1,
+        most: 10000,
+    },
+    SheetLine {
+        key: *b"big  ",
+        letters: 3,
+        least: 1,
+        most: 10000,
+    },
+    SheetLine {
+        key: *b"rate ",
+        letters: 4,
+        least: 0,
+        most: 100,
+    },
+    SheetLine {
+        key: *b"cap  ",
+        letters: 3,
+        least: 0,
+        most: 1000000,
+    },
 ];
 
 // A number where it is in a range.

@@ -1,49 +1,34 @@
-use mathlib.Core.Path.{_∙_}
+-- `block_fits` meets its contract: the row of a known kind decides, and an unknown kind never fits.
 use native.Mathlib.Omega.{arith}
 use Rattle.paper.proofs.Rows.{row-fits, row-missing}
 use borrow.Author.Needs.{needs}
 use Rattle.paper.proofs.block_fits.Statement.{statement}
 use Rattle.paper.proofs.block_fits.Tie as tie
-use Rattle.paper.proofs.block_fits.Reads as reads
-use Rattle.paper.proofs.block_fits.Lts as lts
-use Rattle.laws.proofs.both.Reads as both-reads
-use Rattle.paper.proofs.between.Reads as between-reads
-use Rattle.paper.proofs.ranged.Reads as ranged-reads
-use Rattle.paper.proofs.spared.Reads as spared-reads
 
--- src/lib.rt:156:13
 cast-k : tie.Need-cast-k
 cast-k c = search needs
 
--- src/lib.rt:158:19
 mul-row : tie.Need-mul-row
 mul-row c = search needs
 
--- src/lib.rt:158:19
 array-copy-out-row : tie.Need-array-copy-out-row
 array-copy-out-row c = search needs
 
--- src/lib.rt:159:24
 spared-requires : tie.Need-spared-requires
 spared-requires c κs = search needs
 
--- src/lib.rt:159:40
 ranged-requires : tie.Need-ranged-requires
 ranged-requires c κs = search needs
 
--- src/lib.rt:159:13
 both-requires : tie.Need-both-requires
 both-requires c κs = search needs
 
--- src/lib.rt:160:21
 between-requires : tie.Need-between-requires
 between-requires c κs = search needs
 
--- src/lib.rt:160:9
 both-requires-2 : tie.Need-both-requires-2
 both-requires-2 c κs = search needs
 
--- src/lib.rt:160:9
 returns : tie.Need-returns
 returns c =
     let s = c .before .before .before .before .before .before .before .before in
@@ -54,7 +39,6 @@ returns c =
     (c .before .between .ensures)
     (c .both2 .ensures)
 
--- src/lib.rt:153:1
 returns-2 : tie.Need-returns-2
 returns-2 c = row-missing ((c .before .before) .args .x) ((c .before .before) .args .sheet) ((c .before .before) .args .n) (omega arith)
 

@@ -1,34 +1,26 @@
+-- `makes_entry` meets its contract.
 use mathlib.Core.Path.{_∙_}
 use native.Mathlib.Omega.{arith}
 use Rattle.paper.proofs.Rows.{kind-known, kind-unknown}
 use borrow.Author.Needs.{needs}
 use Rattle.paper.proofs.makes_entry.Statement.{statement}
 use Rattle.paper.proofs.makes_entry.Tie as tie
-use Rattle.paper.proofs.makes_entry.Reads as reads
-use Rattle.paper.proofs.makes_entry.Lts as lts
-use Rattle.paper.proofs.spared.Reads as spared-reads
 
--- src/lib.rt:145:13
 cast-k : tie.Need-cast-k
 cast-k c = search needs
 
--- src/lib.rt:147:23
 mul-spared : tie.Need-mul-spared
 mul-spared c = search needs
 
--- src/lib.rt:147:23
 array-copy-out-spared : tie.Need-array-copy-out-spared
 array-copy-out-spared c = search needs
 
--- src/lib.rt:147:9
 spared-requires : tie.Need-spared-requires
 spared-requires c κs = search needs
 
--- src/lib.rt:147:9
 returns : tie.Need-returns
 returns c = c .spared .ensures ∙ kind-known ((c .before .before .before .before) .args .x) (omega arith)
 
--- src/lib.rt:142:1
 returns-2 : tie.Need-returns-2
 returns-2 c = kind-unknown ((c .before .before) .args .x) (omega arith)
 

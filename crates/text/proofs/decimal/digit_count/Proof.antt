@@ -1,3 +1,4 @@
+-- `digit_count` meets its contract: what was counted and what is left to count make the whole.
 use Rattle.text.proofs.Numbers.{count-last, count-none, count-on}
 use Rattle.text.specs.Number.{digits, digitsIn}
 use lib.ListN.{length}
@@ -7,8 +8,6 @@ use native.Mathlib.Omega.{arith}
 use borrow.Author.Needs.{needs}
 use Rattle.text.proofs.decimal.digit_count.Statement.{statement}
 use Rattle.text.proofs.decimal.digit_count.Tie as tie
-use Rattle.text.proofs.decimal.digit_count.Reads as reads
-use Rattle.text.proofs.decimal.digit_count.Lts as lts
 
 abbrev Inv-loop : tie.InvT-loop
 Inv-loop n m₀ k₀ m k = (1 ≤ k) × (k ≤ 9) × (k + length (digitsIn (9 - k) m) ≡ 1 + length (digits n))
@@ -16,28 +15,22 @@ Inv-loop n m₀ k₀ m k = (1 ≤ k) × (k ≤ 9) × (k + length (digitsIn (9 - 
 abbrev μ-loop : tie.MeasureT-loop
 μ-loop n m₀ k₀ m k = 9 - k
 
--- src/decimal.rt:75:5
 loop-holds : tie.Need-loop-holds Inv-loop μ-loop
 unfolding digits
 loop-holds c = (omega arith, omega arith, refl)
 
--- src/decimal.rt:77:13
 returns : tie.Need-returns Inv-loop μ-loop
 returns c = omega (arith, count-last (9 - c .before .before .loop .k) (c .before .before .loop .m) (omega arith))
 
--- src/decimal.rt:80:9
 add-k : tie.Need-add-k Inv-loop μ-loop
 add-k c = search needs
 
--- src/decimal.rt:75:5
 loop-less : tie.Need-loop-less Inv-loop μ-loop
 loop-less c = search needs
 
--- src/decimal.rt:75:5
 loop-again : tie.Need-loop-again Inv-loop μ-loop
 loop-again c = (omega arith, omega arith, omega (arith, count-on (9 - c .before .before .loop .k) (9 - (c .before .before .loop .k + 1)) (c .before .before .loop .m) (omega arith) (omega arith)))
 
--- src/decimal.rt:70:1
 returns-2 : tie.Need-returns-2 Inv-loop μ-loop
 returns-2 c = omega (arith, count-none (9 - c .before .loop .k) (c .before .loop .m) (omega arith))
 

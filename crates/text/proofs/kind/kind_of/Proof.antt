@@ -19,7 +19,7 @@ all-within-requires : tie.Need-all-within-requires
 all-within-requires c κs = search needs
 
 kind-place-requires : tie.Need-kind-place-requires
-kind-place-requires c κs = search needs
+kind-place-requires c κs = (omega arith, cc)
 
 cast-t6 : tie.Need-cast-t6
 cast-t6 c =

@@ -1,3 +1,4 @@
+-- `after_lines` meets its contract. The measure is k.
 use borrow.Author.Needs.{needs}
 use mathlib.Core.Path.{_∙_}
 use Rattle.text.proofs.SheetLaws.{lines-none, lines-one}

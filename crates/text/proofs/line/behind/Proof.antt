@@ -1,3 +1,4 @@
+-- `behind` meets its contract.
 use Rattle.text.proofs.Sheets.{part-is}
 use Rattle.text.proofs.Lines.{after-none}
 use Rattle.text.specs.Line.{lineLen}
@@ -8,42 +9,31 @@ use native.Mathlib.Omega.{arith}
 use borrow.Author.Needs.{needs}
 use Rattle.text.proofs.line.behind.Statement.{statement}
 use Rattle.text.proofs.line.behind.Tie as tie
-use Rattle.text.proofs.line.behind.Reads as reads
-use Rattle.text.proofs.line.behind.Lts as lts
 
--- src/line.rt:29:18
 add-at : tie.Need-add-at
 add-at c = search needs
 
--- src/line.rt:30:16
 sub-result : tie.Need-sub-result
 sub-result c = search needs
 
--- src/line.rt:30:16
 part-result-start : tie.Need-part-result-start
 part-result-start c = search needs
 
--- src/line.rt:30:16
 part-result-end : tie.Need-part-result-end
 part-result-end c = search needs
 
--- src/line.rt:30:9
 returns : tie.Need-returns
 returns c = let l = (c .before .before) .args .log .now in let e : (c .before .before) .args .e + 1 ≡ suc (lineLen l) = omega arith in part-is ((c .before .before) .args .e + 1) l ∙ ap (λ (k : ℕ). drop k l) e
 
--- src/line.rt:32:5
 sub-result-2 : tie.Need-sub-result-2
 sub-result-2 c = search needs
 
--- src/line.rt:32:5
 part-result-start-2 : tie.Need-part-result-start-2
 part-result-start-2 c = search needs
 
--- src/line.rt:32:5
 part-result-end-2 : tie.Need-part-result-end-2
 part-result-end-2 c = search needs
 
--- src/line.rt:24:1
 returns-2 : tie.Need-returns-2
 returns-2 c = let l = (c .before .before) .args .log .now in part-is (length l) l ∙ drop-of-length-le l {i = length l} (omega arith) ∙ sym (after-none l (omega arith))
 

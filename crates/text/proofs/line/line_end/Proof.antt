@@ -1,14 +1,13 @@
+-- `line_end` meets its contract: at each place passed, the place and the rest's line make the same end.
 use Rattle.text.proofs.Lines.{line-here, line-on, line-none}
 use Rattle.text.specs.Line.{lineLen}
 use lib.ListN.{length, drop}
 use Prim.Native.Nat.{_+_, _-_, _≤_}
-use mathlib.Core.Path.{_≡_, refl}
+use mathlib.Core.Path.{_≡_}
 use native.Mathlib.Omega.{arith}
 use borrow.Author.Needs.{needs}
 use Rattle.text.proofs.line.line_end.Statement.{statement}
 use Rattle.text.proofs.line.line_end.Tie as tie
-use Rattle.text.proofs.line.line_end.Reads as reads
-use Rattle.text.proofs.line.line_end.Lts as lts
 
 abbrev Inv-loop : tie.InvT-loop
 Inv-loop log i₀ i = (i ≤ length log) × (i + lineLen (drop i log) ≡ lineLen log)
@@ -16,31 +15,24 @@ Inv-loop log i₀ i = (i ≤ length log) × (i + lineLen (drop i log) ≡ lineLe
 abbrev μ-loop : tie.MeasureT-loop
 μ-loop log i₀ i = length log - i
 
--- src/line.rt:14:5
 loop-holds : tie.Need-loop-holds Inv-loop μ-loop
 loop-holds c = (omega arith, omega arith)
 
--- src/line.rt:15:12
 shared-slice-read-if1 : tie.Need-shared-slice-read-if1 Inv-loop μ-loop
 shared-slice-read-if1 c = search needs
 
--- src/line.rt:16:13
 returns : tie.Need-returns Inv-loop μ-loop
 returns c = omega (arith, line-here ((c .before .before .before .before) .args .log .now) (c .before .before .before .loop .i) (search needs) (c .if1 .taken))
 
--- src/line.rt:18:9
 add-i : tie.Need-add-i Inv-loop μ-loop
 add-i c = search needs
 
--- src/line.rt:14:5
 loop-less : tie.Need-loop-less Inv-loop μ-loop
 loop-less c = search needs
 
--- src/line.rt:14:5
 loop-again : tie.Need-loop-again Inv-loop μ-loop
 loop-again c = (search needs, omega (arith, line-on ((c .before .before .before .before) .args .log .now) (c .before .before .before .loop .i) (search needs) (c .if1 .left)))
 
--- src/line.rt:10:1
 returns-2 : tie.Need-returns-2 Inv-loop μ-loop
 returns-2 c = omega (arith, line-none ((c .before .before) .args .log .now) (c .before .loop .i) (search needs) (search needs))
 

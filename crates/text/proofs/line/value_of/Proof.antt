@@ -1,29 +1,22 @@
+-- `value_of` meets its contract.
 use Rattle.text.proofs.Lines.{line-within, value-part}
 use native.Mathlib.Omega.{arith}
 use borrow.Author.Needs.{needs}
 use Rattle.text.proofs.line.value_of.Statement.{statement}
 use Rattle.text.proofs.line.value_of.Tie as tie
-use Rattle.text.proofs.line.value_of.Reads as reads
-use Rattle.text.proofs.line.value_of.Lts as lts
-use Rattle.text.proofs.line.value_start.Reads as value-start-reads
 
--- src/line.rt:88:9
 value-start-requires : tie.Need-value-start-requires
 value-start-requires c κs = omega (arith, line-within ((c .before .before) .args .log .now))
 
--- src/line.rt:89:5
 sub-result : tie.Need-sub-result
 sub-result c = search needs
 
--- src/line.rt:89:5
 part-result-start : tie.Need-part-result-start
 part-result-start c = search needs
 
--- src/line.rt:89:5
 part-result-end : tie.Need-part-result-end
 part-result-end c = omega (arith, line-within ((c .before .before .before) .args .log .now))
 
--- src/line.rt:84:1
 returns : tie.Need-returns
 returns c = value-part ((c .before .before .before .before) .args .key .now) ((c .before .before .before .before) .args .log .now) (c .before .value-start .result) ((c .before .before .before .before) .args .e) (c .before .value-start .ensures .0) (omega arith)
 

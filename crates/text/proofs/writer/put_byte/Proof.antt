@@ -1,3 +1,4 @@
+-- `put_byte` meets its contract.
 use borrow.Author.Needs.{needs}
 use mathlib.Core.Path.{refl}
 use lib.Seq.{set-split}

@@ -1,3 +1,4 @@
+-- `write_line` meets its contract: with too little room nothing changes, else the line is written.
 use Rattle.text.proofs.Sheets.{no-room, with-room}
 use Rattle.text.proofs.Lines.{line-count}
 use Rattle.text.proofs.Numbers.{count-most}
@@ -6,36 +7,25 @@ use native.Mathlib.Omega.{arith}
 use borrow.Author.Needs.{needs}
 use Rattle.text.proofs.writer.write_line.Statement.{statement}
 use Rattle.text.proofs.writer.write_line.Tie as tie
-use Rattle.text.proofs.writer.write_line.Reads as reads
-use Rattle.text.proofs.writer.write_line.Lts as lts
-use Rattle.text.proofs.decimal.digit_count.Reads as digit-count-reads
-use Rattle.text.proofs.writer.write_number_line.Reads as write-number-line-reads
 
--- src/writer.rt:54:9
 returns : tie.Need-returns
 returns c = let s = (c .before .before .before) in let e = line-count (s .args .key .now) (s .args .n) in no-room (numberLine (s .args .key .now) (s .args .n)) (s .args .sheet .now) (omega arith)
 
--- src/writer.rt:56:19
 digit-count-requires : tie.Need-digit-count-requires
 digit-count-requires c κs = search needs
 
--- src/writer.rt:56:19
 add-if2 : tie.Need-add-if2
 add-if2 c = omega (arith, count-most ((c .before .before .before .before) .args .n))
 
--- src/writer.rt:57:9
 returns-2 : tie.Need-returns-2
 returns-2 c = let s = (c .before .before .before .before .before) in let e = line-count (s .args .key .now) (s .args .n) in no-room (numberLine (s .args .key .now) (s .args .n)) (s .args .sheet .now) (omega arith)
 
--- src/writer.rt:59:20
 write-number-line-requires : tie.Need-write-number-line-requires
 write-number-line-requires c κs = omega (arith, line-count ((c .before .before .before .before .before .before) .args .key .now) ((c .before .before .before .before .before .before) .args .n))
 
--- src/writer.rt:46:1
 same-length : tie.Need-same-length
 same-length c = search needs
 
--- src/writer.rt:46:1
 returns-3 : tie.Need-returns-3
 returns-3 c = let s = (c .before .before .before .before .before .before .before .before .before) in let e = line-count (s .args .key .now) (s .args .n) in with-room (omega arith) (c .before .before .write-number-line .ensures)
 
