@@ -1,18 +1,19 @@
 // The text form of document 01: numbers, lines, blocks and entries, the table sheet, and the lines of an answer.
 use paper::Entry;
 
-pub mod decimal;
-pub mod kind;
-pub mod line;
-pub mod reader;
+mod decimal;
+mod kind;
+mod line;
+mod reader;
 pub mod sheet;
-pub mod writer;
+mod writer;
 
 pub use decimal::digit_count;
 pub use kind::entry_of;
 pub use reader::read_block;
 pub use reader::rest;
 pub use writer::put_bytes;
+pub use writer::write_line;
 pub use writer::write_number_line;
 
 // The number that bytes are, or that they are none.
