@@ -9,3 +9,5 @@ pub mod Compare
 pub mod Often
 pub mod Bits
 pub mod Sums
+pub mod Conjunction
+pub mod Parts

@@ -1,5 +1,4 @@
--- Laws of the table sheet.
--- ---- lines used up
+-- Laws of the table sheet: lines used up, all lines good, and that a sheet that was read is a good one. Assumes nothing.
 use mathlib.Core.Path.{_≡_, refl, sym}
 use mathlib.Core.List.{List, []}
 use mathlib.Core.Bool.{Bool, true, false, true≢false}
@@ -16,7 +15,7 @@ use Rattle.text.specs.Line.{afterLine, lineNumber}
 use Rattle.text.specs.Block.{afterLines}
 use Rattle.paper.specs.Paper.{between, isSheet}
 use Rattle.paper.proofs.Codes.{between-in}
-use Rattle.text.specs.TableSheet.{sheetKeys, sheetFrom, sheetTo, ranged, sheetNumber, isValue, valueIn, allGood, sheetWith, sheetOf}
+use Rattle.text.specs.TableSheet.{sheetLines, sheetKeys, sheetFrom, sheetTo, ranged, sheetNumber, isValue, valueIn, allGood, sheetWith, sheetOf}
 use Rattle.text.specs.declared.Number.{Number}
 use Rattle.text.specs.declared.Number.the-variants.{Value, Bad}
 use Rattle.paper.specs.declared.Sheet.{Sheet}
@@ -68,15 +67,15 @@ good-each (suc n) k l h e =
 -- ---- the three answers of reading a sheet
 
 module _ (l : List ℕ) where
-  pub sheet-bad : allGood 5 l ≡ false → sheetOf l ≡ opening.Bad
+  pub sheet-bad : allGood sheetLines l ≡ false → sheetOf l ≡ opening.Bad
   unfolding sheetOf
   sheet-bad e = rw e
 
-  pub sheet-crossed : allGood 5 l ≡ true → leb (sheetWith l .small) (sheetWith l .big) ≡ false → sheetOf l ≡ opening.Bad
+  pub sheet-crossed : allGood sheetLines l ≡ true → leb (sheetWith l .small) (sheetWith l .big) ≡ false → sheetOf l ≡ opening.Bad
   unfolding sheetOf sheetWith
   sheet-crossed e f = rw (e, f)
 
-  pub sheet-good : allGood 5 l ≡ true → leb (sheetWith l .small) (sheetWith l .big) ≡ true → sheetOf l ≡ opening.Read (sheetWith l)
+  pub sheet-good : allGood sheetLines l ≡ true → leb (sheetWith l .small) (sheetWith l .big) ≡ true → sheetOf l ≡ opening.Read (sheetWith l)
   unfolding sheetOf sheetWith
   sheet-good e f = rw (e, f)
 
@@ -90,15 +89,15 @@ pub record InRange (s : Sheet) : Type 0 where
 
 pub sheet-ranged : (l : List ℕ) (s : Sheet) → sheetOf l ≡ opening.Read s → InRange s
 unfolding sheetOf sheetWith
-sheet-ranged l s e = go (both (allGood 5 l) (leb (valueIn (sheetNumber 1 l)) (valueIn (sheetNumber 2 l)))) refl e
+sheet-ranged l s e = go (both (allGood sheetLines l) (leb (valueIn (sheetNumber 1 l)) (valueIn (sheetNumber 2 l)))) refl e
   where
-    go : (t : Bool) → both (allGood 5 l) (leb (valueIn (sheetNumber 1 l)) (valueIn (sheetNumber 2 l))) ≡ t → pick t (opening.Read (sheetWith l)) opening.Bad ≡ opening.Read s → InRange s
+    go : (t : Bool) → both (allGood sheetLines l) (leb (valueIn (sheetNumber 1 l)) (valueIn (sheetNumber 2 l))) ≡ t → pick t (opening.Read (sheetWith l)) opening.Bad ≡ opening.Read s → InRange s
     go false w v = let z : _≡_ {A = ℕ} 0 1 = cc in absurd (omega arith)
     go true w v =
-        let p = both-true (allGood 5 l) (leb (valueIn (sheetNumber 1 l)) (valueIn (sheetNumber 2 l))) w in
+        let p = both-true (allGood sheetLines l) (leb (valueIn (sheetNumber 1 l)) (valueIn (sheetNumber 2 l))) w in
         let m : sheetWith l ≡ s = cc in
-        let each : (k : ℕ) → k < 5 → (getD sheetFrom k 0 ≤ valueIn (sheetNumber k l)) × (valueIn (sheetNumber k l) ≤ getD sheetTo k 0) =
-        λ k h. number-ranged k l (good-each 5 k l h (p .0)) in
+        let each : (k : ℕ) → k < sheetLines → (getD sheetFrom k 0 ≤ valueIn (sheetNumber k l)) × (valueIn (sheetNumber k l) ≤ getD sheetTo k 0) =
+        λ k h. number-ranged k l (good-each sheetLines k l h (p .0)) in
         let r : InRange (sheetWith l) = record {
           seats = each 0 (omega arith);
           small = each 1 (omega arith);
@@ -114,3 +113,26 @@ unfolding isSheet
 sheet-is l s e =
     let r = sheet-ranged l s e in
     rw (le-leb 2 (s .seats) (r .seats .0), le-leb (s .seats) 10 (r .seats .1), le-leb 1 (s .small) (r .small .0), le-leb (s .small) (s .big) (r .big .0), le-leb (s .big) 10000 (r .big .1), le-leb (s .rate) 100 (r .rate), le-leb (s .cap) 1000000 (r .cap))
+
+-- and each number of a good sheet is in its range
+pub good-ranged : (s : Sheet) → isSheet s ≡ true → InRange s
+unfolding isSheet
+good-ranged s h =
+    let seats = between 2 10 (s .seats) in
+    let blinds = both (leb 1 (s .small)) (both (leb (s .small) (s .big)) (leb (s .big) 10000)) in
+    let fees = both (leb (s .rate) 100) (leb (s .cap) 1000000) in
+    let p = both-true seats (both blinds fees) h in
+    let q = both-true blinds fees (p .1) in
+    let b = both-true (leb 1 (s .small)) (both (leb (s .small) (s .big)) (leb (s .big) 10000)) (q .0) in
+    let c = both-true (leb (s .small) (s .big)) (leb (s .big) 10000) (b .1) in
+    let f = both-true (leb (s .rate) 100) (leb (s .cap) 1000000) (q .1) in
+    let least : 1 ≤ s .small = leb-true _ _ (b .0) in
+    let order : s .small ≤ s .big = leb-true _ _ (c .0) in
+    let most : s .big ≤ 10000 = leb-true _ _ (c .1) in
+    record {
+      seats = between-in 2 10 (s .seats) (p .0);
+      small = (least, omega arith);
+      big = (order, most);
+      rate = leb-true _ _ (f .0);
+      cap = leb-true _ _ (f .1);
+    }

@@ -1,15 +1,11 @@
 // The table sheet: its lines, by a table of keys and ranges.
 use crate::Number;
-use crate::after_line;
-use crate::read_key_number;
+use crate::line::after_lines;
+use crate::line::read_key_number;
 use paper::Sheet;
 ghost use mathlib.Core.Path.{_≡_};
-ghost use mathlib.Core.List.{[]};
-ghost use Prim.Native.Nat.{ℕ, _+_, _-_, _≤_, _<_};
-ghost use lib.ListN.{getD};
-ghost use Rattle.text.specs.Line.{lineNumber};
-ghost use Rattle.text.specs.Block.{afterLines};
-ghost use Rattle.text.specs.TableSheet.{sheetKeys, ranged, sheetNumber, isValue, valueIn, allGood, sheetOf, sheetEnd, sheetWith};
+ghost use Prim.Native.Nat.{_<_};
+ghost use Rattle.text.specs.TableSheet.{sheetLines, ranged, sheetNumber, isValue, valueIn, allGood, sheetOf, sheetEnd, sheetWith};
 
 // A sheet, or that one of its lines is missing, malformed or out of its range: code 11.
 pub enum Opening {
@@ -17,37 +13,49 @@ pub enum Opening {
     Bad,
 }
 
-// How many lines a sheet has, their keys one behind the other, where each starts, and their ranges.
+// How many lines a sheet has.
 const LINES: usize = 5;
 
-const KEY_TEXT: [u8; 20] = *b"seatssmallbigratecap";
-
-const KEY_ENDS: [usize; 6] = [0, 5, 10, 13, 17, 20];
-
-const FROM: [u32; 5] = [2, 1, 1, 0, 0];
-
-const TO: [u32; 5] = [10, 10000, 10000, 100, 1000000];
-
-// What is left of a log once k lines are read.
-pub fn after_lines(log: &[u8], k: usize) -> &[u8]
-    ensures { λ r. ⌜ now r ≡ afterLines k (now (log .entry)) ⌝ }
-{
-    if k == 0 {
-        return log;
-    }
-    after_lines(after_line(log), k - 1)
+// A line of the sheet: the letters of its key and how many they are, and the least and the greatest number that it may have.
+struct SheetLine {
+    key: [u8; 5],
+    letters: usize,
+    least: u32,
+    most: u32,
 }
 
-// The number of a log's first line, where that has the k-th key.
-fn key_number(log: &[u8], k: usize) -> Number
-    requires { ⌜ k < 5 ⌝ }
-    ensures { λ r. ⌜ r ≡ lineNumber (getD sheetKeys k []) (now (log .entry)) ⌝ }
-{
-    let text = KEY_TEXT;
-    let from = KEY_ENDS[k];
-    let to = KEY_ENDS[k + 1];
-    read_key_number(log, &text[from..to])
-}
+const TABLE: [SheetLine; LINES] = [
+    SheetLine {
+        key: *b"seats",
+        letters: 5,
+        least: 2,
+        most: 10,
+    },
+    SheetLine {
+        key: *b"small",
+        letters: 5,
+        least: 1,
+        most: 10000,
+    },
+    SheetLine {
+        key: *b"big  ",
+        letters: 3,
+        least: 1,
+        most: 10000,
+    },
+    SheetLine {
+        key: *b"rate ",
+        letters: 4,
+        least: 0,
+        most: 100,
+    },
+    SheetLine {
+        key: *b"cap  ",
+        letters: 3,
+        least: 0,
+        most: 1000000,
+    },
+];
 
 // A number where it is in a range.
 fn in_row(x: Number, from: u32, to: u32) -> Number
@@ -67,10 +75,14 @@ fn in_row(x: Number, from: u32, to: u32) -> Number
 
 // The number of the sheet's k-th line, where it is in its range.
 fn sheet_number(log: &[u8], k: usize) -> Number
-    requires { ⌜ k < 5 ⌝ }
+    requires { ⌜ k < sheetLines ⌝ }
     ensures { λ r. ⌜ r ≡ sheetNumber k (now (log .entry)) ⌝ }
 {
-    in_row(key_number(after_lines(log, k), k), FROM[k], TO[k])
+    let row = TABLE[k];
+    let key = row.key;
+    let letters = row.letters;
+    let x = read_key_number(after_lines(log, k), &key[0..letters]);
+    in_row(x, row.least, row.most)
 }
 
 fn is_value(x: Number) -> bool
@@ -93,7 +105,7 @@ fn value_in(x: Number) -> u32
 
 // Whether each of the sheet's lines is good.
 fn all_good(log: &[u8]) -> bool
-    ensures { λ r. ⌜ r ≡ allGood 5 (now (log .entry)) ⌝ }
+    ensures { λ r. ⌜ r ≡ allGood sheetLines (now (log .entry)) ⌝ }
 {
     let mut k: usize = 0;
     while k < LINES {
@@ -107,7 +119,7 @@ fn all_good(log: &[u8]) -> bool
 }
 
 fn value_at(log: &[u8], k: usize) -> u32
-    requires { ⌜ k < 5 ⌝ }
+    requires { ⌜ k < sheetLines ⌝ }
     ensures { λ r. ⌜ r ≡ valueIn (sheetNumber k (now (log .entry))) ⌝ }
 {
     value_in(sheet_number(log, k))

@@ -1,0 +1,58 @@
+-- The code's table of sheet lines is the paper's: at each line, by a test that antt computes. Assumes nothing.
+use mathlib.Core.Path.{_≡_, refl, _∙_}
+use mathlib.Core.List.{List, [], _∷_}
+use mathlib.Core.Bool.{Bool, true}
+use Prim.Native.Nat.{ℕ, _-_, _≤_, _<_}
+use lib.ListN.{length, getD, take}
+use lib.Dec.{leb, eqb}
+use borrow.Author.Tests.{leb-true, eqb-true}
+use Rattle.laws.specs.Tests.{both}
+use Rattle.laws.proofs.Tests.{both-true}
+use Rattle.laws.proofs.Rules.{allBelow, below-all}
+use Rattle.text.specs.Line.{lineNumber}
+use Rattle.text.specs.Block.{eqList, afterLines}
+use Rattle.text.specs.declared.Number.{Number}
+use Rattle.text.specs.TableSheet.{sheetLines, sheetKeys, sheetFrom, sheetTo, ranged, sheetNumber}
+use Rattle.text.specs.declared.sheet.SheetLine.{SheetLine}
+use Rattle.text.proofs.Blocks.{eq-list}
+
+abbrev line : List ℕ → ℕ → ℕ → ℕ → SheetLine
+line key letters least most = record { key = key; letters = letters; least = least; most = most }
+
+abbrev pub table : List SheetLine
+table =
+    line (115 ∷ 101 ∷ 97 ∷ 116 ∷ 115 ∷ []) 5 2 10
+    ∷ line (115 ∷ 109 ∷ 97 ∷ 108 ∷ 108 ∷ []) 5 1 10000
+    ∷ line (98 ∷ 105 ∷ 103 ∷ 32 ∷ 32 ∷ []) 3 1 10000
+    ∷ line (114 ∷ 97 ∷ 116 ∷ 101 ∷ 32 ∷ []) 4 0 100
+    ∷ line (99 ∷ 97 ∷ 112 ∷ 32 ∷ 32 ∷ []) 3 0 1000000
+    ∷ []
+
+abbrev pub at : ℕ → SheetLine
+at k = getD table k (line [] 0 0 0)
+
+abbrev right : ℕ → Bool
+right k =
+    both (leb (at k .letters) (length (at k .key)))
+    (both (eqList (take (at k .letters - 0) (at k .key)) (getD sheetKeys k []))
+    (both (eqb (at k .least) (getD sheetFrom k 0)) (eqb (at k .most) (getD sheetTo k 0))))
+
+all-right : allBelow sheetLines right ≡ true
+all-right = refl
+
+-- the key fits its place, its letters are the paper's key, and the range is the paper's
+pub row : (k : ℕ) → k < sheetLines → (at k .letters ≤ length (at k .key)) × (take (at k .letters - 0) (at k .key) ≡ getD sheetKeys k [])
+    × (at k .least ≡ getD sheetFrom k 0) × (at k .most ≡ getD sheetTo k 0)
+row k h =
+    let p = both-true _ _ (below-all sheetLines right all-right k h) in
+    let q = both-true _ _ (p .1) in
+    let r = both-true _ _ (q .1) in
+    (leb-true _ _ (p .0), eq-list _ _ (q .0), eqb-true _ _ (r .0), eqb-true _ _ (r .1))
+
+-- what the reading of a line and the test of its range answered
+pub number-said : (k : ℕ) (log : List ℕ) {rest : List ℕ} {x r : Number} → k < sheetLines → rest ≡ afterLines k log
+    → x ≡ lineNumber (take (at k .letters - 0) (at k .key)) rest → r ≡ ranged (at k .least) (at k .most) x → r ≡ sheetNumber k log
+unfolding sheetNumber
+number-said k log h e f g =
+    let p = row k h in
+    g ∙ rw (f, e, p .1, p .2, p .3)
