@@ -2,11 +2,3 @@ pub mod Laws
 pub mod Turns
 pub mod Numbers
 pub mod Sounds
-pub mod Over
-pub mod Told
-pub mod Noted
-pub mod Clerk
-pub mod BySitting
-pub mod Demand
-pub mod Shown
-pub mod Examples

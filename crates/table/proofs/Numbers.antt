@@ -18,7 +18,7 @@ use Rattle.table.specs.Acts.{foldedTo, checkedTo, calledTo, wageredTo, s
 use Rattle.table.specs.Settle.{settledTo, payoutNow}
 use Rattle.table.specs.Take.{appliedTo}
 use Rattle.table.specs.declared.table.Table.{Table}
-use Rattle.table.proofs.Over.{all-at, all-put, all-map}
+use Rattle.chairs.proofs.Over.{all-at, all-put, all-map}
 
 pub none-numbered : (k n : ℕ) → All (Numbered k) (replicate n noChair)
 none-numbered k zero = tt

@@ -20,17 +20,17 @@ use Rattle.pots.specs.Heights.{has}
 use Rattle.pots.proofs.Contest.{has-none}
 use Rattle.pots.proofs.Hands.{map-length}
 use Rattle.pots.proofs.Bounds.{bitAt, live-at, mask-bit, reach, reach-zero, due-at-most}
 use Rattle.table.specs.Table.{seatOf, nextChips, withTaken, withCard, afterAct}
 use Rattle.table.specs.Acts.{foldedTo, checkedTo, calledTo, wageredTo, satTo, leftTo, deadTo, heldTo, boardedTo, openedTo, postedTo, newRound}
 use Rattle.table.specs.Settle.{settledTo, payoutNow, totalsOf, livesOf, hereOf, scoreOf, scoresOf, dueNow}
 use Rattle.table.specs.Take.{Sound, kindCode, codeOf, appliedTo, nextOf}
-use Rattle.table.specs.History.{run, AllTaken, by, posts, blinds, hasChips, Note, nothing, puts, givesUp, noted, noteOf, sitsIn, sits}
+use Rattle.history.specs.History.{run, AllTaken, by, posts, blinds, hasChips, Note, nothing, puts, givesUp, noted, noteOf, sitsIn, sits}
 use Rattle.table.specs.declared.table.Table.{Table}
 use Rattle.table.proofs.Numbers.{none-numbered}
-use Rattle.table.proofs.Over.{sumOver, over-zero, map-at, All, all-map, paid-stack, paid-dealt, all-at}
-use Rattle.table.proofs.Told.{ChairOk, no-ok, ok-at, ok-acts, ok-fold, ok-hold, ok-round, ok-pays, Fresh, deal-fresh, fresh-post, dealer, sitter, live-some, turn-live, call-live, wager-live, wager-fits, dead-live, sit-empty, leave-dead}
-use Rattle.table.proofs.Noted.{Seated, Notes, seated-put, seated-map, notes-put, notes-again, notes-round, notes-fold, notes-pay, round-at, seated-sit, seated-leave, seated-close, notes-close, seated-deal, notes-deal}
+use Rattle.chairs.proofs.Over.{sumOver, over-zero, map-at, All, all-map, paid-stack, paid-dealt, all-at}
+use Rattle.history.proofs.Told.{ChairOk, no-ok, ok-at, ok-acts, ok-fold, ok-hold, ok-round, ok-pays, Fresh, deal-fresh, fresh-post, dealer, sitter, live-some, turn-live, call-live, wager-live, wager-fits, dead-live, sit-empty, leave-dead}
+use Rattle.history.proofs.Noted.{Seated, Notes, seated-put, seated-map, notes-put, notes-again, notes-round, notes-fold, notes-pay, round-at, seated-sit, seated-leave, seated-close, notes-close, seated-deal, notes-deal}
 use Rattle.table.proofs.Sounds.{passed, sound-taken}
 use Rattle.chairs.specs.declared.What.the-variants as what
 
 pub record Told (k : ℕ) (n : ℕ → Note) (cs : List Chair) : Type 0 where
