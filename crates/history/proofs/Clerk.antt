@@ -20,15 +20,25 @@ use Rattle.pots.specs.Heights.{has}
 use Rattle.pots.proofs.Contest.{has-none}
 use Rattle.pots.proofs.Hands.{map-length}
 use Rattle.pots.proofs.Bounds.{bitAt, live-at, mask-bit, reach, reach-zero, due-at-most}
-use Rattle.table.specs.Table.{seatOf, nextChips, withTaken, withCard, afterAct}
-use Rattle.table.specs.Acts.{foldedTo, checkedTo, calledTo, wageredTo, satTo, leftTo, deadTo, heldTo, boardedTo, openedTo, postedTo, newRound}
+use Rattle.table.specs.State.{seatOf, withTaken, withCard}
+use Rattle.table.specs.Betting.{afterAct, foldedTo, checkedTo, calledTo, wageredTo, deadTo, newRound}
+use Rattle.table.specs.Sittings.{satTo, leftTo}
+use Rattle.table.specs.Opening.{nextDealtIn, openedTo, postedTo}
+use Rattle.table.specs.Dealing.{heldTo, boardedTo}
 use Rattle.table.specs.Settle.{settledTo, payoutNow, totalsOf, livesOf, hereOf, scoreOf, scoresOf, dueNow}
 use Rattle.table.specs.Take.{Sound, kindCode, codeOf, appliedTo, nextOf}
 use Rattle.history.specs.History.{run, AllTaken, by, posts, blinds, hasChips, Note, nothing, puts, givesUp, noted, noteOf, sitsIn, sits}
 use Rattle.table.specs.declared.table.Table.{Table}
 use Rattle.table.proofs.Numbers.{none-numbered}
 use Rattle.chairs.proofs.Over.{sumOver, over-zero, map-at, All, all-map, paid-stack, paid-dealt, all-at}
-use Rattle.history.proofs.Told.{ChairOk, no-ok, ok-at, ok-acts, ok-fold, ok-hold, ok-round, ok-pays, Fresh, deal-fresh, fresh-post, dealer, sitter, live-some, turn-live, call-live, wager-live, wager-fits, dead-live, sit-empty, leave-dead}
+use Rattle.table.specs.Standing.{ChairOk, Standing}
+use Rattle.table.proofs.ChairsOk.{no-ok, ok-at, ok-acts, ok-fold, ok-hold, ok-round, ok-pays, Fresh, deal-fresh, fresh-post, live-some}
+use Rattle.table.proofs.Codes.{turn-live, call-live, wager-live, wager-fits, dead-live, sit-empty, leave-dead}
+use Rattle.table.proofs.Closing.{ok-close, paid-none}
+use Rattle.table.proofs.Standing.{standing-fresh, standing-next}
+use Rattle.table.proofs.Reached.{big-blind-other}
+use Rattle.chairs.proofs.Clockwise.{put-other}
+use Rattle.history.proofs.Told.{dealer, sitter}
 use Rattle.history.proofs.Noted.{Seated, Notes, seated-put, seated-map, notes-put, notes-again, notes-round, notes-fold, notes-pay, round-at, seated-sit, seated-leave, seated-close, notes-close, seated-deal, notes-deal}
 use Rattle.table.proofs.Sounds.{passed, sound-taken}
 use Rattle.chairs.specs.declared.What.the-variants as what
@@ -102,11 +112,11 @@ dealt-pays c s v p h = go (ltb 0 (c .stack)) refl
     go true q = refl
     go false q = let z = h (omega (arith, ltb-false 0 (c .stack) q)) in nil (eqb (c .sitting) s) z ∙ sym (nil (eqb 0 s) z)
 
-told-hand : (k : ℕ) (n : ℕ → Note) (t : Table) (p : ℕ) → Told k n (t .chairs) → Told k (λ s. noted t (Hand p) s (n s)) (openedTo t p .chairs)
+told-hand : (k : ℕ) (n : ℕ → Note) (t : Table) (p : ℕ) → (p ≡ nextDealtIn t p → ⊥) → Told k n (t .chairs) → Told k (λ s. noted t (Hand p) s (n s)) (openedTo t p .chairs)
 unfolding openedTo postedTo blinds by
-told-hand k n t p h =
+told-hand k n t p other h =
     let cs0 = map dealtOf (t .chairs) in
-    let q = nextChips t p in
+    let q = nextDealtIn t p in
     let small = t .sheet .small in
     let big = t .sheet .big in
     let n0 : ℕ → Note = λ s. record { put = 0; round = 0; live = hasChips t s } in
@@ -114,17 +124,15 @@ told-hand k n t p h =
     let t0 : Told k n0 cs0 = record { seated = seated-deal k (t .chairs) (h .seated) f0; notes = notes-deal k t (h .seated) } in
     let atp : chairAt cs0 p ≡ dealtOf (seatOf t p) = map-at dealtOf (t .chairs) p refl in
     let atq : chairAt cs0 q ≡ dealtOf (seatOf t q) = map-at dealtOf (t .chairs) q refl in
-    let v1 = posts t p small 0 in
+    let v1 = posts t p small in
     let w1 : ℕ → ℕ = λ s. by t p s v1 in
     let same1 : v1 ≡ min small (chairAt cs0 p .stack) = omega (arith, ap (λ (c : Chair). c .stack) atp) in
     let cs1 = putAt cs0 p (paidOf (chairAt cs0 p) small) in
     let t1 : Told k (λ s. puts (n0 s) (w1 s)) cs1 = told-post k n0 w1 cs0 p small t0 f0
     (λ s z. dealt-pays (seatOf t p) s v1 z (λ e. omega (arith, e)) ∙ ap₂ (λ (c : Chair) (v : ℕ). pick (eqb (dealer c) s) v 0) (sym atp) same1) in
-    let gone = pick (eqb p q) v1 0 in
-    let v2 = posts t q big gone in
+    let v2 = posts t q big in
     let w2 : ℕ → ℕ = λ s. by t q s v2 in
-    let st : chairAt cs1 q .stack ≡ seatOf t q .stack - gone =
-    paid-stack cs0 p q small ∙ ap₂ (λ (a b : ℕ). a - pick (eqb p q) b 0) (ap (λ (c : Chair). c .stack) atq) (sym same1) in
+    let st : chairAt cs1 q .stack ≡ seatOf t q .stack = ap (λ (c : Chair). c .stack) (put-other cs0 p q (paidOf (chairAt cs0 p) small) other ∙ atq) in
     let t2 : Told k (λ s. puts (puts (n0 s) (w1 s)) (w2 s)) (putAt cs1 q (paidOf (chairAt cs1 q) big)) = told-post k (λ s. puts (n0 s) (w1 s)) w2 cs1 q big t1 (fresh-post cs0 p small f0)
     (λ s z. dealt-pays (seatOf t q) s v2 z (λ e. omega (arith, e))
     ∙ ap₂ (λ (d v : ℕ). pick (eqb d s) v 0) (sym (paid-dealt cs0 p q small ∙ ap dealer atq)) (ap (λ (v : ℕ). min big v) (sym st))) in
@@ -178,84 +186,6 @@ told-board k n t c h = go (leb 3 (t .board .count + 1))
     go false = record { seated = h .seated; notes = record { put = h .notes .put; round = h .notes .round; live = h .notes .live } }
 
 -- ---- a hand is settled
-no-chair-length : (cs : List Chair) (x : ℕ) (d : Chair) → length (putAt cs x d) ≡ length cs
-no-chair-length cs zero d = refl
-no-chair-length cs (suc k) d = length-set cs k d
-
-close-length : (cs : List Chair) (ps : List ℕ) → length (closeAll cs ps) ≡ length cs
-close-length [] ps = refl
-close-length (c ∷ cs) [] = ap suc (close-length cs [])
-close-length (c ∷ cs) (p ∷ ps) = ap suc (close-length cs ps)
-
--- an entry leaves as many chairs as there were
-pub size-applied : (t : Table) (e : Entry) → length (appliedTo t e .chairs) ≡ length (t .chairs)
-unfolding satTo leftTo openedTo postedTo heldTo foldedTo checkedTo calledTo wageredTo boardedTo newRound deadTo settledTo afterAct
-size-applied t (Sit x a) = no-chair-length (t .chairs) x _
-size-applied t (Leave x) = no-chair-length (t .chairs) x _
-size-applied t (Hand p) = no-chair-length _ (nextChips t p) _ ∙ no-chair-length _ p _ ∙ map-length dealtOf (t .chairs)
-size-applied t (Hole x a b) = no-chair-length (t .chairs) x _
-size-applied t (Fold x) = no-chair-length (t .chairs) x _
-size-applied t (Check x) = no-chair-length (t .chairs) x _
-size-applied t (Call x) = no-chair-length (t .chairs) x _
-size-applied t (Wager x a) = no-chair-length _ x _ ∙ map-length againOf (t .chairs)
-size-applied t (Board k) = go (leb 3 (t .board .count + 1))
-  where
-    go : (b : Bool) → length (pick b (newRound (withCard t k)) (withCard t k) .chairs) ≡ length (t .chairs)
-    go true = map-length roundedOf (t .chairs)
-    go false = refl
-size-applied t (Dead x) = no-chair-length (t .chairs) x _
-size-applied t Settle = close-length (t .chairs) (payoutNow t .paid)
-size-applied t Void = refl
-
-pub col-at : (f : Chair → ℕ) (cs : List Chair) (i : ℕ) → i < length cs → getD (map f cs) i 0 ≡ f (getD cs i noChair)
-col-at f [] i l = absurd (omega arith)
-col-at f (c ∷ cs) zero l = refl
-col-at f (c ∷ cs) (suc i) l = col-at f cs i (omega arith)
-
-ok-place : (cs : List Chair) (i : ℕ) → All ChairOk cs → ChairOk (getD cs i noChair)
-ok-place cs i a = ok-at cs (suc i) a
-
--- no sitting is due more than the sum of min(its total, theirs)
-pub due-reach : (t : Table) (i : ℕ) → length (t .chairs) ≡ 10 → t .play .puck ≤ 10 → i < 10 → getD (dueNow t) i 0 ≤ reach (totalsOf t) (getD (totalsOf t) i 0)
-due-reach t i n k l =
-    let lt = map-length (columnOf what.Total) (t .chairs) in
-    let ls = map-length (scoreOf (t .board)) (t .chairs) in
-    due-at-most (totalsOf t) (livesOf t) (scoresOf t) (t .sheet .rate) (t .sheet .cap) (t .play .puck) i (ls ∙ sym lt) (omega arith) (omega arith)
-
--- nothing is due to a seat where nobody was dealt in, and nothing paid where the sitting dealt in has left
-paid-none : (t : Table) (i : ℕ) → All ChairOk (t .chairs) → length (t .chairs) ≡ 10 → t .play .puck ≤ 10 → i < 10 → getD (t .chairs) i noChair .sitting ≡ 0 → getD (payoutNow t .paid) i 0 ≡ 0
-unfolding payoutNow
-paid-none t i a n k l e = live-at (dueNow t) (hereOf t) i ∙ go (eqb (dealer c) 0) refl
-  where
-    c : Chair
-    c = getD (t .chairs) i noChair
-
-    nil : (b : Bool) (v : ℕ) → v ≡ 0 → pick b v 0 ≡ 0
-    nil true v z = z
-    nil false v z = refl
-
-    go : (b : Bool) → eqb (getD (t .chairs) i noChair .dealt .sitting) 0 ≡ b → pick (eqb (bitAt (hereOf t) i) 1) (getD (dueNow t) i 0) 0 ≡ 0
-    go true q =
-        let z : getD (totalsOf t) i 0 ≡ 0 = col-at (columnOf what.Total) (t .chairs) i (omega arith) ∙ ok-place (t .chairs) i a .none (eqb-true _ 0 q) in
-        let d = due-reach t i n k l in
-        nil (eqb (bitAt (hereOf t) i) 1) (getD (dueNow t) i 0) (omega (arith, ap (reach (totalsOf t)) z, reach-zero (totalsOf t)))
-    go false q =
-        let away : eqb (getD (t .chairs) i noChair .sitting) (getD (t .chairs) i noChair .dealt .sitting) ≡ false = ne-eqb _ _ (λ z. eqb-false _ 0 q (sym z ∙ e)) in
-        let h : getD (map (columnOf what.Here) (t .chairs)) i 0 ≡ 0 = col-at (columnOf what.Here) (t .chairs) i (omega arith) ∙ ap one away in
-        let z : bitAt (hereOf t) i ≡ 0 = mask-bit (map (columnOf what.Here) (t .chairs)) 1 i (omega arith) ∙ ap (λ v. has v 1) h ∙ has-none 0 1 (omega arith) in
-        ap (λ b. pick b (getD (dueNow t) i 0) 0) (ne-eqb (bitAt (hereOf t) i) 1 (λ y. omega arith))
-
-ok-close : (cs : List Chair) (ps : List ℕ) → All ChairOk cs → ((i : ℕ) → i < length cs → getD cs i noChair .sitting ≡ 0 → getD ps i 0 ≡ 0) → All ChairOk (closeAll cs ps)
-ok-close [] ps a h = tt
-ok-close (c ∷ cs) [] a h = (one-closed c 0 (a .0) (λ e. refl), ok-close cs [] (a .1) (λ i l e. refl))
-  where
-    one-closed : (c : Chair) (p : ℕ) → ChairOk c → (c .sitting ≡ 0 → p ≡ 0) → ChairOk (closedOf c p)
-    one-closed c p o z = record { start = omega arith; none = λ e. refl; dead = λ e. refl; here = λ l. absurd (false≢true l); empty = λ e. omega (arith, o .empty e, z e) }
-ok-close (c ∷ cs) (p ∷ ps) a h = (one-closed c p (a .0) (h 0 (omega arith)), ok-close cs ps (a .1) (λ i l e. h (suc i) (omega arith) e))
-  where
-    one-closed : (c : Chair) (p : ℕ) → ChairOk c → (c .sitting ≡ 0 → p ≡ 0) → ChairOk (closedOf c p)
-    one-closed c p o z = record { start = omega arith; none = λ e. refl; dead = λ e. refl; here = λ l. absurd (false≢true l); empty = λ e. omega (arith, o .empty e, z e) }
-
 told-settle : (k : ℕ) (n : ℕ → Note) (t : Table) → Told k n (t .chairs) → length (t .chairs) ≡ 10 → t .play .puck ≤ 10 → Told k (λ s. noted t Settle s (n s)) (settledTo t .chairs)
 unfolding settledTo
 told-settle k n t h len p =
@@ -293,29 +223,29 @@ sits-settle t = refl
 as-many : (t u : Table) (n : ℕ → Note) → u .sittings ≡ t .sittings → Told (t .sittings) n (u .chairs) → Told (u .sittings) n (u .chairs)
 as-many t u n e h = subst (λ (k : ℕ). Told k n (u .chairs)) (sym e) h
 
-told-applied : (n : ℕ → Note) (t : Table) (e : Entry) → Told (t .sittings) n (t .chairs) → length (t .chairs) ≡ 10 → t .play .puck ≤ 10 → kindCode t e ≡ 0
+told-applied : (n : ℕ → Note) (t : Table) (e : Entry) → Told (t .sittings) n (t .chairs) → Standing t → t .play .puck ≤ 10 → kindCode t e ≡ 0
     → Told (appliedTo t e .sittings) (λ s. noted t e s (n s)) (appliedTo t e .chairs)
 unfolding satTo leftTo heldTo foldedTo checkedTo deadTo afterAct
-told-applied n t (Sit x a) h len p q =
+told-applied n t (Sit x a) h st p q =
     record {
       seated = seated-sit (t .sittings) (t .chairs) x a (h .seated) (sit-empty t x a q);
       notes = notes-put n (t .chairs) x (seatedOf (seatOf t x) (t .sittings + 1) a) (h .notes) (λ s. refl) (λ s. refl) (λ s. refl);
     }
-told-applied n t (Leave x) h len p q =
+told-applied n t (Leave x) h st p q =
     record {
       seated = seated-leave (t .sittings) (t .chairs) x (h .seated) (leave-dead t x q);
       notes = notes-put n (t .chairs) x (seatedOf (seatOf t x) 0 0) (h .notes) (λ s. refl) (λ s. refl) (λ s. refl);
     }
-told-applied n t (Hand x) h len p q = as-many t (openedTo t x) _ (sits-open t x) (told-hand (t .sittings) n t x h)
-told-applied n t (Hole x a b) h len p q = told-same (t .sittings) n t x (heldOf (seatOf t x) a b) h (ok-hold (seatOf t x) a b (ok-at (t .chairs) x (h .seated .ok))) refl refl
-told-applied n t (Fold x) h len p q = told-fold (t .sittings) n t x h (turn-live t x q)
-told-applied n t (Check x) h len p q = told-check (t .sittings) n t x h
-told-applied n t (Call x) h len p q = as-many t (calledTo t x) _ (sits-call t x) (told-call (t .sittings) n t x h (call-live t x q))
-told-applied n t (Wager x a) h len p q = as-many t (wageredTo t x a) _ (sits-wager t x a) (told-wager (t .sittings) n t x a h (wager-live t x a q) (wager-fits t x a q))
-told-applied n t (Board k) h len p q = as-many t (boardedTo t k) _ (sits-board t k) (told-board (t .sittings) n t k h)
-told-applied n t (Dead x) h len p q = told-fold (t .sittings) n t x h (dead-live t x q)
-told-applied n t Settle h len p q = as-many t (settledTo t) _ (sits-settle t) (told-settle (t .sittings) n t h len p)
-told-applied n t Void h len p q = absurd (omega arith)
+told-applied n t (Hand x) h st p q = as-many t (openedTo t x) _ (sits-open t x) (told-hand (t .sittings) n t x (λ e. big-blind-other t x st q (sym e)) h)
+told-applied n t (Hole x a b) h st p q = told-same (t .sittings) n t x (heldOf (seatOf t x) a b) h (ok-hold (seatOf t x) a b (ok-at (t .chairs) x (h .seated .ok))) refl refl
+told-applied n t (Fold x) h st p q = told-fold (t .sittings) n t x h (turn-live t x q)
+told-applied n t (Check x) h st p q = told-check (t .sittings) n t x h
+told-applied n t (Call x) h st p q = as-many t (calledTo t x) _ (sits-call t x) (told-call (t .sittings) n t x h (call-live t x q))
+told-applied n t (Wager x a) h st p q = as-many t (wageredTo t x a) _ (sits-wager t x a) (told-wager (t .sittings) n t x a h (wager-live t x a q) (wager-fits t x a q))
+told-applied n t (Board k) h st p q = as-many t (boardedTo t k) _ (sits-board t k) (told-board (t .sittings) n t k h)
+told-applied n t (Dead x) h st p q = told-fold (t .sittings) n t x h (dead-live t x q)
+told-applied n t Settle h st p q = as-many t (settledTo t) _ (sits-settle t) (told-settle (t .sittings) n t h (st .size) p)
+told-applied n t Void h st p q = absurd (omega arith)
 
 -- the sittings are counted
 sits-applied : (t : Table) (e : Entry) → appliedTo t e .sittings ≡ t .sittings + sitsIn e
@@ -336,7 +266,7 @@ sits-applied t Void = omega arith
 -- what holds after every taken entry
 pub record After (sheet : Sheet) (es : List Entry) (t : Table) : Type 0 where
   pub sound : Sound t
-  pub size : length (t .chairs) ≡ 10
+  pub standing : Standing t
   pub count : t .sittings ≡ sits es
   pub told : Told (t .sittings) (noteOf sheet es) (t .chairs)
 
@@ -365,7 +295,7 @@ unfolding run noteOf sits nextOf
 after sheet ok [] a =
     record {
       sound = record { payable = record { chips = omega arith; sheet = ok; puck = omega arith }; sittings = omega arith; taken = omega arith; mark = omega arith; turn = omega arith; numbered = none-numbered 0 10 };
-      size = refl;
+      standing = standing-fresh sheet;
       count = refl;
       told = record {
         seated = none-seated;
@@ -380,8 +310,8 @@ after sheet ok (e ∷ es) a =
     let u = withTaken (appliedTo t e) n in
     let next : After sheet (e ∷ es) u = record {
       sound = sound-taken t n e (h .sound) (a .0);
-      size = size-applied t e ∙ h .size;
+      standing = rw (eq-eqb (codeOf t n e) 0 (a .0)) at (standing-next t n e (h .sound) (h .standing));
       count = omega (arith, sits-applied t e, h .count);
-      told = told-applied (noteOf sheet es) t e (h .told) (h .size) (h .sound .payable .puck) (p .moment);
+      told = told-applied (noteOf sheet es) t e (h .told) (h .standing) (h .sound .payable .puck) (p .moment);
     } in
     rw (eq-eqb (codeOf t n e) 0 (a .0)) next

@@ -5,3 +5,5 @@ pub mod BySitting
 pub mod Demand
 pub mod Shown
 pub mod Examples
+pub mod P11
+pub mod Spring
