@@ -1,5 +1,5 @@
--- What is meant by live, rich, owing, by a count of seats and by the first of some seats, over a list of chairs of any length.
--- Assumes nothing.
+-- Document 01, the words of "Sittings", "Opening" and "Betting" that are about one chair: dealt in, live, a live seat with chips, round total, owes;
+-- what befalls a chair; and over the chairs of a table, of any number: counts, the chair of a seat, the first seat clockwise. Assumes nothing.
 use Prim.Native.Nat.{ℕ, zero, suc, _+_, _-_, _≤_, min}
 use mathlib.Core.Bool.{Bool, true, false, not}
 use mathlib.Core.List.{List, [], _∷_, _++_}
@@ -10,24 +10,30 @@ use Rattle.chairs.specs.declared.Chair.{Chair}
 use Rattle.chairs.specs.declared.Dealt.{Dealt}
 use Rattle.chairs.specs.declared.Hole.{Hole}
 use Rattle.chairs.specs.declared.Who.{Who}
-use Rattle.chairs.specs.declared.Who.the-variants.{Live, Rich, Chips, Owing, Holding, Bare}
+use Rattle.chairs.specs.declared.Who.the-variants.{Live, LiveWithChips, Chips, Owing, Holding, Bare}
 use Rattle.chairs.specs.declared.Sweep.{Sweep}
 use Rattle.chairs.specs.declared.Sweep.the-variants.{Again, Round, Deal}
 use Rattle.chairs.specs.declared.What.{What}
 use Rattle.chairs.specs.declared.What.the-variants as col
 
--- a live hand with chips behind
-abbrev pub isRich : Chair → Bool
-isRich c = both (c .dealt .live) (ltb 0 (c .stack))
+-- Opening: dealt in is every seat with at least one chip
+abbrev pub isDealtIn : Chair → Bool
+isDealtIn c = ltb 0 (c .stack)
 
--- what a chair has put in since the round opened
+-- Betting: a live seat with chips
+abbrev pub isLiveWithChips : Chair → Bool
+isLiveWithChips c = both (c .dealt .live) (ltb 0 (c .stack))
+
+-- the round total: what the sitting has put in since the round opened
 abbrev pub roundOf : Chair → ℕ
 roundOf c = c .dealt .total - c .dealt .start
 
--- owes, where two hands or more are live; `alone`: the chair is the only live one with chips
+-- Betting: a seat owes if it is live, has chips, hasn't acted since the last wager of this round by another (and two hands or more are live: the
+-- table counts them); but the only live seat with chips (`alone`) owes nothing once its round total equals the mark
 abbrev pub isOwing : ℕ → Bool → Chair → Bool
-isOwing mark alone c = both (isRich c) (both (not (c .dealt .acted)) (not (both alone (eqb (roundOf c) mark))))
+isOwing mark alone c = both (isLiveWithChips c) (both (not (c .dealt .acted)) (not (both alone (eqb (roundOf c) mark))))
 
+-- the card was entered for this hand: also where it is folded, or its sitting gone
 abbrev pub isHolding : ℕ → Chair → Bool
 isHolding k c = both (c .hole .entered) (either (eqb (c .hole .first) k) (eqb (c .hole .second) k))
 
@@ -37,8 +43,8 @@ isBare c = both (c .dealt .live) (not (c .hole .entered))
 
 abbrev pub wantOf : Who → Chair → Bool
 wantOf Live c = c .dealt .live
-wantOf Rich c = isRich c
-wantOf Chips c = ltb 0 (c .stack)
+wantOf LiveWithChips c = isLiveWithChips c
+wantOf Chips c = isDealtIn c
 wantOf (Owing mark alone) c = isOwing mark alone c
 wantOf (Holding card) c = isHolding card c
 wantOf Bare c = isBare c
@@ -72,7 +78,7 @@ abbrev pub seatsFrom : ℕ → ℕ → List ℕ
 seatsFrom k zero = []
 seatsFrom k (suc m) = suc k ∷ seatsFrom (suc k) m
 
--- the seats clockwise from seat s, which comes last
+-- Opening: clockwise is rising number, wrapping. The seats from the one after s on; s comes last
 abbrev pub clockwise : ℕ → ℕ → List ℕ
 clockwise n s = seatsFrom s (n - s) ++ seatsFrom 0 s
 
@@ -113,20 +119,20 @@ paidOf c a = record {
   hole = c .hole;
 }
 
--- a new sitting at a chair: a hand record that lies there stays that of the old one
+-- Sittings, another sitting at a chair: the hand record that lies there stays that of the old one, so that a newcomer starts with no total, cards or debt
 abbrev pub seatedOf : Chair → ℕ → ℕ → Chair
 seatedOf c k a = record { sitting = k; stack = a; dealt = c .dealt; hole = c .hole }
 
--- a new round: nothing put in, and not acted
+-- Betting, a new round: the round total is 0, and the hand hasn't acted
 abbrev pub roundedOf : Chair → Chair
 roundedOf c = withDealt c (record { sitting = c .dealt .sitting; total = c .dealt .total; start = c .dealt .total; live = c .dealt .live; acted = false })
 
--- a new hand: dealt in is every seat with at least one chip
+-- Opening, a new hand: a seat that is dealt in is live, and has put in nothing; no cards are entered
 abbrev pub dealtOf : Chair → Chair
 dealtOf c = record {
   sitting = c .sitting;
   stack = c .stack;
-  dealt = record { sitting = pick (ltb 0 (c .stack)) (c .sitting) 0; total = 0; start = 0; live = ltb 0 (c .stack); acted = false };
+  dealt = record { sitting = pick (isDealtIn c) (c .sitting) 0; total = 0; start = 0; live = isDealtIn c; acted = false };
   hole = noHole;
 }
 

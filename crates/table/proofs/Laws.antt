@@ -26,8 +26,10 @@ use Rattle.chairs.specs.Chairs.{firstOf, chipsOf, wantOf, clockwise, columnOf, 
 use Rattle.chairs.proofs.Laws.{first-cong, chips-put, chips-paid}
 use Rattle.chairs.specs.declared.Chair.{Chair}
 use Rattle.chairs.specs.declared.Who.the-variants.{Owing}
-use Rattle.table.specs.Table.{liveOf, aloneOf, owingOf, firstOwing, hasCard, seatOf, usedOf}
-use Rattle.table.specs.Acts.{nobodyOwes, postedTo, boardCode}
+use Rattle.table.specs.State.{seatOf}
+use Rattle.table.specs.Betting.{liveHands, onlyWithChips, owes, firstOwing, nobodyOwes}
+use Rattle.table.specs.Opening.{postedTo}
+use Rattle.table.specs.Dealing.{hasCard, inThisHand, boardCode}
 use Rattle.table.specs.declared.table.Table.{Table}
 use Rattle.chairs.specs.declared.What.the-variants as what
 
@@ -36,20 +38,20 @@ first-false cs [] = refl
 first-false cs (s ∷ ss) = first-false cs ss
 
 -- with fewer than two live hands nobody owes; with two or more, those that `Who.Owing` looks for
-pub owing-few : (t : Table) (s : ℕ) → liveOf t < 2 → firstOwing t s ≡ 0
-unfolding firstOwing owingOf
-owing-few t s h = first-cong (owingOf t) (λ c. false) (t .chairs) none (clockwise (t .sheet .seats) s) ∙ first-false (t .chairs) (clockwise (t .sheet .seats) s)
+pub owing-few : (t : Table) (s : ℕ) → liveHands t < 2 → firstOwing t s ≡ 0
+unfolding firstOwing owes
+owing-few t s h = first-cong (owes t) (λ c. false) (t .chairs) none (clockwise (t .sheet .seats) s) ∙ first-false (t .chairs) (clockwise (t .sheet .seats) s)
   where
-    none : (c : Chair) → owingOf t c ≡ false
-    none c = rw (lt-leb 2 (liveOf t) h)
+    none : (c : Chair) → owes t c ≡ false
+    none c = rw (lt-leb 2 (liveHands t) h)
 
-pub owing-many : (t : Table) (s : ℕ) → 2 ≤ liveOf t
-    → firstOwing t s ≡ firstOf (wantOf (Owing (t .play .mark) (aloneOf t))) (t .chairs) (clockwise (t .sheet .seats) s)
-unfolding firstOwing owingOf
-owing-many t s h = first-cong (owingOf t) (wantOf (Owing (t .play .mark) (aloneOf t))) (t .chairs) same (clockwise (t .sheet .seats) s)
+pub owing-many : (t : Table) (s : ℕ) → 2 ≤ liveHands t
+    → firstOwing t s ≡ firstOf (wantOf (Owing (t .play .mark) (onlyWithChips t))) (t .chairs) (clockwise (t .sheet .seats) s)
+unfolding firstOwing owes
+owing-many t s h = first-cong (owes t) (wantOf (Owing (t .play .mark) (onlyWithChips t))) (t .chairs) same (clockwise (t .sheet .seats) s)
   where
-    same : (c : Chair) → owingOf t c ≡ wantOf (Owing (t .play .mark) (aloneOf t)) c
-    same c = rw (le-leb 2 (liveOf t) h)
+    same : (c : Chair) → owes t c ≡ wantOf (Owing (t .play .mark) (onlyWithChips t)) c
+    same c = rw (le-leb 2 (liveHands t) h)
 
 pub has-step : (k : ℕ) (xs : List ℕ) (i : ℕ) → i < length xs
     → hasCard k (drop i xs) ≡ either (eqb (getD xs i 0) k) (hasCard k (drop (i + 1) xs))
@@ -65,12 +67,12 @@ pub board-room : (t : Table) (k : ℕ) → boardCode t k ≡ 0 → t .board .cou
 unfolding boardCode
 board-room t k h =
     let full = leb 5 (t .board .count) in
-    let few = either (ltb (liveOf t) 2) full in
+    let few = either (ltb (liveHands t) 2) full in
     let owed = either (not (nobodyOwes t)) few in
-    let e = when-zero (either (not (t .play .opened)) owed) 3 (or-zero (when (either (not (t .play .opened)) owed) 4) (when (usedOf t k) 8) h .0) in
+    let e = when-zero (either (not (t .play .opened)) owed) 3 (or-zero (when (either (not (t .play .opened)) owed) 4) (when (inThisHand t k) 8) h .0) in
     let e1 = either-false (not (t .play .opened)) owed e .1 in
     let e2 = either-false (not (nobodyOwes t)) few e1 .1 in
-    leb-false 5 (t .board .count) (either-false (ltb (liveOf t) 2) full e2 .1)
+    leb-false 5 (t .board .count) (either-false (ltb (liveHands t) 2) full e2 .1)
 
 -- the totals are at most all chips
 pub totals-within : (cs : List Chair) → sumOf (map (columnOf what.Total) cs) ≤ chipsOf cs

@@ -13,12 +13,15 @@ use Rattle.chairs.specs.Chairs.{Numbered, noChair, chairAt, putAt, sweepOf, fol
 use Rattle.laws.specs.Lists.{All}
 use Rattle.chairs.specs.declared.Chair.{Chair}
 use Rattle.chairs.specs.declared.Sweep.the-variants.{Again, Round, Deal}
-use Rattle.table.specs.Table.{afterAct, seatOf, nextChips, withCard}
-use Rattle.table.specs.Acts.{foldedTo, checkedTo, calledTo, wageredTo, satTo, leftTo, deadTo, heldTo, boardedTo, openedTo, postedTo, newRound}
+use Rattle.table.specs.State.{seatOf, withCard}
+use Rattle.table.specs.Betting.{afterAct, foldedTo, checkedTo, calledTo, wageredTo, deadTo, newRound}
+use Rattle.table.specs.Sittings.{satTo, leftTo}
+use Rattle.table.specs.Opening.{nextDealtIn, openedTo, postedTo}
+use Rattle.table.specs.Dealing.{heldTo, boardedTo}
 use Rattle.table.specs.Settle.{settledTo, payoutNow}
 use Rattle.table.specs.Take.{appliedTo}
 use Rattle.table.specs.declared.table.Table.{Table}
-use Rattle.table.proofs.Over.{all-at, all-put, all-map}
+use Rattle.chairs.proofs.Over.{all-at, all-put, all-map}
 
 pub none-numbered : (k n : ℕ) → All (Numbered k) (replicate n noChair)
 none-numbered k zero = tt
@@ -65,8 +68,8 @@ numbered-applied t (Hand s) h =
     let d = sweep-all k (sweepOf Deal) (t .chairs) h (dealt-in k) in
     let c = number-at k (map (sweepOf Deal) (t .chairs)) s d in
     let p = put-same k (map (sweepOf Deal) (t .chairs)) s (paidOf (chairAt (map (sweepOf Deal) (t .chairs)) s) (t .sheet .small)) d (c .here) (c .dealt) in
-    let q = number-at k _ (nextChips t s) p in
-    put-same k _ (nextChips t s) _ p (q .here) (q .dealt)
+    let q = number-at k _ (nextDealtIn t s) p in
+    put-same k _ (nextDealtIn t s) _ p (q .here) (q .dealt)
 numbered-applied t (Hole s a b) h = let c = number-at (t .sittings) (t .chairs) s h in put-same (t .sittings) (t .chairs) s _ h (c .here) (c .dealt)
 numbered-applied t (Fold s) h = let c = number-at (t .sittings) (t .chairs) s h in put-same (t .sittings) (t .chairs) s _ h (c .here) (c .dealt)
 numbered-applied t (Check s) h = let c = number-at (t .sittings) (t .chairs) s h in put-same (t .sittings) (t .chairs) s _ h (c .here) (c .dealt)

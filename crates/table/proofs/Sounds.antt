@@ -19,8 +19,11 @@ use Rattle.chairs.specs.Chairs.{chairAt, chipsOf, sweepOf, foldedOf, actedOf, p
 use Rattle.chairs.proofs.Laws.{chips-put, chips-paid, chips-sweep}
 use Rattle.chairs.specs.declared.Chair.{Chair}
 use Rattle.chairs.specs.declared.Sweep.the-variants.{Again, Round, Deal}
-use Rattle.table.specs.Table.{withTaken, seatOf, withChair, withChairs, withMark, withCard, nextChips, afterAct}
-use Rattle.table.specs.Acts.{liftAfter, sitCode, foldedTo, checkedTo, calledTo, wageredTo, satTo, leftTo, deadTo, heldTo, boardedTo, openedTo, postedTo, newRound}
+use Rattle.table.specs.State.{withTaken, seatOf, withChair, withChairs, withMark, withCard}
+use Rattle.table.specs.Betting.{afterAct, liftAfter, foldedTo, checkedTo, calledTo, wageredTo, deadTo, newRound}
+use Rattle.table.specs.Sittings.{sitCode, satTo, leftTo}
+use Rattle.table.specs.Opening.{nextDealtIn, openedTo, postedTo}
+use Rattle.table.specs.Dealing.{heldTo, boardedTo}
 use Rattle.table.specs.Settle.{Payable, settledTo, payoutNow}
 use Rattle.table.specs.Take.{Sound, kindCode, codeOf, appliedTo}
 use Rattle.table.specs.declared.table.Table.{Table}
@@ -109,7 +112,7 @@ unfolding openedTo postedTo
 kept-open t s =
     let d = withChairs t (map (sweepOf Deal) (t .chairs)) in
     record {
-      chips = omega (arith, chips-sweep Deal (t .chairs), chips-posted d s (t .sheet .small), chips-posted (postedTo d s (t .sheet .small)) (nextChips t s) (t .sheet .big));
+      chips = omega (arith, chips-sweep Deal (t .chairs), chips-posted d s (t .sheet .small), chips-posted (postedTo d s (t .sheet .small)) (nextDealtIn t s) (t .sheet .big));
       sittings = refl;
       sheet = refl;
       puck = refl;

@@ -14,8 +14,11 @@ use Rattle.paper.specs.declared.Entry.the-variants.{Sit, Leave, Hand, Hole, Fol
 use Rattle.chairs.specs.Chairs.{chairAt, firstOf, seatsFrom, clockwise, wantOf}
 use Rattle.chairs.specs.declared.Chair.{Chair}
 use Rattle.chairs.specs.declared.Who.the-variants.{Chips}
-use Rattle.table.specs.Table.{owingOf, firstOwing, nextChips, afterAct, withChair, withCard, seatOf}
-use Rattle.table.specs.Acts.{nobodyOwes, turnAfter, foldedTo, checkedTo, calledTo, wageredTo, satTo, leftTo, deadTo, heldTo, boardedTo, openedTo, postedTo, newRound}
+use Rattle.table.specs.State.{withChair, withCard, seatOf}
+use Rattle.table.specs.Betting.{owes, firstOwing, afterAct, nobodyOwes, turnAfter, foldedTo, checkedTo, calledTo, wageredTo, deadTo, newRound}
+use Rattle.table.specs.Sittings.{satTo, leftTo}
+use Rattle.table.specs.Opening.{nextDealtIn, openedTo, postedTo}
+use Rattle.table.specs.Dealing.{heldTo, boardedTo}
 use Rattle.table.specs.Settle.{settledTo}
 use Rattle.table.specs.Take.{Sound, appliedTo}
 use Rattle.table.specs.declared.table.Table.{Table}
@@ -34,15 +37,15 @@ runs-most : (p : Chair → Bool) (cs : List Chair) (k m most : ℕ) (ss : List �
 runs-most p cs k zero most ss h q = q
 runs-most p cs k (suc m) most ss h q = pick-most (p (chairAt cs (suc k))) (suc k) _ most (omega arith) (runs-most p cs (suc k) m most ss (omega arith) q)
 
-clockwise-most : (p : Chair → Bool) (cs : List Chair) (n s most : ℕ) → n ≤ most → s ≤ most → firstOf p cs (clockwise n s) ≤ most
+pub clockwise-most : (p : Chair → Bool) (cs : List Chair) (n s most : ℕ) → n ≤ most → s ≤ most → firstOf p cs (clockwise n s) ≤ most
 clockwise-most p cs n s most h q = runs-most p cs s (n - s) most (seatsFrom 0 s) (omega arith) (run-most p cs 0 s most (omega arith))
 
 pub owing-most : (t : Table) (s : ℕ) → t .sheet .seats ≤ 10 → s ≤ 10 → firstOwing t s ≤ 10
 unfolding firstOwing
-owing-most t s h q = clockwise-most (owingOf t) (t .chairs) (t .sheet .seats) s 10 h q
+owing-most t s h q = clockwise-most (owes t) (t .chairs) (t .sheet .seats) s 10 h q
 
-chips-most : (t : Table) (s : ℕ) → t .sheet .seats ≤ 10 → s ≤ 10 → nextChips t s ≤ 10
-unfolding nextChips
+chips-most : (t : Table) (s : ℕ) → t .sheet .seats ≤ 10 → s ≤ 10 → nextDealtIn t s ≤ 10
+unfolding nextDealtIn
 chips-most t s h q = clockwise-most (wantOf Chips) (t .chairs) (t .sheet .seats) s 10 h q
 
 -- the mark and the turn of a table are small
@@ -68,7 +71,7 @@ marks t (Sit s a) h r = (h .mark, h .turn)
 marks t (Leave s) h r = (h .mark, h .turn)
 marks t (Hand s) h r =
     let v = sheet-seats (t .sheet) (h .payable .sheet) in
-    (omega (arith, sheet-big (t .sheet) (h .payable .sheet)), owing-most _ (nextChips t s) v (chips-most t s v (seat-in t s h r)))
+    (omega (arith, sheet-big (t .sheet) (h .payable .sheet)), owing-most _ (nextDealtIn t s) v (chips-most t s v (seat-in t s h r)))
 marks t (Hole s a b) h r = (h .mark, h .turn)
 marks t (Fold s) h r = (h .mark, owing-most _ s (sheet-seats (t .sheet) (h .payable .sheet)) (seat-in t s h r))
 marks t (Check s) h r = (h .mark, owing-most _ s (sheet-seats (t .sheet) (h .payable .sheet)) (seat-in t s h r))

@@ -17,8 +17,8 @@ use Rattle.chairs.specs.Chairs.{countOf, wantOf, columnOf, chipsOf, closeAll}
 use Rattle.chairs.specs.declared.Chair.{Chair}
 use Rattle.chairs.specs.declared.Who.the-variants.{Bare}
 use Rattle.chairs.specs.declared.What.the-variants as what
-use Rattle.table.specs.Table.{liveOf, noBoard}
-use Rattle.table.specs.Acts.{nobodyOwes}
+use Rattle.table.specs.State.{noBoard}
+use Rattle.table.specs.Betting.{liveHands, nobodyOwes}
 use Rattle.table.specs.declared.table.Table.{Table}
 use Rattle.table.specs.declared.table.Play.{Play}
 use Rattle.table.specs.declared.table.Board.{Board}
@@ -27,8 +27,8 @@ use Rattle.table.specs.declared.table.Payout.{Payout}
 -- settle: one live; or nobody owes and five board cards lie. With two live or more, each live seat has its cards entered
 unfoldable pub settleCode : Table → ℕ
 settleCode t =
-    orElse (when (not (both (t .play .opened) (either (eqb (liveOf t) 1) (both (nobodyOwes t) (eqb (t .board .count) 5))))) 4)
-    (when (both (leb 2 (liveOf t)) (not (eqb (countOf (wantOf Bare) (t .chairs)) 0))) 10)
+    orElse (when (not (both (t .play .opened) (either (eqb (liveHands t) 1) (both (nobodyOwes t) (eqb (t .board .count) 5))))) 4)
+    (when (both (leb 2 (liveHands t)) (not (eqb (countOf (wantOf Bare) (t .chairs)) 0))) 10)
 
 -- what each sitting dealt in has put in, and the live ones as a mask of dealt-in seats
 abbrev pub totalsOf : Table → List ℕ

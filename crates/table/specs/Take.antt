@@ -11,8 +11,11 @@ use Rattle.paper.specs.declared.Entry.{Entry}
 use Rattle.paper.specs.declared.Entry.the-variants.{Sit, Leave, Hand, Hole, Fold, Check, Call, Wager, Board, Dead, Settle, Void}
 use Rattle.chairs.specs.Chairs.{chipsOf, noChair, Numbered}
 use Rattle.laws.specs.Lists.{All}
-use Rattle.table.specs.Table.{withTaken, noBoard}
-use Rattle.table.specs.Acts.{turnCode, checkCode, callCode, wagerCode, sitCode, leaveCode, deadCode, holeCode, boardCode, handCode, foldedTo, checkedTo, calledTo, wageredTo, satTo, leftTo, deadTo, heldTo, boardedTo, openedTo}
+use Rattle.table.specs.State.{withTaken, noBoard}
+use Rattle.table.specs.Betting.{turnCode, checkCode, callCode, wagerCode, deadCode, foldedTo, checkedTo, calledTo, wageredTo, deadTo}
+use Rattle.table.specs.Sittings.{sitCode, leaveCode, satTo, leftTo}
+use Rattle.table.specs.Opening.{handCode, openedTo}
+use Rattle.table.specs.Dealing.{holeCode, boardCode, heldTo, boardedTo}
 use Rattle.laws.specs.Tests.{pick}
 use Rattle.table.specs.Settle.{Payable, settleCode, settledTo, payoutNow, noPayout}
 use Rattle.table.specs.declared.table.Table.{Table}

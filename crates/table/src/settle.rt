@@ -1,4 +1,5 @@
 // What the open hand's pots are, what a settle pays, and the table after it.
+use crate::betting;
 use crate::table;
 use crate::table::Board;
 use crate::table::Payout;
@@ -27,40 +28,40 @@ pub struct Done {
 }
 
 // One live; or nobody owes and five board cards lie. With two live or more each live seat has its cards.
-pub fn settle_code(t: Table) -> u8
+pub(crate) fn settle_code(t: Table) -> u8
     ensures { λ r. ⌜ r ≡ settleCode t ⌝ }
 {
     let cs = t.chairs;
-    let live = table::lives(t);
-    let none = table::first_owing(t, 0) == 0;
+    let live = betting::lives(t);
+    let none = betting::first_owing(t, 0) == 0;
     let five = t.board.count == 5;
     let now = both(t.play.opened, either(live == 1, both(none, five)));
-    let bare = chairs::count(cs, Who::Bare) != 0;
+    let bare = chairs::seats::count(cs, Who::Bare) != 0;
     or_else(when(!now, 4), when(both(2 <= live, bare), 10))
 }
 
 // What each sitting dealt in has put in.
-pub fn totals(t: Table) -> [u32; 10]
+fn totals(t: Table) -> [u32; 10]
     ensures { λ r. ⌜ r ≡ totalsOf t ⌝ }
 {
     let cs = t.chairs;
-    chairs::column(cs, What::Total)
+    chairs::seats::column(cs, What::Total)
 }
 
 // The live ones, as a mask of dealt-in seats.
-pub fn live_seats(t: Table) -> u16
+fn live_seats(t: Table) -> u16
     ensures { λ r. ⌜ r ≡ livesOf t ⌝ }
 {
     let cs = t.chairs;
-    pots::mask_at(chairs::column(cs, What::Live), 1)
+    pots::mask_at(chairs::seats::column(cs, What::Live), 1)
 }
 
 // Those that are still there.
-pub fn here_seats(t: Table) -> u16
+fn here_seats(t: Table) -> u16
     ensures { λ r. ⌜ r ≡ hereOf t ⌝ }
 {
     let cs = t.chairs;
-    pots::mask_at(chairs::column(cs, What::Here), 1)
+    pots::mask_at(chairs::seats::column(cs, What::Here), 1)
 }
 
 // The number of the best hand of the seven cards.
@@ -86,7 +87,7 @@ fn scores(b: Board, cs: [Chair; 10]) -> [u32; 10]
 }
 
 // What a settle pays.
-pub fn payout(t: Table) -> Payout
+fn payout(t: Table) -> Payout
     requires { ⌜ Payable t ⌝ }
     ensures { λ r. ⌜ r ≡ payoutNow t ⌝ }
 {
@@ -109,7 +110,7 @@ pub fn payout(t: Table) -> Payout
         settled: true,
         fee: s.fee,
         paid,
-        sittings: chairs::column(cs, What::Sitting),
+        sittings: chairs::seats::column(cs, What::Sitting),
         unclaimed: p.unclaimed,
     }
 }
@@ -138,7 +139,7 @@ fn shut(t: Table, p: Payout) -> Table
     let play = t.play;
     let after = closed_play(play);
     let board = table::no_board();
-    let ds = chairs::close_all(cs, paid);
+    let ds = chairs::seats::close_all(cs, paid);
     Table {
         sheet: sheet,
         taken: t.taken,
@@ -150,7 +151,7 @@ fn shut(t: Table, p: Payout) -> Table
 }
 
 // A settle: the table after it, and what it pays.
-pub fn settled(t: Table) -> Done
+pub(crate) fn settled(t: Table) -> Done
     requires { ⌜ Payable t ⌝ }
     ensures { λ r. ⌜ (r .table ≡ settledTo t) × (r .payout ≡ payoutNow t) ⌝ }
 {
@@ -163,7 +164,7 @@ pub fn settled(t: Table) -> Done
 }
 
 // Any other entry pays nothing.
-pub fn plain(t: Table) -> Done
+pub(crate) fn plain(t: Table) -> Done
     ensures { λ r. ⌜ (r .table ≡ t) × (r .payout ≡ noPayout) ⌝ }
 {
     let p = no_payout();

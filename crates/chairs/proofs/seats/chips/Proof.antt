@@ -1,0 +1,72 @@
+use borrow.Author.Needs.{needs}
+use Prim.Native.Nat.{_-_, _+_, _*_, _≤_}
+use mathlib.Core.Path.{_≡_, ap}
+use native.Mathlib.Omega.{arith}
+use lib.ListN.{length, drop, drop-of-length-le}
+use Rattle.chairs.specs.Chairs.{chipsOf}
+use Rattle.chairs.proofs.Laws.{sum-step}
+use Rattle.chairs.proofs.seats.chips.Statement.{statement}
+use Rattle.chairs.proofs.seats.chips.Tie as tie
+
+abbrev Inv-loop : tie.InvT-loop
+Inv-loop cs n₀ i₀ n i = (i ≤ 10) × (n ≤ i * 8589934590) × (n + chipsOf (drop i cs) ≡ chipsOf cs)
+
+abbrev μ-loop : tie.MeasureT-loop
+μ-loop cs n₀ i₀ n i = 10 - i
+
+loop-holds : tie.Need-loop-holds Inv-loop μ-loop
+loop-holds c = search needs
+
+mul-c : tie.Need-mul-c Inv-loop μ-loop
+mul-c c = search needs
+
+array-copy-out-c : tie.Need-array-copy-out-c Inv-loop μ-loop
+array-copy-out-c c = search needs
+
+cast-n : tie.Need-cast-n Inv-loop μ-loop
+cast-n c = search needs
+
+add-n : tie.Need-add-n Inv-loop μ-loop
+add-n c = search needs
+
+cast-n-2 : tie.Need-cast-n-2 Inv-loop μ-loop
+cast-n-2 c = search needs
+
+add-n-2 : tie.Need-add-n-2 Inv-loop μ-loop
+add-n-2 c = search needs
+
+add-i : tie.Need-add-i Inv-loop μ-loop
+add-i c = search needs
+
+loop-less : tie.Need-loop-less Inv-loop μ-loop
+loop-less c = search needs
+
+loop-again : tie.Need-loop-again Inv-loop μ-loop
+loop-again c =
+    let cs = c .before .before .before .before .before .args .t1 in
+    let len : length cs ≡ 10 = search needs in
+    omega (arith, sum-step cs (c .before .before .before .before .loop .i) (omega arith))
+
+returns : tie.Need-returns Inv-loop μ-loop
+returns c =
+    let cs = c .before .before .args .t1 in
+    let len : length cs ≡ 10 = search needs in
+    omega (arith, ap chipsOf (drop-of-length-le cs {i = c .before .loop .i} (omega arith)))
+
+pub chips-spec : {M : Type 1} → statement M
+chips-spec =
+    tie.close
+    (tie.spec
+    Inv-loop
+    μ-loop
+    loop-holds
+    mul-c
+    array-copy-out-c
+    cast-n
+    add-n
+    cast-n-2
+    add-n-2
+    add-i
+    loop-less
+    loop-again
+    returns)

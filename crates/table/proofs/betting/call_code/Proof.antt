@@ -1,0 +1,34 @@
+use Rattle.table.specs.Betting.{callCode}
+use borrow.Author.Needs.{needs}
+use Rattle.table.proofs.betting.call_code.Statement.{statement}
+use Rattle.table.proofs.betting.call_code.Tie as tie
+
+seat-of-requires : tie.Need-seat-of-requires
+seat-of-requires c κs = search needs
+
+round-of-requires : tie.Need-round-of-requires
+round-of-requires c κs = search needs
+
+turn-code-requires : tie.Need-turn-code-requires
+turn-code-requires c κs = search needs
+
+when-requires : tie.Need-when-requires
+when-requires c κs = search needs
+
+or-else-requires : tie.Need-or-else-requires
+or-else-requires c κs = search needs
+
+returns : tie.Need-returns
+unfolding callCode
+returns c = cc
+
+pub call-code-spec : {M : Type 1} → statement M
+call-code-spec =
+    tie.close
+    (tie.spec
+    seat-of-requires
+    round-of-requires
+    turn-code-requires
+    when-requires
+    or-else-requires
+    returns)

@@ -1,0 +1,34 @@
+use Rattle.table.specs.Betting.{deadTo}
+use borrow.Author.Needs.{needs}
+use Rattle.table.proofs.betting.killed.Statement.{statement}
+use Rattle.table.proofs.betting.killed.Tie as tie
+
+seat-of-requires : tie.Need-seat-of-requires
+seat-of-requires c κs = search needs
+
+folded-requires : tie.Need-folded-requires
+folded-requires c κs = search needs
+
+with-chair-requires : tie.Need-with-chair-requires
+with-chair-requires c κs = search needs
+
+turn-after-requires : tie.Need-turn-after-requires
+turn-after-requires c κs = search needs
+
+with-turn-requires : tie.Need-with-turn-requires
+with-turn-requires c κs = search needs
+
+returns : tie.Need-returns
+unfolding deadTo
+returns c = rw (c .before .turn-after .ensures, c .before .before .with-chair .ensures, c .before .before .before .folded .ensures, c .before .before .before .before .seat-of .ensures) at (c .with-turn .ensures)
+
+pub killed-spec : {M : Type 1} → statement M
+killed-spec =
+    tie.close
+    (tie.spec
+    seat-of-requires
+    folded-requires
+    with-chair-requires
+    turn-after-requires
+    with-turn-requires
+    returns)

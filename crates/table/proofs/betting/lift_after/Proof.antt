@@ -1,0 +1,15 @@
+use borrow.Author.Needs.{needs}
+use Rattle.table.proofs.betting.lift_after.Statement.{statement}
+use Rattle.table.proofs.betting.lift_after.Tie as tie
+
+short-of-requires : tie.Need-short-of-requires
+short-of-requires c κs = search needs
+
+chosen-requires : tie.Need-chosen-requires
+chosen-requires c κs = search needs
+
+returns : tie.Need-returns
+returns c = cc
+
+pub lift-after-spec : {M : Type 1} → statement M
+lift-after-spec = tie.close (tie.spec short-of-requires chosen-requires returns)

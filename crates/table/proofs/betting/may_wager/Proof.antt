@@ -1,0 +1,38 @@
+use Rattle.table.specs.Betting.{isWager}
+use borrow.Author.Needs.{needs}
+use Rattle.table.proofs.betting.may_wager.Statement.{statement}
+use Rattle.table.proofs.betting.may_wager.Tie as tie
+
+round-of-requires : tie.Need-round-of-requires
+round-of-requires c κs = search needs
+
+short-of-requires : tie.Need-short-of-requires
+short-of-requires c κs = search needs
+
+full-lift-requires : tie.Need-full-lift-requires
+full-lift-requires c κs = search needs
+
+either-requires : tie.Need-either-requires
+either-requires c κs = search needs
+
+both-requires : tie.Need-both-requires
+both-requires c κs = search needs
+
+both-requires-2 : tie.Need-both-requires-2
+both-requires-2 c κs = search needs
+
+returns : tie.Need-returns
+unfolding isWager
+returns c = cc
+
+pub may-wager-spec : {M : Type 1} → statement M
+may-wager-spec =
+    tie.close
+    (tie.spec
+    round-of-requires
+    short-of-requires
+    full-lift-requires
+    either-requires
+    both-requires
+    both-requires-2
+    returns)

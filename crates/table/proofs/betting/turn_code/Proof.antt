@@ -1,0 +1,42 @@
+use Rattle.table.specs.Betting.{turnCode}
+use borrow.Author.Needs.{needs}
+use Rattle.table.proofs.betting.turn_code.Statement.{statement}
+use Rattle.table.proofs.betting.turn_code.Tie as tie
+
+seat-of-requires : tie.Need-seat-of-requires
+seat-of-requires c κs = search needs
+
+first-owing-requires : tie.Need-first-owing-requires
+first-owing-requires c κs = search needs
+
+when-requires : tie.Need-when-requires
+when-requires c κs = search needs
+
+when-requires-2 : tie.Need-when-requires-2
+when-requires-2 c κs = search needs
+
+when-requires-3 : tie.Need-when-requires-3
+when-requires-3 c κs = search needs
+
+or-else-requires : tie.Need-or-else-requires
+or-else-requires c κs = search needs
+
+or-else-requires-2 : tie.Need-or-else-requires-2
+or-else-requires-2 c κs = search needs
+
+returns : tie.Need-returns
+unfolding turnCode
+returns c = cc
+
+pub turn-code-spec : {M : Type 1} → statement M
+turn-code-spec =
+    tie.close
+    (tie.spec
+    seat-of-requires
+    first-owing-requires
+    when-requires
+    when-requires-2
+    when-requires-3
+    or-else-requires
+    or-else-requires-2
+    returns)

@@ -1,0 +1,50 @@
+use Rattle.table.specs.Dealing.{boardCode}
+use borrow.Author.Needs.{needs}
+use Rattle.table.proofs.dealing.board_code.Statement.{statement}
+use Rattle.table.proofs.dealing.board_code.Tie as tie
+
+first-owing-requires : tie.Need-first-owing-requires
+first-owing-requires c κs = search needs
+
+lives-requires : tie.Need-lives-requires
+lives-requires c κs = search needs
+
+used-requires : tie.Need-used-requires
+used-requires c κs = search needs
+
+either-requires : tie.Need-either-requires
+either-requires c κs = search needs
+
+either-requires-2 : tie.Need-either-requires-2
+either-requires-2 c κs = search needs
+
+either-requires-3 : tie.Need-either-requires-3
+either-requires-3 c κs = search needs
+
+when-requires : tie.Need-when-requires
+when-requires c κs = search needs
+
+when-requires-2 : tie.Need-when-requires-2
+when-requires-2 c κs = search needs
+
+or-else-requires : tie.Need-or-else-requires
+or-else-requires c κs = search needs
+
+returns : tie.Need-returns
+unfolding boardCode
+returns c = cc
+
+pub board-code-spec : {M : Type 1} → statement M
+board-code-spec =
+    tie.close
+    (tie.spec
+    first-owing-requires
+    lives-requires
+    used-requires
+    either-requires
+    either-requires-2
+    either-requires-3
+    when-requires
+    when-requires-2
+    or-else-requires
+    returns)

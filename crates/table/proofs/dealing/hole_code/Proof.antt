@@ -1,0 +1,58 @@
+use Rattle.table.specs.Dealing.{holeCode}
+use borrow.Author.Needs.{needs}
+use Rattle.table.proofs.dealing.hole_code.Statement.{statement}
+use Rattle.table.proofs.dealing.hole_code.Tie as tie
+
+seat-of-requires : tie.Need-seat-of-requires
+seat-of-requires c κs = search needs
+
+used-requires : tie.Need-used-requires
+used-requires c κs = search needs
+
+used-requires-2 : tie.Need-used-requires-2
+used-requires-2 c κs = search needs
+
+either-requires : tie.Need-either-requires
+either-requires c κs = search needs
+
+when-requires : tie.Need-when-requires
+when-requires c κs = search needs
+
+either-requires-2 : tie.Need-either-requires-2
+either-requires-2 c κs = search needs
+
+when-requires-2 : tie.Need-when-requires-2
+when-requires-2 c κs = search needs
+
+either-requires-3 : tie.Need-either-requires-3
+either-requires-3 c κs = search needs
+
+when-requires-3 : tie.Need-when-requires-3
+when-requires-3 c κs = search needs
+
+or-else-requires : tie.Need-or-else-requires
+or-else-requires c κs = search needs
+
+or-else-requires-2 : tie.Need-or-else-requires-2
+or-else-requires-2 c κs = search needs
+
+returns : tie.Need-returns
+unfolding holeCode
+returns c = cc
+
+pub hole-code-spec : {M : Type 1} → statement M
+hole-code-spec =
+    tie.close
+    (tie.spec
+    seat-of-requires
+    used-requires
+    used-requires-2
+    either-requires
+    when-requires
+    either-requires-2
+    when-requires-2
+    either-requires-3
+    when-requires-3
+    or-else-requires
+    or-else-requires-2
+    returns)

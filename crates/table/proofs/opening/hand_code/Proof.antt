@@ -1,0 +1,38 @@
+use Rattle.table.specs.Opening.{handCode}
+use borrow.Author.Needs.{needs}
+use Rattle.table.proofs.opening.hand_code.Statement.{statement}
+use Rattle.table.proofs.opening.hand_code.Tie as tie
+
+count-requires : tie.Need-count-requires
+count-requires c κs = search needs
+
+may-puck-requires : tie.Need-may-puck-requires
+may-puck-requires c κs = search needs
+
+either-requires : tie.Need-either-requires
+either-requires c κs = search needs
+
+when-requires : tie.Need-when-requires
+when-requires c κs = search needs
+
+when-requires-2 : tie.Need-when-requires-2
+when-requires-2 c κs = search needs
+
+or-else-requires : tie.Need-or-else-requires
+or-else-requires c κs = search needs
+
+returns : tie.Need-returns
+unfolding handCode
+returns c = cc
+
+pub hand-code-spec : {M : Type 1} → statement M
+hand-code-spec =
+    tie.close
+    (tie.spec
+    count-requires
+    may-puck-requires
+    either-requires
+    when-requires
+    when-requires-2
+    or-else-requires
+    returns)

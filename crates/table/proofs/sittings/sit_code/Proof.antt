@@ -1,0 +1,38 @@
+use Rattle.table.specs.Sittings.{sitCode}
+use borrow.Author.Needs.{needs}
+use Rattle.table.proofs.sittings.sit_code.Statement.{statement}
+use Rattle.table.proofs.sittings.sit_code.Tie as tie
+
+seat-of-requires : tie.Need-seat-of-requires
+seat-of-requires c κs = search needs
+
+chips-requires : tie.Need-chips-requires
+chips-requires c κs = search needs
+
+too-many-requires : tie.Need-too-many-requires
+too-many-requires c κs = search needs
+
+when-requires : tie.Need-when-requires
+when-requires c κs = search needs
+
+when-requires-2 : tie.Need-when-requires-2
+when-requires-2 c κs = search needs
+
+or-else-requires : tie.Need-or-else-requires
+or-else-requires c κs = search needs
+
+returns : tie.Need-returns
+unfolding sitCode
+returns c = cc
+
+pub sit-code-spec : {M : Type 1} → statement M
+sit-code-spec =
+    tie.close
+    (tie.spec
+    seat-of-requires
+    chips-requires
+    too-many-requires
+    when-requires
+    when-requires-2
+    or-else-requires
+    returns)

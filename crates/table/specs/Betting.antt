@@ -1,0 +1,100 @@
+-- Document 01, "Betting", sentence by sentence; and "in turn" of the table of entries. Assumes nothing.
+use Prim.Native.Nat.{ℕ, zero, suc, _+_, _-_}
+use mathlib.Core.Bool.{Bool, true, false, not}
+use mathlib.Core.List.{map}
+use lib.Dec.{ltb, leb, eqb}
+use Rattle.paper.specs.Paper.{when, orElse}
+use Rattle.laws.specs.Tests.{both, either, pick}
+use Rattle.chairs.specs.Chairs.{isOwing, wantOf, countOf, firstOf, clockwise, sweepOf, roundOf, foldedOf, actedOf, paidOf}
+use Rattle.chairs.specs.declared.Chair.{Chair}
+use Rattle.chairs.specs.declared.Who.the-variants.{Live, LiveWithChips}
+use Rattle.chairs.specs.declared.Sweep.the-variants.{Again, Round}
+use Rattle.table.specs.State.{withChairs, withChair, withTurn, withMark, seatOf}
+use Rattle.table.specs.declared.table.Table.{Table}
+
+-- how many hands are live
+unfoldable pub liveHands : Table → ℕ
+liveHands t = countOf (wantOf Live) (t .chairs)
+
+-- no more than one live seat has chips: one that has is the only live seat with chips
+unfoldable pub onlyWithChips : Table → Bool
+onlyWithChips t = leb (countOf (wantOf LiveWithChips) (t .chairs)) 1
+
+-- "A seat owes if it is live, has chips, hasn't acted since the last wager of this round by another, and two hands or more are live; but the only live
+-- seat with chips owes nothing once its round total equals the mark."
+unfoldable pub owes : Table → Chair → Bool
+owes t c = both (leb 2 (liveHands t)) (isOwing (t .play .mark) (onlyWithChips t) c)
+
+-- the first owing seat clockwise from s, which comes last; 0 where nobody owes
+unfoldable pub firstOwing : Table → ℕ → ℕ
+firstOwing t s = firstOf (owes t) (t .chairs) (clockwise (t .sheet .seats) s)
+
+-- nobody owes
+abbrev pub nobodyOwes : Table → Bool
+nobodyOwes t = eqb (firstOwing t 0) 0
+
+-- fold, check, call and wager: "someone owes"; the seat is "live, in turn"
+unfoldable pub turnCode : Table → ℕ → ℕ
+turnCode t s = orElse (when (nobodyOwes t) 4) (orElse (when (not (seatOf t s .dealt .live)) 5) (when (not (eqb (t .play .turn) s)) 6))
+
+-- "After fold, check, call, wager, or `dead` for the seat in turn, the turn is the first owing seat clockwise from that seat."
+-- Seat s has acted, and its chair is now c
+unfoldable pub afterAct : Table → ℕ → Chair → Table
+afterAct t s c = withTurn (withChair t s c) (firstOwing (withChair t s c) s)
+
+-- fold: the hand is given up; its chips stay in
+unfoldable pub foldedTo : Table → ℕ → Table
+foldedTo t s = afterAct t s (foldedOf (seatOf t s))
+
+-- "check: round total equals the mark."
+unfoldable pub checkCode : Table → ℕ → ℕ
+checkCode t s = orElse (turnCode t s) (when (not (eqb (roundOf (seatOf t s)) (t .play .mark))) 7)
+
+unfoldable pub checkedTo : Table → ℕ → Table
+checkedTo t s = afterAct t s (actedOf (seatOf t s))
+
+-- "call: it is below; the seat pays the difference or its whole stack."
+unfoldable pub callCode : Table → ℕ → ℕ
+callCode t s = orElse (turnCode t s) (when (not (ltb (roundOf (seatOf t s)) (t .play .mark))) 7)
+
+unfoldable pub calledTo : Table → ℕ → Table
+calledTo t s = afterAct t s (actedOf (paidOf (seatOf t s) (t .play .mark - roundOf (seatOf t s))))
+
+-- "wager to a: a is above the mark; a minus the seat's round total is at most its stack; and either a is at least mark plus lift, or the whole stack goes in."
+unfoldable pub isWager : Table → Chair → ℕ → Bool
+isWager t c a =
+    both (ltb (t .play .mark) a)
+    (both (leb (a - roundOf c) (c .stack))
+    (either (eqb (a - roundOf c) (c .stack)) (leb (t .play .mark + t .play .lift) a)))
+
+unfoldable pub wagerCode : Table → ℕ → ℕ → ℕ
+wagerCode t s a = orElse (turnCode t s) (when (not (isWager t (seatOf t s) a)) 7)
+
+-- "If it rose by at least the lift, that rise is the new lift."
+abbrev pub liftAfter : Table → ℕ → ℕ
+liftAfter t a = pick (leb (t .play .lift) (a - t .play .mark)) (a - t .play .mark) (t .play .lift)
+
+-- "The mark becomes a. .. Every other live seat with chips owes again and may do any of these."
+unfoldable pub wageredTo : Table → ℕ → ℕ → Table
+wageredTo t s a =
+    afterAct (withMark (withChairs t (map (sweepOf Again) (t .chairs))) a (liftAfter t a)) s
+    (actedOf (paidOf (seatOf t s) (a - roundOf (seatOf t s))))
+
+-- dead: "a hand is open, two live or more"; the seat is "live"
+unfoldable pub deadCode : Table → ℕ → ℕ
+deadCode t s = orElse (when (either (not (t .play .opened)) (ltb (liveHands t) 2)) 4) (when (not (seatOf t s .dealt .live)) 5)
+
+-- "Any other `dead` keeps the turn, or ends it if nobody owes." The turn after `dead` at seat s made t to u
+unfoldable pub turnAfter : Table → Table → ℕ → ℕ
+turnAfter t u s = pick (eqb (t .play .turn) s) (firstOwing u s) (pick (nobodyOwes u) 0 (t .play .turn))
+
+-- "dead: as a fold, in or out of turn."
+unfoldable pub deadTo : Table → ℕ → Table
+deadTo t s = withTurn (withChair t s (foldedOf (seatOf t s))) (turnAfter t (withChair t s (foldedOf (seatOf t s))) s)
+
+-- "a new round opens: round totals and mark 0, lift `big`, nobody has acted, first turn to the first owing seat from the puck seat on": from the seat
+-- after the one before it
+unfoldable pub newRound : Table → Table
+newRound t =
+    withTurn (withMark (withChairs t (map (sweepOf Round) (t .chairs))) 0 (t .sheet .big))
+    (firstOwing (withMark (withChairs t (map (sweepOf Round) (t .chairs))) 0 (t .sheet .big)) (t .play .puck - 1))

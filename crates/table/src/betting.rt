@@ -1,0 +1,201 @@
+// Document 01, "Betting": who owes, whose turn it is, and fold, check, call, wager, dead. For each the code that refuses it, and the table after it.
+use crate::table;
+use crate::table::Table;
+use chairs::Chair;
+use chairs::Sweep;
+use chairs::Who;
+use laws::both;
+use laws::either;
+use paper::or_else;
+use paper::when;
+ghost use mathlib.Core.Path.{_≡_};
+ghost use Prim.Native.Nat.{_+_, _≤_};
+ghost use lib.Dec.{leb};
+ghost use Rattle.chairs.specs.Chairs.{chipsOf};
+ghost use Rattle.table.specs.Betting.{liveHands, onlyWithChips, firstOwing, turnCode, afterAct, foldedTo, checkCode, checkedTo, callCode, calledTo, isWager, wagerCode, liftAfter, wageredTo, deadCode, turnAfter, deadTo, newRound};
+
+// The codes that stop an act out of its moment, at a seat that is not live, or out of turn.
+pub(crate) fn turn_code(t: Table, s: u32) -> u8
+    ensures { λ r. ⌜ r ≡ turnCode t s ⌝ }
+{
+    let c = table::seat_of(t, s);
+    let none = first_owing(t, 0) == 0;
+    let out = !c.dealt.live;
+    let other = t.play.turn != s;
+    or_else(when(none, 4), or_else(when(out, 5), when(other, 6)))
+}
+
+// The round total equals the mark.
+pub(crate) fn check_code(t: Table, s: u32) -> u8
+    ensures { λ r. ⌜ r ≡ checkCode t s ⌝ }
+{
+    let c = table::seat_of(t, s);
+    let short = chairs::round_of(c) != t.play.mark;
+    or_else(turn_code(t, s), when(short, 7))
+}
+
+// The round total is below the mark.
+pub(crate) fn call_code(t: Table, s: u32) -> u8
+    ensures { λ r. ⌜ r ≡ callCode t s ⌝ }
+{
+    let c = table::seat_of(t, s);
+    let below = chairs::round_of(c) < t.play.mark;
+    or_else(turn_code(t, s), when(!below, 7))
+}
+
+pub(crate) fn folded(t: Table, s: u32) -> Table
+    ensures { λ r. ⌜ r ≡ foldedTo t s ⌝ }
+{
+    let c = chairs::folded(table::seat_of(t, s));
+    after_act(t, s, c)
+}
+
+pub(crate) fn checked(t: Table, s: u32) -> Table
+    ensures { λ r. ⌜ r ≡ checkedTo t s ⌝ }
+{
+    let c = chairs::acting(table::seat_of(t, s));
+    after_act(t, s, c)
+}
+
+// The seat pays the difference or its whole stack.
+pub(crate) fn called(t: Table, s: u32) -> Table
+    requires { ⌜ chipsOf (t .chairs) ≤ 100000000 ⌝ }
+    ensures { λ r. ⌜ r ≡ calledTo t s ⌝ }
+{
+    let c = table::seat_of(t, s);
+    let due = laws::short_of(t.play.mark, chairs::round_of(c));
+    let d = chairs::acting(chairs::paid(c, due));
+    after_act(t, s, d)
+}
+
+// Whether a wager to a lifts the mark by at least the lift.
+fn full_lift(mark: u32, lift: u32, a: u32) -> bool
+    ensures { λ r. ⌜ r ≡ leb (mark + lift) a ⌝ }
+{
+    mark as u64 + lift as u64 <= a as u64
+}
+
+// Whether a wager to a is allowed.
+fn may_wager(t: Table, c: Chair, a: u32) -> bool
+    ensures { λ r. ⌜ r ≡ isWager t c a ⌝ }
+{
+    let put = laws::short_of(a, chairs::round_of(c));
+    let whole = put == c.stack;
+    let full = full_lift(t.play.mark, t.play.lift, a);
+    both(t.play.mark < a, both(put <= c.stack, either(whole, full)))
+}
+
+pub(crate) fn wager_code(t: Table, s: u32, a: u32) -> u8
+    ensures { λ r. ⌜ r ≡ wagerCode t s a ⌝ }
+{
+    let c = table::seat_of(t, s);
+    let ok = may_wager(t, c, a);
+    or_else(turn_code(t, s), when(!ok, 7))
+}
+
+// The lift after a wager to a.
+fn lift_after(t: Table, a: u32) -> u32
+    ensures { λ r. ⌜ r ≡ liftAfter t a ⌝ }
+{
+    let rise = laws::short_of(a, t.play.mark);
+    laws::chosen(t.play.lift <= rise, rise, t.play.lift)
+}
+
+// The mark becomes a, and every other live seat with chips owes again.
+pub(crate) fn wagered(t: Table, s: u32, a: u32) -> Table
+    requires { ⌜ chipsOf (t .chairs) ≤ 100000000 ⌝ }
+    ensures { λ r. ⌜ r ≡ wageredTo t s a ⌝ }
+{
+    let c = table::seat_of(t, s);
+    let put = laws::short_of(a, chairs::round_of(c));
+    let d = chairs::acting(chairs::paid(c, put));
+    let cs = t.chairs;
+    let ds = chairs::seats::sweep_all(cs, Sweep::Again);
+    let u = table::with_mark(table::with_chairs(t, ds), a, lift_after(t, a));
+    after_act(u, s, d)
+}
+
+// The seat is live, in a hand with two live or more.
+pub(crate) fn dead_code(t: Table, s: u32) -> u8
+    ensures { λ r. ⌜ r ≡ deadCode t s ⌝ }
+{
+    let c = table::seat_of(t, s);
+    let off = !t.play.opened;
+    let few = lives(t) < 2;
+    let out = !c.dealt.live;
+    or_else(when(either(off, few), 4), when(out, 5))
+}
+
+// The turn after a hand was killed: on from the seat in turn; else kept, or ended where nobody owes.
+fn turn_after(t: Table, u: Table, s: u32) -> u32
+    ensures { λ r. ⌜ r ≡ turnAfter t u s ⌝ }
+{
+    let now = t.play.turn;
+    let none = first_owing(u, 0) == 0;
+    let kept = laws::chosen(none, 0, now);
+    laws::chosen(now == s, first_owing(u, s), kept)
+}
+
+// As a fold, in or out of turn.
+pub(crate) fn killed(t: Table, s: u32) -> Table
+    ensures { λ r. ⌜ r ≡ deadTo t s ⌝ }
+{
+    let c = chairs::folded(table::seat_of(t, s));
+    let u = table::with_chair(t, s, c);
+    let next = turn_after(t, u, s);
+    table::with_turn(u, next)
+}
+
+// A new round: round totals and mark 0, lift big, nobody has acted; the first turn is from the puck seat on.
+pub(crate) fn new_round(t: Table) -> Table
+    ensures { λ r. ⌜ r ≡ newRound t ⌝ }
+{
+    let cs = t.chairs;
+    let ds = chairs::seats::sweep_all(cs, Sweep::Round);
+    let big = t.sheet.big;
+    let puck = t.play.puck;
+    let u = table::with_mark(table::with_chairs(t, ds), 0, big);
+    let next = first_owing(u, laws::short_of(puck, 1));
+    table::with_turn(u, next)
+}
+
+// How many hands are live.
+pub(crate) fn lives(t: Table) -> u8
+    ensures { λ r. ⌜ r ≡ liveHands t ⌝ }
+{
+    let cs = t.chairs;
+    chairs::seats::count(cs, Who::Live)
+}
+
+// Whether no more than one live seat has chips.
+fn alone(t: Table) -> bool
+    ensures { λ r. ⌜ r ≡ onlyWithChips t ⌝ }
+{
+    let cs = t.chairs;
+    chairs::seats::count(cs, Who::LiveWithChips) <= 1
+}
+
+// The first owing seat clockwise from s, which comes last; 0 where nobody owes.
+pub(crate) fn first_owing(t: Table, s: u32) -> u32
+    ensures { λ r. ⌜ r ≡ firstOwing t s ⌝ }
+{
+    if lives(t) < 2 {
+        return 0;
+    }
+    let w = Who::Owing {
+        mark: t.play.mark,
+        alone: alone(t),
+    };
+    let cs = t.chairs;
+    let n = t.sheet.seats;
+    chairs::seats::first_from(cs, w, n, s)
+}
+
+// The seat s has acted, and its chair is now c: the turn goes on to the first owing seat clockwise.
+fn after_act(t: Table, s: u32, c: Chair) -> Table
+    ensures { λ r. ⌜ r ≡ afterAct t s c ⌝ }
+{
+    let u = table::with_chair(t, s, c);
+    let next = first_owing(u, s);
+    table::with_turn(u, next)
+}

@@ -1,0 +1,89 @@
+// The cards: hole and board, a card already in this hand, and the board cards that open a round.
+use crate::betting;
+use crate::table;
+use crate::table::Table;
+use chairs::Who;
+use laws::either;
+use paper::or_else;
+use paper::when;
+ghost use mathlib.Core.Path.{_≡_};
+ghost use Prim.Native.Nat.{_≤_, _<_};
+ghost use lib.ListN.{take};
+ghost use Rattle.table.specs.Dealing.{hasCard, inThisHand, holeCode, heldTo, boardCode, boardedTo};
+
+// The seat is live and has no cards yet, and the cards are two new ones.
+pub(crate) fn hole_code(t: Table, s: u32, a: u32, b: u32) -> u8
+    ensures { λ r. ⌜ r ≡ holeCode t s a b ⌝ }
+{
+    let c = table::seat_of(t, s);
+    let off = !t.play.opened;
+    let out = !c.dealt.live;
+    let full = c.hole.entered;
+    let same = a == b;
+    let old = either(used(t, a), used(t, b));
+    or_else(
+        when(off, 4),
+        or_else(when(either(out, full), 5), when(either(same, old), 8)),
+    )
+}
+
+pub(crate) fn holed(t: Table, s: u32, a: u32, b: u32) -> Table
+    requires { ⌜ (a ≤ 51) × (b ≤ 51) ⌝ }
+    ensures { λ r. ⌜ r ≡ heldTo t s a b ⌝ }
+{
+    let c = chairs::held(table::seat_of(t, s), a, b);
+    table::with_chair(t, s, c)
+}
+
+// Nobody owes, two hands or more are live, and fewer than five cards lie.
+pub(crate) fn board_code(t: Table, k: u32) -> u8
+    ensures { λ r. ⌜ r ≡ boardCode t k ⌝ }
+{
+    let off = !t.play.opened;
+    let owed = betting::first_owing(t, 0) != 0;
+    let few = betting::lives(t) < 2;
+    let full = 5 <= t.board.count;
+    let old = used(t, k);
+    or_else(
+        when(either(off, either(owed, either(few, full))), 4),
+        when(old, 8),
+    )
+}
+
+pub(crate) fn boarded(t: Table, k: u32) -> Table
+    requires { ⌜ (t .board .count < 5) × (k ≤ 51) ⌝ }
+    ensures { λ r. ⌜ r ≡ boardedTo t k ⌝ }
+{
+    let u = table::with_card(t, k);
+    let n = u.board.count;
+    if 3 <= n { betting::new_round(u) } else { u }
+}
+
+// Whether one of the first n cards is the card.
+fn on_board(board: [u8; 5], n: u8, card: u32) -> bool
+    ensures { λ r. ⌜ r ≡ hasCard card (take n board) ⌝ }
+{
+    let mut i: usize = 0;
+    while i < 5 {
+        if n as usize <= i {
+            return false;
+        }
+        let x = board[i];
+        if x as u32 == card {
+            return true;
+        }
+        i += 1;
+    }
+    false
+}
+
+// Whether a card lies on the board or was entered for a hand.
+fn used(t: Table, card: u32) -> bool
+    ensures { λ r. ⌜ r ≡ inThisHand t card ⌝ }
+{
+    let cs = t.chairs;
+    let bs = t.board.cards;
+    let lies = on_board(bs, t.board.count, card);
+    let held = chairs::seats::count(cs, Who::Holding(card)) != 0;
+    laws::either(lies, held)
+}
