@@ -21,12 +21,12 @@ use Rattle.table.specs.Table.{afterAct, seatOf, nextChips, withTaken}
 use Rattle.table.specs.Acts.{foldedTo, checkedTo, calledTo, wageredTo, satTo, leftTo, deadTo, heldTo, boardedTo, openedTo, postedTo, newRound}
 use Rattle.table.specs.Settle.{settledTo, payoutNow}
 use Rattle.table.specs.Take.{appliedTo, codeOf, nextOf, payoutOf}
-use Rattle.table.specs.History.{run, AllTaken, noteOf, sits, putIn}
+use Rattle.history.specs.History.{run, AllTaken, noteOf, sits, putIn}
 use Rattle.table.specs.declared.table.Table.{Table}
-use Rattle.table.proofs.Over.{sumOver, keyed-none, all-at, all-put, all-map}
-use Rattle.table.proofs.Told.{dealer, deals}
-use Rattle.table.proofs.Clerk.{after}
-use Rattle.table.proofs.Demand.{late-unpaid}
+use Rattle.chairs.proofs.Over.{sumOver, keyed-none, all-at, all-put, all-map}
+use Rattle.history.proofs.Told.{dealer, deals}
+use Rattle.history.proofs.Clerk.{after}
+use Rattle.history.proofs.Demand.{late-unpaid}
 use Rattle.mission.specs.Settled.{paidTo, settles, atDeal}
 use Rattle.mission.proofs.Settled.{none-paid, paying}
 

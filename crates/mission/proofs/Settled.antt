@@ -17,20 +17,20 @@ use Rattle.paper.specs.declared.Entry.the-variants.{Settle}
 use Rattle.pots.specs.Heights.{chipsAt, chipsOver, over, liveOf, contested, backAt, backOf, maskAt}
 use Rattle.pots.proofs.Chips.{over-same, chips-none, chips-cons, chips-all}
 use Rattle.pots.proofs.Counts.{same-contested, max-same}
-use Rattle.pots.proofs.Bounds.{reach}
+use Rattle.pots.specs.Hand.{reach}
 use Rattle.chairs.specs.Chairs.{noChair, chairAt, columnOf}
 use Rattle.chairs.specs.declared.Chair.{Chair}
 use Rattle.chairs.specs.declared.What.the-variants as what
 use Rattle.table.specs.Settle.{totalsOf, livesOf, payoutNow, backNow}
 use Rattle.table.specs.Take.{codeOf, payoutOf}
-use Rattle.table.specs.History.{run, AllTaken, noteOf, sits, sittingsTo, putIn, liveIn}
+use Rattle.history.specs.History.{run, AllTaken, noteOf, sits, sittingsTo, putIn, liveIn}
 use Rattle.table.specs.declared.table.Table.{Table}
-use Rattle.table.proofs.Over.{sumOver, keyed-at}
-use Rattle.table.proofs.Told.{dealer, deals, totals}
-use Rattle.table.proofs.Clerk.{after, col-at}
-use Rattle.table.proofs.BySitting.{totals-told, stakes-told}
-use Rattle.table.proofs.Demand.{settle-all, paid-reach}
-use Rattle.mission.specs.Settled.{paidTo, settles, puts, reaches, clerkBack}
+use Rattle.chairs.proofs.Over.{sumOver, keyed-at}
+use Rattle.history.proofs.Told.{dealer, deals, totals}
+use Rattle.history.proofs.Clerk.{after, col-at}
+use Rattle.history.proofs.BySitting.{totals-told, stakes-told}
+use Rattle.history.proofs.Demand.{settle-all, paid-reach}
+use Rattle.mission.specs.Settled.{paidTo, settles, puts, clerkBack}
 
 -- ---- lists of totals with the same chips at every height
 
@@ -40,17 +40,12 @@ module _ (ts us : List ℕ) (same : (h : ℕ) → 1 ≤ h → chipsAt ts h ≡ c
       let n = max (maxOf ts) (maxOf us) in
       sym (chips-all ts n (omega arith)) ∙ over-same (chipsAt ts) (chipsAt us) 0 n (λ k a b. same k (omega arith)) ∙ chips-all us n (omega arith)
 
-reach-is : (ts : List ℕ) (x : ℕ) → chipsOver ts 0 x ≡ reaches ts x
-unfolding reaches
+reach-is : (ts : List ℕ) (x : ℕ) → chipsOver ts 0 x ≡ reach ts x
+unfolding reach sumOf
 reach-is [] x = chips-none 0 x
 reach-is (t ∷ ts) x = omega (arith, chips-cons t ts 0 x, reach-is ts x)
 
-reach-reaches : (ts : List ℕ) (x : ℕ) → reach ts x ≡ reaches ts x
-unfolding reach reaches
-reach-reaches [] x = refl
-reach-reaches (t ∷ ts) x = ap (λ k. min x t + k) (reach-reaches ts x)
-
-reach-same : (ts us : List ℕ) → ((h : ℕ) → 1 ≤ h → chipsAt ts h ≡ chipsAt us h) → (x : ℕ) → reaches ts x ≡ reaches us x
+reach-same : (ts us : List ℕ) → ((h : ℕ) → 1 ≤ h → chipsAt ts h ≡ chipsAt us h) → (x : ℕ) → reach ts x ≡ reach us x
 reach-same ts us same x = sym (reach-is ts x) ∙ over-same (chipsAt ts) (chipsAt us) 0 x (λ k a b. same k (omega arith)) ∙ reach-is us x
 
 back-same : (ts us : List ℕ) (lv mv : ℕ) → ((h : ℕ) → 1 ≤ h → chipsAt ts h ≡ chipsAt us h) → ((h : ℕ) → 1 ≤ h → chipsAt (liveOf ts lv) h ≡ chipsAt (liveOf us mv) h)
@@ -125,15 +120,15 @@ module _ (sheet : Sheet) (ok : isSheet sheet ≡ true) (es : List Entry) (taken 
   settle-whole = rw paying (settle-all now (after sheet ok es (taken .1) .sound .payable) ∙ sums-same (totalsOf now) (puts sheet es) (told-chips sheet ok es (taken .1)))
 
   -- no sitting is paid more than the sum of min(its total, theirs) over the sittings in the hand
-  pub settle-reach : (s : ℕ) → 0 < s → paidTo (settles sheet es .sittings) (settles sheet es .paid) s ≤ reaches (puts sheet es) (putIn sheet es s)
+  pub settle-reach : (s : ℕ) → 0 < s → paidTo (settles sheet es .sittings) (settles sheet es .paid) s ≤ reach (puts sheet es) (putIn sheet es s)
   unfolding payoutNow
   settle-reach s z =
       let a = after sheet ok es (taken .1) in
       let cs = now .chairs in
-      rw paying (one-paid s cs (payoutNow now .paid) (reaches (puts sheet es) (putIn sheet es s)) (a .told .seated .once s z)
+      rw paying (one-paid s cs (payoutNow now .paid) (reach (puts sheet es) (putIn sheet es s)) (a .told .seated .once s z)
         (λ i l e.
         let there : chairAt cs (suc i) ≡ noChair → ⊥ = λ q. omega (arith, eqb-true (dealer (getD cs i noChair)) s e, ap dealer q) in
         let put : putIn sheet es s ≡ getD (totalsOf now) i 0 =
         a .told .notes .put s z ∙ keyed-at dealer s (λ (c : Chair). c .dealt .total) cs (suc i) e there (a .told .seated .once s z) ∙ sym (col-at (columnOf what.Total) cs i l) in
         let r = reach-same (totalsOf now) (puts sheet es) (told-chips sheet ok es (taken .1)) (putIn sheet es s) in
-        omega (arith, paid-reach now i (a .size) (a .sound .payable .puck) (omega (arith, a .size)), ap (reach (totalsOf now)) put, reach-reaches (totalsOf now) (putIn sheet es s), r)))
+        omega (arith, paid-reach now i (a .size) (a .sound .payable .puck) (omega (arith, a .size)), ap (reach (totalsOf now)) put, r)))

@@ -1,6 +1,6 @@
 -- Demand 3 at settlement, by sitting: what each is paid, what all have put in, who came after the deal. Lists of entries have the newest first.
 -- Assumes nothing.
-use Prim.Native.Nat.{ℕ, _+_, min}
+use Prim.Native.Nat.{ℕ, _+_}
 use mathlib.Core.List.{List, [], _∷_, map}
 use lib.Dec.{eqb}
 use lib.ListN.{length}
@@ -12,7 +12,7 @@ use Rattle.paper.specs.declared.Entry.the-variants.{Sit, Leave, Hand, Hole, Fol
 use Rattle.pots.specs.Heights.{maskAt, backOf}
 use Rattle.table.specs.declared.table.Payout.{Payout}
 use Rattle.table.specs.Take.{payoutOf}
-use Rattle.table.specs.History.{run, sits, sittingsTo, putIn, liveIn}
+use Rattle.history.specs.History.{run, sits, sittingsTo, putIn, liveIn}
 
 -- what sitting s is paid: of the sittings and payments that a settled block lists
 unfoldable pub paidTo : List ℕ → List ℕ → ℕ → ℕ
@@ -27,11 +27,6 @@ settles sheet es = payoutOf (run sheet es) (length es + 1) Settle
 -- what each sitting there has been has put into this hand
 abbrev pub puts : Sheet → List Entry → List ℕ
 puts sheet es = map (putIn sheet es) (sittingsTo (sits es))
-
--- the sum of min(its total, theirs) over the sittings
-unfoldable pub reaches : List ℕ → ℕ → ℕ
-reaches [] x = 0
-reaches (y ∷ ys) x = min x y + reaches ys x
 
 -- the returned chips that the clerk finds from the two facts
 unfoldable pub clerkBack : Sheet → List Entry → ℕ
