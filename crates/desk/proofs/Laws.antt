@@ -1,15 +1,17 @@
 -- Laws of the desk: what is shown is small, a refusal changes nothing, 12 keeps every byte. Assumes nothing.
+-- ---- rows of sittings and what they are paid, one by one
 use mathlib.Core.Path.{_≡_, refl, sym, ap, subst, _∙_}
 use mathlib.Core.List.{List, [], _∷_, _++_, map}
-use mathlib.Core.Bool.{Bool, true, false, not}
+use mathlib.Core.Bool.{Bool, true, false}
+use mathlib.Core.Logic.{⊎-elim}
 use Prim.Native.Nat.{ℕ, zero, suc, _+_, _-_, _≤_, _<_, _^_}
 use native.Mathlib.Numerals.{add-one}
 use native.Mathlib.Omega.{arith}
 use lib.ListN.{length, getD, replicate, take, drop, set, drop-of-length-le}
 use lib.Seq.{drop-cons, take-all}
-use lib.Dec.{eqb, leb, ltb}
-use borrow.Author.Tests.{ne-eqb, lt-leb}
-use Rattle.laws.specs.Tests.{pick, both, either}
+use lib.Dec.{eqb}
+use borrow.Author.Tests.{lt-leb}
+use Rattle.laws.specs.Tests.{pick}
 use Rattle.text.specs.Line.{lineNumber, afterLine, valueOf}
 use Rattle.text.specs.Block.{blockOf, blockFrom, lineKind}
 use Rattle.text.specs.Entry.{parsedOf}
@@ -23,22 +25,18 @@ use Rattle.text.specs.declared.Parsed.{Parsed}
 use Rattle.text.specs.declared.Parsed.the-variants.{Read, OutOfRange}
 use Rattle.text.specs.declared.Written.{Written}
 use Rattle.text.specs.declared.Written.the-variants.{Bytes, NoRoom}
-use Rattle.paper.specs.Paper.{when, orElse, inRange}
 use Rattle.paper.specs.declared.Entry.{Entry}
 use Rattle.paper.specs.declared.Entry.the-variants.{Sit, Leave, Hand, Hole, Fold, Check, Call, Wager, Board, Dead, Settle, Void}
-use Rattle.chairs.specs.Chairs.{chipsOf, countOf, wantOf, roundOf, columnOf, Numbered}
+use Rattle.chairs.specs.Chairs.{columnOf, Numbered}
 use Rattle.laws.specs.Lists.{All, sumOf}
 use Rattle.chairs.specs.declared.Chair.{Chair}
-use Rattle.chairs.specs.declared.Who.the-variants.{Chips, Bare}
-use Rattle.table.specs.Table.{seatOf, usedOf, liveOf}
-use Rattle.table.specs.Acts.{nobodyOwes, isWager, isPuck, turnCode, checkCode, callCode, wagerCode, sitCode, leaveCode, deadCode, holeCode, boardCode, handCode}
-use Rattle.table.specs.Settle.{settleCode, totalsOf, livesOf, hereOf, scoresOf, dueNow, potsNow, backNow, payoutNow, noPayout}
-use Rattle.table.specs.Take.{Sound, kindCode, codeOf, nextOf, payoutOf, payoutBy}
+use Rattle.table.specs.Settle.{totalsOf, livesOf, hereOf, scoresOf, dueNow, potsNow, backNow, payoutNow, noPayout}
+use Rattle.table.specs.Take.{Sound, codeOf, nextOf, payoutOf, payoutBy}
 use Rattle.table.proofs.Laws.{totals-within, paid-at, due-small, sheet-rate}
+use Rattle.table.proofs.Refusals.{codes, refused-same}
 use Rattle.table.specs.declared.table.Table.{Table}
 use Rattle.table.specs.declared.table.Payout.{Payout as Paid}
 use Rattle.pots.specs.Heights.{backOf}
-use Rattle.pots.specs.Hand.{unclaimedOf, feeOfHand, dueOf}
 use Rattle.pots.specs.Runs.{pot, potSum, potsOf, padded}
 use Rattle.pots.specs.declared.Pot.{Pot}
 use Rattle.pots.specs.declared.Pots.{Pots}
@@ -53,8 +51,6 @@ use Rattle.desk.specs.declared.Judged.{Judged}
 use Rattle.desk.specs.declared.Answered.{Answered}
 use Rattle.desk.specs.Desk.{rowsOf, payoutShown, shownOf, refusedAt, judgeParsed, judgeBlock, judgedOf, blockBytes, answeredFrom, answeredOf, numberOfBlock, SmallPaid}
 use Rattle.chairs.specs.declared.What.the-variants as what
-
--- ---- rows of sittings and what they are paid, one by one
 
 abbrev rowAt : List ℕ → List ℕ → ℕ → Row
 rowAt ss ps i = record { sitting = getD ss i 0; paid = getD ps i 0 }
@@ -178,13 +174,9 @@ small-payout t n e h = go (eqb (codeOf t n e) 0)
 
 -- ---- a refusal changes nothing
 
-next-same : (t : Table) (n : ℕ) (e : Entry) → (codeOf t n e ≡ 0 → ⊥) → nextOf t n e ≡ t
-unfolding nextOf
-next-same t n e h = rw (ne-eqb (codeOf t n e) 0 h)
-
 parsed-same : (t : Table) (n : ℕ) (p : Parsed) → (judgeParsed t n p .code ≡ 0 → ⊥) → judgeParsed t n p .table ≡ t
 parsed-same t n OutOfRange h = refl
-parsed-same t n (Read e) h = next-same t n e h
+parsed-same t n (Read e) h = refused-same t n e h
 
 block-same : (t : Table) (b : Block) → (judgeBlock t b .code ≡ 0 → ⊥) → judgeBlock t b .table ≡ t
 block-same t (Raw n k s a b) h = parsed-same t n (parsedOf k s a b) h
@@ -206,48 +198,8 @@ refusal-keeps t log sheet h = answered-same t (judgedOf t log) (writtenOf (block
 
 -- ---- 12 is given exactly where the sheet is too short, and then keeps every byte
 
-or-most : (a b : ℕ) → a ≤ 10 → b ≤ 10 → orElse a b ≤ 10
-or-most zero b p q = q
-or-most (suc a) b p q = p
-
-when-most : (b : Bool) (k : ℕ) → k ≤ 10 → when b k ≤ 10
-when-most true k h = h
-when-most false k h = omega arith
-
-turn-most : (t : Table) (s : ℕ) → turnCode t s ≤ 10
-unfolding turnCode
-turn-most t s =
-    or-most _ _ (when-most (nobodyOwes t) 4 (omega arith))
-    (or-most _ _ (when-most (not (seatOf t s .dealt .live)) 5 (omega arith)) (when-most (not (eqb (t .play .turn) s)) 6 (omega arith)))
-
-kind-most : (t : Table) (e : Entry) → kindCode t e ≤ 10
-unfolding checkCode callCode wagerCode sitCode leaveCode deadCode holeCode boardCode handCode settleCode
-kind-most t (Sit s a) = or-most _ _ (when-most (not (eqb (seatOf t s .sitting) 0)) 5 (omega arith)) (when-most (ltb 100000000 (chipsOf (t .chairs) + a)) 9 (omega arith))
-kind-most t (Leave s) = when-most (either (eqb (seatOf t s .sitting) 0) (seatOf t s .dealt .live)) 5 (omega arith)
-kind-most t (Hand s) = or-most _ _ (when-most (either (t .play .opened) (ltb (countOf (wantOf Chips) (t .chairs)) 2)) 4 (omega arith)) (when-most (not (isPuck t s)) 5 (omega arith))
-kind-most t (Hole s a b) =
-    or-most _ _ (when-most (not (t .play .opened)) 4 (omega arith))
-    (or-most _ _ (when-most (either (not (seatOf t s .dealt .live)) (seatOf t s .hole .entered)) 5 (omega arith))
-    (when-most (either (eqb a b) (either (usedOf t a) (usedOf t b))) 8 (omega arith)))
-kind-most t (Fold s) = turn-most t s
-kind-most t (Check s) = or-most _ _ (turn-most t s) (when-most (not (eqb (roundOf (seatOf t s)) (t .play .mark))) 7 (omega arith))
-kind-most t (Call s) = or-most _ _ (turn-most t s) (when-most (not (ltb (roundOf (seatOf t s)) (t .play .mark))) 7 (omega arith))
-kind-most t (Wager s a) = or-most _ _ (turn-most t s) (when-most (not (isWager t (seatOf t s) a)) 7 (omega arith))
-kind-most t (Board k) =
-    or-most _ _ (when-most (either (not (t .play .opened)) (either (not (nobodyOwes t)) (either (ltb (liveOf t) 2) (leb 5 (t .board .count))))) 4 (omega arith))
-    (when-most (usedOf t k) 8 (omega arith))
-kind-most t (Dead s) =
-    or-most _ _ (when-most (either (not (t .play .opened)) (ltb (liveOf t) 2)) 4 (omega arith)) (when-most (not (seatOf t s .dealt .live)) 5 (omega arith))
-kind-most t Settle =
-    or-most _ _ (when-most (not (both (t .play .opened) (either (eqb (liveOf t) 1) (both (nobodyOwes t) (eqb (t .board .count) 5))))) 4 (omega arith))
-    (when-most (both (leb 2 (liveOf t)) (not (eqb (countOf (wantOf Bare) (t .chairs)) 0))) 10 (omega arith))
-kind-most t Void = omega arith
-
 code-most : (t : Table) (n : ℕ) (e : Entry) → codeOf t n e ≤ 10
-unfolding codeOf
-code-most t n e =
-    or-most _ _ (when-most (not (inRange (t .sheet) n e)) 2 (omega arith))
-    (or-most _ _ (when-most (not (eqb (t .taken + 1) n)) 3 (omega arith)) (kind-most t e))
+code-most t n e = ⊎-elim (λ z. omega arith) (λ z. z .1) (codes t n e)
 
 parsed-most : (t : Table) (n : ℕ) (p : Parsed) → judgeParsed t n p .code ≤ 10
 parsed-most t n OutOfRange = omega arith

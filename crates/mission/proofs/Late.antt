@@ -17,8 +17,11 @@ use Rattle.paper.specs.declared.Entry.the-variants.{Sit, Leave, Hand, Hole, Fol
 use Rattle.chairs.specs.Chairs.{Numbered, noChair, chairAt, putAt, sweepOf, dealtOf, closedOf, closeAll, paidOf}
 use Rattle.chairs.specs.declared.Chair.{Chair}
 use Rattle.chairs.specs.declared.Sweep.the-variants.{Again, Round, Deal}
-use Rattle.table.specs.Table.{afterAct, seatOf, nextChips, withTaken}
-use Rattle.table.specs.Acts.{foldedTo, checkedTo, calledTo, wageredTo, satTo, leftTo, deadTo, heldTo, boardedTo, openedTo, postedTo, newRound}
+use Rattle.table.specs.Betting.{afterAct, foldedTo, checkedTo, calledTo, wageredTo, deadTo, newRound}
+use Rattle.table.specs.Dealing.{heldTo, boardedTo}
+use Rattle.table.specs.Opening.{nextDealtIn, openedTo, postedTo}
+use Rattle.table.specs.Sittings.{satTo, leftTo}
+use Rattle.table.specs.State.{seatOf, withTaken}
 use Rattle.table.specs.Settle.{settledTo, payoutNow}
 use Rattle.table.specs.Take.{appliedTo, codeOf, nextOf, payoutOf}
 use Rattle.history.specs.History.{run, AllTaken, noteOf, sits, putIn}
@@ -72,7 +75,7 @@ opened-early t s h =
     let k = t .sittings in
     let d = all-map (Numbered k) (Early k) (sweepOf Deal) (t .chairs) h (dealt-early k) in
     let p = early-put k (map (sweepOf Deal) (t .chairs)) s (paidOf (chairAt (map (sweepOf Deal) (t .chairs)) s) (t .sheet .small)) d refl in
-    early-put k _ (nextChips t s) _ p refl
+    early-put k _ (nextDealtIn t s) _ p refl
 
 early-pick : (k : ℕ) (b : Bool) (t u : Table) → All (Early k) (t .chairs) → All (Early k) (u .chairs) → All (Early k) (pick b t u .chairs)
 early-pick k true t u p q = p

@@ -5,3 +5,5 @@ pub mod Settled
 pub mod Late
 pub mod Answers
 pub mod Same
+pub mod Winners
+pub mod Examples

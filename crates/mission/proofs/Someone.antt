@@ -11,8 +11,9 @@ use Rattle.laws.specs.Tests.{both, pick}
 use Rattle.laws.proofs.Tests.{both-true, test}
 use Rattle.chairs.specs.Chairs.{chairAt, firstOf, seatsFrom, clockwise, countOf, wantOf, roundOf, isOwing}
 use Rattle.chairs.specs.declared.Chair.{Chair}
-use Rattle.chairs.specs.declared.Who.the-variants.{Rich}
-use Rattle.table.specs.Table.{liveOf, aloneOf, owingOf, firstOwing, seatOf}
+use Rattle.chairs.specs.declared.Who.the-variants.{LiveWithChips}
+use Rattle.table.specs.Betting.{liveHands, onlyWithChips, owes, firstOwing}
+use Rattle.table.specs.State.{seatOf}
 use Rattle.table.specs.declared.table.Table.{Table}
 use Rattle.mission.specs.Allowed.{Owes, SomeoneOwes}
 
@@ -48,12 +49,12 @@ all-seats : (n : ℕ) → clockwise n 0 ≡ seatsFrom 0 n
 all-seats n = let e : n - 0 ≡ n = omega arith in append-nil (seatsFrom 0 (n - 0)) ∙ ap (seatsFrom 0) e
 
 -- a chair owes by the code's test exactly where it owes by the paper
-pub owes-is : (t : Table) (c : Chair) → owingOf t c ≡ true → Owes t c
-unfolding owingOf aloneOf
+pub owes-is : (t : Table) (c : Chair) → owes t c ≡ true → Owes t c
+unfolding owes onlyWithChips
 owes-is t c h =
     let rich = both (c .dealt .live) (ltb 0 (c .stack)) in
-    let level = both (leb (countOf (wantOf Rich) (t .chairs)) 1) (eqb (roundOf c) (t .play .mark)) in
-    let p = both-true (leb 2 (liveOf t)) (both rich (both (not (c .dealt .acted)) (not level))) h in
+    let level = both (leb (countOf (wantOf LiveWithChips) (t .chairs)) 1) (eqb (roundOf c) (t .play .mark)) in
+    let p = both-true (leb 2 (liveHands t)) (both rich (both (not (c .dealt .acted)) (not level))) h in
     let q = both-true rich (both (not (c .dealt .acted)) (not level)) (p .1) in
     let r = both-true (c .dealt .live) (ltb 0 (c .stack)) (q .0) in
     let s = both-true (not (c .dealt .acted)) (not level) (q .1) in
@@ -62,23 +63,23 @@ owes-is t c h =
       live = r .0;
       chips = ltb-true 0 (c .stack) (r .1);
       waits = not-true (c .dealt .acted) (s .0);
-      two = leb-true 2 (liveOf t) (p .0);
-      unless = λ a m. true≢false (sym (rw (le-leb (countOf (wantOf Rich) (t .chairs)) 1 a, eq-eqb (roundOf c) (t .play .mark) m) refl) ∙ no);
+      two = leb-true 2 (liveHands t) (p .0);
+      unless = λ a m. true≢false (sym (rw (le-leb (countOf (wantOf LiveWithChips) (t .chairs)) 1 a, eq-eqb (roundOf c) (t .play .mark) m) refl) ∙ no);
     }
 
-pub is-owing : (t : Table) (c : Chair) → Owes t c → owingOf t c ≡ true
-unfolding owingOf aloneOf
-is-owing t c o = rw (le-leb 2 (liveOf t) (o .two), o .live, lt-ltb 0 (c .stack) (o .chips), o .waits) (go (leb (countOf (wantOf Rich) (t .chairs)) 1) refl (eqb (roundOf c) (t .play .mark)) refl)
+pub is-owing : (t : Table) (c : Chair) → Owes t c → owes t c ≡ true
+unfolding owes onlyWithChips
+is-owing t c o = rw (le-leb 2 (liveHands t) (o .two), o .live, lt-ltb 0 (c .stack) (o .chips), o .waits) (go (leb (countOf (wantOf LiveWithChips) (t .chairs)) 1) refl (eqb (roundOf c) (t .play .mark)) refl)
   where
-    go : (a : Bool) → leb (countOf (wantOf Rich) (t .chairs)) 1 ≡ a → (b : Bool) → eqb (roundOf c) (t .play .mark) ≡ b → not (both a b) ≡ true
-    go true e true f = absurd (o .unless (leb-true (countOf (wantOf Rich) (t .chairs)) 1 e) (eqb-true (roundOf c) (t .play .mark) f))
+    go : (a : Bool) → leb (countOf (wantOf LiveWithChips) (t .chairs)) 1 ≡ a → (b : Bool) → eqb (roundOf c) (t .play .mark) ≡ b → not (both a b) ≡ true
+    go true e true f = absurd (o .unless (leb-true (countOf (wantOf LiveWithChips) (t .chairs)) 1 e) (eqb-true (roundOf c) (t .play .mark) f))
     go true e false f = refl
     go false e b f = refl
 
 pub someone : (t : Table) → eqb (firstOwing t 0) 0 ≡ false → SomeoneOwes t
 unfolding firstOwing
 someone t h =
-    let f = found (owingOf t) (t .chairs) 0 (t .sheet .seats) (λ z. eqb-false _ 0 h (ap (firstOf (owingOf t) (t .chairs)) (all-seats (t .sheet .seats)) ∙ z)) in
+    let f = found (owes t) (t .chairs) 0 (t .sheet .seats) (λ z. eqb-false _ 0 h (ap (firstOf (owes t) (t .chairs)) (all-seats (t .sheet .seats)) ∙ z)) in
     record { seat = f .seat; first = f .first; last = omega (arith, f .last); owes = owes-is t (seatOf t (f .seat)) (f .is) }
 
 pub nobody : (t : Table) → (SomeoneOwes t → ⊥) → eqb (firstOwing t 0) 0 ≡ true
@@ -87,5 +88,5 @@ nobody t h = ⊎-elim (λ e. e) (λ e. absurd (h (someone t e))) (test (eqb (fir
 pub not-nobody : (t : Table) → SomeoneOwes t → eqb (firstOwing t 0) 0 ≡ false
 unfolding firstOwing
 not-nobody t o =
-    ne-eqb _ 0 (λ z. passed (owingOf t) (t .chairs) 0 (t .sheet .seats) (o .seat) (o .first) (omega (arith, o .last)) (is-owing t (seatOf t (o .seat)) (o .owes))
-    (sym (ap (firstOf (owingOf t) (t .chairs)) (all-seats (t .sheet .seats))) ∙ z))
+    ne-eqb _ 0 (λ z. passed (owes t) (t .chairs) 0 (t .sheet .seats) (o .seat) (o .first) (omega (arith, o .last)) (is-owing t (seatOf t (o .seat)) (o .owes))
+    (sym (ap (firstOf (owes t) (t .chairs)) (all-seats (t .sheet .seats))) ∙ z))

@@ -14,8 +14,11 @@ use Rattle.paper.specs.declared.Entry.{Entry}
 use Rattle.paper.specs.declared.Entry.the-variants.{Sit, Leave, Hand, Hole, Fold, Check, Call, Wager, Board, Dead, Settle, Void}
 use Rattle.chairs.specs.Chairs.{countOf, wantOf, roundOf, chipsOf}
 use Rattle.chairs.specs.declared.Who.the-variants.{Chips, Bare}
-use Rattle.table.specs.Table.{seatOf, liveOf, nextChips, usedOf, firstOwing}
-use Rattle.table.specs.Acts.{nobodyOwes, isWager, isPuck, turnCode, checkCode, callCode, wagerCode, sitCode, leaveCode, deadCode, holeCode, boardCode, handCode}
+use Rattle.table.specs.Betting.{liveHands, firstOwing, nobodyOwes, isWager, turnCode, checkCode, callCode, wagerCode, deadCode}
+use Rattle.table.specs.Dealing.{inThisHand, holeCode, boardCode}
+use Rattle.table.specs.Opening.{nextDealtIn, isPuck, handCode}
+use Rattle.table.specs.Sittings.{sitCode, leaveCode}
+use Rattle.table.specs.State.{seatOf}
 use Rattle.table.specs.Settle.{settleCode}
 use Rattle.table.specs.Take.{kindCode, codeOf}
 use Rattle.table.specs.declared.table.Table.{Table}
@@ -182,30 +185,30 @@ hand-taken : (t : Table) (s : ℕ) → handCode t s ≡ 0 → MayOpen t s
 unfolding handCode isPuck
 hand-taken t s h =
     let few = ltb (countOf (wantOf Chips) (t .chairs)) 2 in
-    let broke = eqb (seatOf t s .stack) 0 in
+    let chips = ltb 0 (seatOf t s .stack) in
     let first = eqb (t .play .puck) 0 in
-    let next = eqb (nextChips t (t .play .puck)) s in
-    let p = or-zero (when (either (t .play .opened) few) 4) (when (not (both (not broke) (either first next))) 5) h in
+    let next = eqb (nextDealtIn t (t .play .puck)) s in
+    let p = or-zero (when (either (t .play .opened) few) 4) (when (not (both chips (either first next))) 5) h in
     let q = either-false (t .play .opened) few (when-zero (either (t .play .opened) few) 3 (p .0)) in
-    let r = both-true (not broke) (either first next) (passes (both (not broke) (either first next)) 4 (p .1)) in
+    let r = both-true chips (either first next) (passes (both chips (either first next)) 4 (p .1)) in
     record {
       none = q .0;
       two = ltb-false (countOf (wantOf Chips) (t .chairs)) 2 (q .1);
-      dealt = omega (arith, eqb-false (seatOf t s .stack) 0 (not-true broke (r .0)));
-      next = ⊎-elim (λ e. inl (eqb-true (t .play .puck) 0 e)) (λ e. inr (eqb-true (nextChips t (t .play .puck)) s e)) (one-of first next (r .1));
+      dealt = ltb-true 0 (seatOf t s .stack) (r .0);
+      next = ⊎-elim (λ e. inl (eqb-true (t .play .puck) 0 e)) (λ e. inr (eqb-true (nextDealtIn t (t .play .puck)) s e)) (one-of first next (r .1));
     }
 
 hand-code : (t : Table) (s : ℕ) → MayOpen t s → handCode t s ≡ 0
 unfolding handCode isPuck
 hand-code t s m =
     let few = ltb (countOf (wantOf Chips) (t .chairs)) 2 in
-    let broke = eqb (seatOf t s .stack) 0 in
+    let chips = ltb 0 (seatOf t s .stack) in
     let first = eqb (t .play .puck) 0 in
-    let next = eqb (nextChips t (t .play .puck)) s in
+    let next = eqb (nextDealtIn t (t .play .puck)) s in
     zero-or _ _ (zero-when (either (t .play .opened) few) 4 (neither (t .play .opened) few (m .none) (le-ltb (countOf (wantOf Chips) (t .chairs)) 2 (m .two))))
-    (passed (both (not broke) (either first next)) 5
-    (two (not broke) (either first next) (on broke (ne-eqb (seatOf t s .stack) 0 (λ z. omega (arith, m .dealt))))
-    (⊎-elim (λ e. left-of first next (eq-eqb (t .play .puck) 0 e)) (λ e. right-of first next (eq-eqb (nextChips t (t .play .puck)) s e)) (m .next))))
+    (passed (both chips (either first next)) 5
+    (two chips (either first next) (lt-ltb 0 (seatOf t s .stack) (m .dealt))
+    (⊎-elim (λ e. left-of first next (eq-eqb (t .play .puck) 0 e)) (λ e. right-of first next (eq-eqb (nextDealtIn t (t .play .puck)) s e)) (m .next))))
 
 hole-taken : (t : Table) (s a b : ℕ) → holeCode t s a b ≡ 0 → MayHole t s a b
 unfolding holeCode
@@ -213,12 +216,12 @@ hole-taken t s a b h =
     let live = seatOf t s .dealt .live in
     let full = seatOf t s .hole .entered in
     let same = eqb a b in
-    let old = either (usedOf t a) (usedOf t b) in
+    let old = either (inThisHand t a) (inThisHand t b) in
     let p = or-zero (when (not (t .play .opened)) 4) (orElse (when (either (not live) full) 5) (when (either same old) 8)) h in
     let q = or-zero (when (either (not live) full) 5) (when (either same old) 8) (p .1) in
     let r = either-false (not live) full (when-zero (either (not live) full) 4 (q .0)) in
     let u = either-false same old (when-zero (either same old) 7 (q .1)) in
-    let v = either-false (usedOf t a) (usedOf t b) (u .1) in
+    let v = either-false (inThisHand t a) (inThisHand t b) (u .1) in
     record {
       opened = passes (t .play .opened) 3 (p .0);
       live = not-false live (r .0);
@@ -235,92 +238,92 @@ hole-code t s a b m =
     let full = seatOf t s .hole .entered in
     zero-or _ _ (passed (t .play .opened) 4 (m .opened))
     (zero-or _ _ (zero-when (either (not live) full) 5 (neither (not live) full (off live (m .live)) (m .bare)))
-    (zero-when (either (eqb a b) (either (usedOf t a) (usedOf t b))) 8 (neither (eqb a b) _ (ne-eqb a b (m .two)) (neither (usedOf t a) (usedOf t b) (m .first) (m .second)))))
+    (zero-when (either (eqb a b) (either (inThisHand t a) (inThisHand t b))) 8 (neither (eqb a b) _ (ne-eqb a b (m .two)) (neither (inThisHand t a) (inThisHand t b) (m .first) (m .second)))))
 
 -- ---- board, dead, settle
 
 board-taken : (t : Table) (k : ℕ) → boardCode t k ≡ 0 → MayBoard t k
 unfolding boardCode
 board-taken t k h =
-    let few = ltb (liveOf t) 2 in
+    let few = ltb (liveHands t) 2 in
     let full = leb 5 (t .board .count) in
     let late = either few full in
     let owed = either (not (nobodyOwes t)) late in
-    let p = or-zero (when (either (not (t .play .opened)) owed) 4) (when (usedOf t k) 8) h in
+    let p = or-zero (when (either (not (t .play .opened)) owed) 4) (when (inThisHand t k) 8) h in
     let q = either-false (not (t .play .opened)) owed (when-zero (either (not (t .play .opened)) owed) 3 (p .0)) in
     let r = either-false (not (nobodyOwes t)) late (q .1) in
     let u = either-false few full (r .1) in
     record {
       opened = not-false (t .play .opened) (q .0);
       unowed = λ o. true≢false (sym (not-false (nobodyOwes t) (r .0)) ∙ not-nobody t o);
-      two = ltb-false (liveOf t) 2 (u .0);
+      two = ltb-false (liveHands t) 2 (u .0);
       under = leb-false 5 (t .board .count) (u .1);
-      fresh = when-zero (usedOf t k) 7 (p .1);
+      fresh = when-zero (inThisHand t k) 7 (p .1);
     }
 
 board-code : (t : Table) (k : ℕ) → MayBoard t k → boardCode t k ≡ 0
 unfolding boardCode
 board-code t k m =
-    let few = ltb (liveOf t) 2 in
+    let few = ltb (liveHands t) 2 in
     let full = leb 5 (t .board .count) in
     zero-or _ _
     (zero-when (either (not (t .play .opened)) (either (not (nobodyOwes t)) (either few full))) 4
     (neither (not (t .play .opened)) _ (off (t .play .opened) (m .opened))
     (neither (not (nobodyOwes t)) _ (off (nobodyOwes t) (nobody t (m .unowed)))
-    (neither few full (le-ltb (liveOf t) 2 (m .two)) (lt-leb 5 (t .board .count) (m .under))))))
-    (zero-when (usedOf t k) 8 (m .fresh))
+    (neither few full (le-ltb (liveHands t) 2 (m .two)) (lt-leb 5 (t .board .count) (m .under))))))
+    (zero-when (inThisHand t k) 8 (m .fresh))
 
 dead-taken : (t : Table) (s : ℕ) → deadCode t s ≡ 0 → MayDead t s
 unfolding deadCode
 dead-taken t s h =
-    let few = ltb (liveOf t) 2 in
+    let few = ltb (liveHands t) 2 in
     let live = seatOf t s .dealt .live in
     let p = or-zero (when (either (not (t .play .opened)) few) 4) (when (not live) 5) h in
     let q = either-false (not (t .play .opened)) few (when-zero (either (not (t .play .opened)) few) 3 (p .0)) in
-    record { opened = not-false (t .play .opened) (q .0); two = ltb-false (liveOf t) 2 (q .1); live = passes live 4 (p .1) }
+    record { opened = not-false (t .play .opened) (q .0); two = ltb-false (liveHands t) 2 (q .1); live = passes live 4 (p .1) }
 
 dead-code : (t : Table) (s : ℕ) → MayDead t s → deadCode t s ≡ 0
 unfolding deadCode
 dead-code t s m =
-    let few = ltb (liveOf t) 2 in
-    zero-or _ _ (zero-when (either (not (t .play .opened)) few) 4 (neither (not (t .play .opened)) few (off (t .play .opened) (m .opened)) (le-ltb (liveOf t) 2 (m .two))))
+    let few = ltb (liveHands t) 2 in
+    zero-or _ _ (zero-when (either (not (t .play .opened)) few) 4 (neither (not (t .play .opened)) few (off (t .play .opened) (m .opened)) (le-ltb (liveHands t) 2 (m .two))))
     (passed (seatOf t s .dealt .live) 5 (m .live))
 
 settle-taken : (t : Table) → settleCode t ≡ 0 → MaySettle t
 unfolding settleCode
 settle-taken t h =
-    let sole = eqb (liveOf t) 1 in
+    let sole = eqb (liveHands t) 1 in
     let five = eqb (t .board .count) 5 in
     let done = both (nobodyOwes t) five in
-    let many = leb 2 (liveOf t) in
+    let many = leb 2 (liveHands t) in
     let bare = eqb (countOf (wantOf Bare) (t .chairs)) 0 in
     let now = both (t .play .opened) (either sole done) in
     let p = or-zero (when (not now) 4) (when (both many (not bare)) 10) h in
     let q = both-true (t .play .opened) (either sole done) (passes now 3 (p .0)) in
     record {
       opened = q .0;
-      moment = ⊎-elim (λ e. inl (eqb-true (liveOf t) 1 e))
+      moment = ⊎-elim (λ e. inl (eqb-true (liveHands t) 1 e))
         (λ e. let r = both-true (nobodyOwes t) five e in inr ((λ o. true≢false (sym (r .0) ∙ not-nobody t o)), eqb-true (t .board .count) 5 (r .1)))
         (one-of sole done (q .1));
       cards = λ l. ⊎-elim (λ e. eqb-true (countOf (wantOf Bare) (t .chairs)) 0 e)
-        (λ e. absurd (true≢false (sym (two many (not bare) (le-leb 2 (liveOf t) l) (on bare e)) ∙ when-zero (both many (not bare)) 9 (p .1))))
+        (λ e. absurd (true≢false (sym (two many (not bare) (le-leb 2 (liveHands t) l) (on bare e)) ∙ when-zero (both many (not bare)) 9 (p .1))))
         (test bare);
     }
 
 settle-code : (t : Table) → MaySettle t → settleCode t ≡ 0
 unfolding settleCode
 settle-code t m =
-    let sole = eqb (liveOf t) 1 in
+    let sole = eqb (liveHands t) 1 in
     let five = eqb (t .board .count) 5 in
     let done = both (nobodyOwes t) five in
-    let many = leb 2 (liveOf t) in
+    let many = leb 2 (liveHands t) in
     let bare = eqb (countOf (wantOf Bare) (t .chairs)) 0 in
     zero-or _ _
     (passed (both (t .play .opened) (either sole done)) 4
     (two (t .play .opened) (either sole done) (m .opened)
-    (⊎-elim (λ e. left-of sole done (eq-eqb (liveOf t) 1 e)) (λ e. right-of sole done (two (nobodyOwes t) five (nobody t (e .0)) (eq-eqb (t .board .count) 5 (e .1)))) (m .moment))))
+    (⊎-elim (λ e. left-of sole done (eq-eqb (liveHands t) 1 e)) (λ e. right-of sole done (two (nobodyOwes t) five (nobody t (e .0)) (eq-eqb (t .board .count) 5 (e .1)))) (m .moment))))
     (zero-when (both many (not bare)) 10
-    (⊎-elim (λ e. go many (not bare) (off bare (eq-eqb (countOf (wantOf Bare) (t .chairs)) 0 (m .cards (leb-true 2 (liveOf t) e))))) (λ e. none many (not bare) e) (test many)))
+    (⊎-elim (λ e. go many (not bare) (off bare (eq-eqb (countOf (wantOf Bare) (t .chairs)) 0 (m .cards (leb-true 2 (liveHands t) e))))) (λ e. none many (not bare) e) (test many)))
   where
     go : (a b : Bool) → b ≡ false → both a b ≡ false
     go true b h = h

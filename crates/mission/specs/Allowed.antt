@@ -9,8 +9,11 @@ use Rattle.paper.specs.declared.Entry.{Entry}
 use Rattle.paper.specs.declared.Entry.the-variants.{Sit, Leave, Hand, Hole, Fold, Check, Call, Wager, Board, Dead, Settle, Void}
 use Rattle.chairs.specs.Chairs.{countOf, wantOf, roundOf, chipsOf}
 use Rattle.chairs.specs.declared.Chair.{Chair}
-use Rattle.chairs.specs.declared.Who.the-variants.{Rich, Chips, Bare}
-use Rattle.table.specs.Table.{seatOf, liveOf, nextChips, usedOf}
+use Rattle.chairs.specs.declared.Who.the-variants.{LiveWithChips, Chips, Bare}
+use Rattle.table.specs.Betting.{liveHands}
+use Rattle.table.specs.Dealing.{inThisHand}
+use Rattle.table.specs.Opening.{nextDealtIn}
+use Rattle.table.specs.State.{seatOf}
 use Rattle.table.specs.declared.table.Table.{Table}
 
 -- "A seat owes if it is live, has chips, hasn't acted since the last wager of this round by another, and two hands or more are live; but the only live
@@ -19,8 +22,8 @@ pub record Owes (t : Table) (c : Chair) : Type 0 where
   pub live : c .dealt .live ≡ true
   pub chips : 0 < c .stack
   pub waits : c .dealt .acted ≡ false
-  pub two : 2 ≤ liveOf t
-  pub unless : countOf (wantOf Rich) (t .chairs) ≤ 1 → roundOf c ≡ t .play .mark → ⊥
+  pub two : 2 ≤ liveHands t
+  pub unless : countOf (wantOf LiveWithChips) (t .chairs) ≤ 1 → roundOf c ≡ t .play .mark → ⊥
 
 -- someone owes: a seat of the table does
 pub record SomeoneOwes (t : Table) : Type 0 where
@@ -45,7 +48,7 @@ pub record MayOpen (t : Table) (s : ℕ) : Type 0 where
   pub none : t .play .opened ≡ false
   pub two : 2 ≤ countOf (wantOf Chips) (t .chairs)
   pub dealt : 0 < seatOf t s .stack
-  pub next : (t .play .puck ≡ 0) ⊎ (nextChips t (t .play .puck) ≡ s)
+  pub next : (t .play .puck ≡ 0) ⊎ (nextDealtIn t (t .play .puck) ≡ s)
 
 -- hole: a hand is open; live, no cards yet; two different cards that are not in this hand
 pub record MayHole (t : Table) (s a b : ℕ) : Type 0 where
@@ -53,8 +56,8 @@ pub record MayHole (t : Table) (s a b : ℕ) : Type 0 where
   pub live : seatOf t s .dealt .live ≡ true
   pub bare : seatOf t s .hole .entered ≡ false
   pub two : a ≡ b → ⊥
-  pub first : usedOf t a ≡ false
-  pub second : usedOf t b ≡ false
+  pub first : inThisHand t a ≡ false
+  pub second : inThisHand t b ≡ false
 
 -- fold, check, call, wager: someone owes; live, in turn
 pub record MayAct (t : Table) (s : ℕ) : Type 0 where
@@ -83,21 +86,21 @@ pub record MayWager (t : Table) (s a : ℕ) : Type 0 where
 pub record MayBoard (t : Table) (k : ℕ) : Type 0 where
   pub opened : t .play .opened ≡ true
   pub unowed : SomeoneOwes t → ⊥
-  pub two : 2 ≤ liveOf t
+  pub two : 2 ≤ liveHands t
   pub under : t .board .count < 5
-  pub fresh : usedOf t k ≡ false
+  pub fresh : inThisHand t k ≡ false
 
 -- dead: a hand is open, two live or more; live
 pub record MayDead (t : Table) (s : ℕ) : Type 0 where
   pub opened : t .play .opened ≡ true
-  pub two : 2 ≤ liveOf t
+  pub two : 2 ≤ liveHands t
   pub live : seatOf t s .dealt .live ≡ true
 
 -- settle: one live; or nobody owes and five board cards lie. With two live or more no live seat is without cards
 pub record MaySettle (t : Table) : Type 0 where
   pub opened : t .play .opened ≡ true
-  pub moment : (liveOf t ≡ 1) ⊎ ((SomeoneOwes t → ⊥) × (t .board .count ≡ 5))
-  pub cards : 2 ≤ liveOf t → countOf (wantOf Bare) (t .chairs) ≡ 0
+  pub moment : (liveHands t ≡ 1) ⊎ ((SomeoneOwes t → ⊥) × (t .board .count ≡ 5))
+  pub cards : 2 ≤ liveHands t → countOf (wantOf Bare) (t .chairs) ≡ 0
 
 -- void: never in this edition
 abbrev pub May : Table → Entry → Type 0

@@ -1,3 +1,4 @@
 -- What the mission's sentences say.
 pub mod Allowed
 pub mod Settled
+pub mod Examples
