@@ -1,6 +1,6 @@
 -- Laws of owing seats, of cards that are out and of what a code of 0 says, over tables. Assumes nothing.
 use Prim.Native.Nat.{ℕ, zero, suc, _+_, _<_, _≤_}
-use mathlib.Core.Bool.{true, false, not}
+use mathlib.Core.Bool.{Bool, true, false, not}
 use mathlib.Core.Path.{_≡_, refl, sym, _∙_}
 use mathlib.Core.List.{List, [], _∷_, map}
 use native.Mathlib.Numerals.{add-one}
@@ -10,16 +10,16 @@ use lib.Seq.{drop-cons}
 use lib.Dec.{eqb, leb, ltb}
 use borrow.Author.Tests.{le-leb, lt-leb, leb-false, leb-true}
 use Rattle.paper.specs.Paper.{when, isSheet}
-use Rattle.laws.specs.Tests.{both, either}
+use Rattle.laws.specs.Tests.{both, either, pick}
 use Rattle.paper.proofs.Codes.{or-zero, when-zero}
 use Rattle.laws.proofs.Tests.{either-false, both-true}
 use Rattle.paper.specs.declared.Sheet.{Sheet}
 use Rattle.laws.specs.Lists.{sumOf}
 use Rattle.pots.specs.Hand.{feeOfHand, dueOf, paidOf, unclaimedOf}
 use Rattle.pots.proofs.Hands.{none-lost, map-length, paid-and-unclaimed, at-most-sum}
-use Rattle.cards.specs.Order.{places, bestOf}
+use Rattle.cards.specs.Order.{places, bestOf, strengthBy}
 use Rattle.cards.proofs.Spelled.{strength-small}
-use Rattle.table.specs.Settle.{Payable, totalsOf, livesOf, hereOf, scoreOf, scoresOf, dueNow, payoutNow}
+use Rattle.table.specs.Settle.{Payable, totalsOf, livesOf, hereOf, isShown, handScore, scoreOf, scoresOf, dueNow, payoutNow}
 use Rattle.table.specs.declared.table.Board.{Board}
 use Rattle.table.specs.declared.table.Payout.{Payout}
 use Rattle.chairs.specs.Chairs.{firstOf, chipsOf, wantOf, clockwise, columnOf, noChair, paidOf as paysOf}
@@ -116,10 +116,17 @@ five-is (a ∷ b ∷ c ∷ d ∷ []) h = absurd (omega arith)
 five-is (a ∷ b ∷ c ∷ d ∷ e ∷ []) h = refl
 five-is (a ∷ b ∷ c ∷ d ∷ e ∷ f ∷ l) h = absurd (omega arith)
 
+score-small : (b : Board) (c : Chair) → scoreOf b c ≤ 100000000
+unfolding scoreOf handScore
+score-small b c = go (isShown c)
+  where
+    go : (s : Bool) → pick s (strengthBy places (bestOf places (c .hole .first ∷ c .hole .second ∷ b .cards))) 0 ≤ 100000000
+    go true = omega (arith, strength-small places (bestOf places (c .hole .first ∷ c .hole .second ∷ b .cards)))
+    go false = omega arith
+
 score-at : (b : Board) (cs : List Chair) (i : ℕ) → getD (map (scoreOf b) cs) i 0 ≤ 100000000
-unfolding scoreOf
 score-at b [] i = omega arith
-score-at b (c ∷ cs) zero = omega (arith, strength-small places (bestOf places (c .hole .first ∷ c .hole .second ∷ b .cards)))
+score-at b (c ∷ cs) zero = score-small b c
 score-at b (c ∷ cs) (suc i) = score-at b cs i
 
 pub scores-within : (b : Board) (cs : List Chair) (xs : List ℕ) → xs ≡ map (scoreOf b) cs → (i : ℕ) → getD xs i 0 ≤ 100000000

@@ -7,7 +7,7 @@ use mathlib.Core.Path.{_≡_}
 use lib.Dec.{ltb, leb, eqb}
 use lib.ListN.{replicate}
 use Rattle.paper.specs.Paper.{when, orElse, isSheet}
-use Rattle.laws.specs.Tests.{both, either}
+use Rattle.laws.specs.Tests.{both, either, pick}
 use Rattle.cards.specs.Order.{places, bestOf, strengthBy}
 use Rattle.pots.specs.Heights.{maskAt, backOf}
 use Rattle.pots.specs.Runs.{potsOf}
@@ -48,9 +48,17 @@ potsNow t = potsOf (totalsOf t) (livesOf t)
 unfoldable pub backNow : Table → ℕ
 backNow t = backOf (totalsOf t) (livesOf t)
 
+-- a live hand whose cards were entered: one that can be compared
+abbrev pub isShown : Chair → Bool
+isShown c = both (c .dealt .live) (c .hole .entered)
+
 -- the number of the best hand of five among a seat's two hole and the five board cards
+unfoldable pub handScore : Board → Chair → ℕ
+handScore b c = strengthBy places (bestOf places (c .hole .first ∷ c .hole .second ∷ b .cards))
+
+-- what a seat's hand counts in a contest; 0 where there is none to compare ("A sole contender needs no cards")
 unfoldable pub scoreOf : Board → Chair → ℕ
-scoreOf b c = strengthBy places (bestOf places (c .hole .first ∷ c .hole .second ∷ b .cards))
+scoreOf b c = pick (isShown c) (handScore b c) 0
 
 abbrev pub scoresOf : Table → List ℕ
 scoresOf t = map (scoreOf (t .board)) (t .chairs)

@@ -19,7 +19,7 @@ ghost use Prim.Native.Nat.{_+_, _-_, _≤_, _<_};
 ghost use lib.ListN.{length};
 ghost use Rattle.chairs.specs.Chairs.{chipsOf, closeAll};
 ghost use Rattle.pots.specs.Runs.{padded};
-ghost use Rattle.table.specs.Settle.{Payable, settleCode, totalsOf, livesOf, hereOf, scoreOf, potsNow, backNow, payoutNow, settledTo, closedPlay, noPayout};
+ghost use Rattle.table.specs.Settle.{Payable, settleCode, totalsOf, livesOf, hereOf, handScore, scoreOf, potsNow, backNow, payoutNow, settledTo, closedPlay, noPayout};
 
 // The table after an entry that is taken, and what it pays.
 pub struct Done {
@@ -65,12 +65,22 @@ fn here_seats(t: Table) -> u16
 }
 
 // The number of the best hand of the seven cards.
-fn score(b: Board, c: Chair) -> u32
-    ensures { λ r. ⌜ r ≡ scoreOf b c ⌝ }
+fn hand_score(b: Board, c: Chair) -> u32
+    ensures { λ r. ⌜ r ≡ handScore b c ⌝ }
 {
     let k = b.cards;
     let seven = [c.hole.first, c.hole.second, k[0], k[1], k[2], k[3], k[4]];
     cards::strength(cards::best_hand(&seven))
+}
+
+// What a seat's hand counts in a contest: a hand that is not live, or has no cards, is not looked at.
+fn score(b: Board, c: Chair) -> u32
+    ensures { λ r. ⌜ r ≡ scoreOf b c ⌝ }
+{
+    if both(c.dealt.live, c.hole.entered) {
+        return hand_score(b, c);
+    }
+    0
 }
 
 fn scores(b: Board, cs: [Chair; 10]) -> [u32; 10]

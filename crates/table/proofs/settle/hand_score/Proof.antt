@@ -1,0 +1,56 @@
+use mathlib.Core.Path.{_≡_, ap, _∙_}
+use mathlib.Core.List.{List, _∷_}
+use Prim.Native.Nat.{ℕ}
+use lib.ListN.{length}
+use Rattle.cards.specs.Order.{places, bestOf, strengthBy}
+use Rattle.table.specs.Settle.{handScore}
+use Rattle.table.proofs.Laws.{five-is}
+use borrow.Author.Needs.{needs}
+use Rattle.table.proofs.settle.hand_score.Statement.{statement}
+use Rattle.table.proofs.settle.hand_score.Tie as tie
+
+array-read-t7 : tie.Need-array-read-t7
+array-read-t7 c = search needs
+
+array-read-t10 : tie.Need-array-read-t10
+array-read-t10 c = search needs
+
+array-read-t13 : tie.Need-array-read-t13
+array-read-t13 c = search needs
+
+array-read-t16 : tie.Need-array-read-t16
+array-read-t16 c = search needs
+
+array-read-t19 : tie.Need-array-read-t19
+array-read-t19 c = search needs
+
+slice-aggregate-best-hand : tie.Need-slice-aggregate-best-hand
+slice-aggregate-best-hand c = search needs
+
+best-hand-requires : tie.Need-best-hand-requires
+best-hand-requires c κs = search needs
+
+strength-requires : tie.Need-strength-requires
+strength-requires c κs = search needs
+
+returns : tie.Need-returns
+unfolding handScore
+returns c =
+    let b = c .before .before .before .before .args .b in
+    let ch = c .before .before .before .before .args .c in
+    let len : length (b .cards) ≡ 5 = search needs in
+    c .strength .ensures ∙ ap (strengthBy places) (c .before .best-hand .ensures ∙ ap (λ (l : List ℕ). bestOf places (ch .hole .first ∷ ch .hole .second ∷ l)) (five-is (b .cards) len))
+
+pub hand-score-spec : {M : Type 1} → statement M
+hand-score-spec =
+    tie.close
+    (tie.spec
+    array-read-t7
+    array-read-t10
+    array-read-t13
+    array-read-t16
+    array-read-t19
+    slice-aggregate-best-hand
+    best-hand-requires
+    strength-requires
+    returns)
