@@ -1,9 +1,9 @@
 -- A hand's worth does not depend on the order in which its cards are listed. For any number of cards. Assumes nothing.
 use mathlib.Core.Path.{_≡_, refl, sym, ap, ap₂, _∙_, subst}
-use mathlib.Core.Bool.{Bool, true, false, false≢true}
+use mathlib.Core.Bool.{Bool, true}
 use mathlib.Core.Logic.{⊎-elim}
 use mathlib.Core.List.{List, [], _∷_, map}
-use Prim.Native.Nat.{ℕ, _+_, _<_, _≤_}
+use Prim.Native.Nat.{ℕ}
 use native.Mathlib.Omega.{arith}
 use lib.Dec.{eqb}
 use lib.ListN.{length, getD}
@@ -12,10 +12,9 @@ use Rattle.laws.specs.Tests.{one, both}
 use Rattle.laws.specs.Often.{count, SameNumbers}
 use Rattle.laws.proofs.Tests.{test, both-true}
 use Rattle.laws.proofs.Compare.{same-test}
-use Rattle.laws.proofs.Often.{one-small, count-self, same-map, same-length, tally-most}
-use Rattle.cards.specs.Cards.{rank, suit, before, ordered, lowered, inRow, allAre, allAlike, oneSuit, Leads, Falls, Order}
+use Rattle.laws.proofs.Often.{count-self, same-map, same-length, tally-most}
+use Rattle.cards.specs.Cards.{rank, suit, before, ordered, lowered, inRow, allAre, allAlike, oneSuit, Leads, Falls}
 use Rattle.cards.specs.Hands.{hand, holdings, ranksOf, classOf, classOfCards, valueOf}
-use Rattle.cards.specs.declared.Hand.{Hand}
 use Rattle.cards.proofs.Sorted.{ordered-right}
 use Rattle.cards.proofs.Sole.{ordered-only}
 

@@ -1,9 +1,9 @@
 -- The best hand of some cards, of any number, does not depend on the order in which they are listed. Assumes nothing.
-use mathlib.Core.Path.{_≡_, refl, sym, ap, ap₂, _∙_, subst}
-use mathlib.Core.Bool.{Bool, true, false}
+use mathlib.Core.Path.{_≡_, refl, sym, ap, _∙_}
+use mathlib.Core.Bool.{false}
 use mathlib.Core.Logic.{⊎-elim}
-use mathlib.Core.List.{List, [], _∷_, _++_, map, List·Memᴰ, List·Memᴰ·not-nil, List·Memᴰ·head, List·Memᴰ·append-cases, List·Memᴰ·eq-of-singleton, Memᴰ·append-left, Memᴰ·append-right, Memᴰ·map, Memᴰ·of-map, Memᴰ·cast}
-use Prim.Native.Nat.{ℕ, zero, suc, _+_, _<_, _≤_}
+use mathlib.Core.List.{List, [], _∷_, map, List·Memᴰ, List·Memᴰ·not-nil, List·Memᴰ·head, List·Memᴰ·append-cases, List·Memᴰ·eq-of-singleton, Memᴰ·append-left, Memᴰ·append-right, Memᴰ·map, Memᴰ·of-map, Memᴰ·cast}
+use Prim.Native.Nat.{ℕ, zero, suc, _≤_}
 use native.Mathlib.Omega.{arith}
 use native.Mathlib.Decide.{decLt}
 use lib.Dec.{eqb}
@@ -14,7 +14,7 @@ use Rattle.laws.specs.Often.{count, SameNumbers}
 use Rattle.laws.proofs.Tests.{test}
 use Rattle.laws.proofs.Often.{without, without-tally, without-length, count-self, same-length}
 use Rattle.cards.specs.Hands.{valueOf}
-use Rattle.cards.specs.Order.{places, beatsBy, choices, bestOf, Best}
+use Rattle.cards.specs.Order.{places, choices, bestOf}
 use Rattle.cards.specs.declared.Hand.{Hand}
 use Rattle.cards.proofs.Kept.{bestOf-best, places-placed}
 use Rattle.cards.proofs.Only.{best-only}
@@ -32,11 +32,11 @@ choice-within (suc k) [] c i = absurd (List·Memᴰ·not-nil i)
 choice-within (suc k) (a ∷ l) c i =
     ⊎-elim
     (λ (j : List·Memᴰ c (map (λ m. a ∷ m) (choices k l))).
-      let r = Memᴰ·of-map (λ m. a ∷ m) (choices k l) j in
-      let ih = choice-within k l (r .0) (r .1) in (
-        λ x. omega (arith, ap (count x) (r .2), ih .0 x),
-        omega (arith, ap length (r .2), ih .1),
-      ))
+    let r = Memᴰ·of-map (λ m. a ∷ m) (choices k l) j in
+    let ih = choice-within k l (r .0) (r .1) in (
+      λ x. omega (arith, ap (count x) (r .2), ih .0 x),
+      omega (arith, ap length (r .2), ih .1),
+    ))
     (λ (j : List·Memᴰ c (choices (suc k) l)). let ih = choice-within (suc k) l c j in (λ x. omega (arith, ih .0 x), ih .1))
     (List·Memᴰ·append-cases (map (λ m. a ∷ m) (choices k l)) i)
 
@@ -48,15 +48,15 @@ within-choice zero l (y ∷ c) w n = absurd (omega arith)
 within-choice (suc k) [] [] w n = absurd (omega arith)
 within-choice (suc k) [] (y ∷ c) w n = absurd (omega (arith, w y, count-self y c))
 within-choice (suc k) (a ∷ l) c w n = elim (decLt 0 (count a c)) [
-  yes h ↦
-    let r = within-choice k l (without a c) (λ x. omega (arith, w x, without-tally (eqb x) a c h)) (omega (arith, without-length a c h)) in
-    (a ∷ r .0, Memᴰ·append-left (choices (suc k) l) (Memᴰ·map (λ m. a ∷ m) (r .1)), λ x. omega (arith, without-tally (eqb x) a c h, r .2 x)) |
-  no h ↦
-    let r = within-choice (suc k) l c (λ x. ⊎-elim
+  | yes h ↦
+      let r = within-choice k l (without a c) (λ x. omega (arith, w x, without-tally (eqb x) a c h)) (omega (arith, without-length a c h)) in
+      (a ∷ r .0, Memᴰ·append-left (choices (suc k) l) (Memᴰ·map (λ m. a ∷ m) (r .1)), λ x. omega (arith, without-tally (eqb x) a c h, r .2 x))
+  | no h ↦
+      let r = within-choice (suc k) l c (λ x. ⊎-elim
       (λ e. omega (arith, ap (λ (v : ℕ). count v c) (eqb-true x a e)))
       (λ (e : eqb x a ≡ false). let o : one (eqb x a) ≡ 0 = ap one e in omega (arith, w x))
       (test (eqb x a))) n in
-    (r .0, Memᴰ·append-right (map (λ m. a ∷ m) (choices k l)) (r .1), r .2)
+      (r .0, Memᴰ·append-right (map (λ m. a ∷ m) (choices k l)) (r .1), r .2)
 ]
 
 -- each choice of the one list is worth what some choice of the other is

@@ -4,7 +4,7 @@ use mathlib.Core.Path.{_≡_, refl, sym, ap, _∙_}
 use mathlib.Core.Bool.{Bool, true, false, cond}
 use mathlib.Core.Logic.{⊎-elim}
 use mathlib.Core.List.{List, [], _∷_, map}
-use Prim.Native.Nat.{ℕ, _+_, _<_, _≤_, zero-le}
+use Prim.Native.Nat.{ℕ, _+_, _<_, _≤_}
 use native.Mathlib.Omega.{arith}
 use lib.Dec.{eqb}
 use lib.ListN.{length}
@@ -35,10 +35,10 @@ without-tally f x (y ∷ l) h =
     ⊎-elim
     (λ e. ap (λ (z : ℕ). one (f z) + tally f l) (sym (eqb-true x y e)) ∙ ap (λ (m : List ℕ). one (f x) + tally f m) (sym (without-here x y l e)))
     (λ e.
-      let z : one (eqb x y) ≡ 0 = ap one e in
-      let ih : tally f l ≡ one (f x) + tally f (without x l) = without-tally f x l (omega arith) in
-      let n : one (f y) + tally f l ≡ one (f x) + (one (f y) + tally f (without x l)) = omega arith in
-      n ∙ ap (λ (m : List ℕ). one (f x) + tally f m) (sym (without-later x y l e)))
+    let z : one (eqb x y) ≡ 0 = ap one e in
+    let ih : tally f l ≡ one (f x) + tally f (without x l) = without-tally f x l (omega arith) in
+    let n : one (f y) + tally f l ≡ one (f x) + (one (f y) + tally f (without x l)) = omega arith in
+    n ∙ ap (λ (m : List ℕ). one (f x) + tally f m) (sym (without-later x y l e)))
     (test (eqb x y))
 
 pub count-self : (x : ℕ) (l : List ℕ) → count x (x ∷ l) ≡ 1 + count x l

@@ -1,57 +1,37 @@
+-- `hands::answer` meets its contract. Assumes nothing.
 use Rattle.hands.proofs.Ended.{answer-is}
-use Rattle.hands.proofs.Written.{next}
-use Rattle.cards.specs.Reading.{readingOf}
-use Rattle.hands.specs.Answers.{readingBytes}
-use Rattle.hands.specs.Lines.{answerOf}
-use mathlib.Core.Path.{_∙_, ap}
 use native.Mathlib.Omega.{arith}
 use borrow.Author.Needs.{needs}
 use Rattle.hands.proofs.answer.Statement.{statement}
 use Rattle.hands.proofs.answer.Tie as tie
-use Rattle.hands.proofs.answer.Reads as reads
-use Rattle.hands.proofs.answer.Lts as lts
-use Rattle.cards.proofs.read_hand.Reads as read-hand-reads
-use Rattle.hands.proofs.end_word.Reads as end-word-reads
-use Rattle.hands.proofs.put.Reads as put-reads
-use Rattle.hands.proofs.put_reading.Reads as put-reading-reads
 
--- src/main.rt:153:9
 end-word-requires : tie.Need-end-word-requires
 end-word-requires c κs = search needs
 
--- src/main.rt:155:44
 sub-read-hand : tie.Need-sub-read-hand
 sub-read-hand c = search needs
 
--- src/main.rt:155:44
 part-read-hand-start : tie.Need-part-read-hand-start
 part-read-hand-start c = search needs
 
--- src/main.rt:155:44
 part-read-hand-end : tie.Need-part-read-hand-end
 part-read-hand-end c = omega (arith, c .before .before .before .end-word .ensures .1 ((c .before .before .before .before .before .before .before) .pre .0))
 
--- src/main.rt:155:27
 read-hand-requires : tie.Need-read-hand-requires
 read-hand-requires c κs = search needs
 
--- src/main.rt:155:9
 put-reading-requires : tie.Need-put-reading-requires
 put-reading-requires c κs = search needs
 
--- src/main.rt:156:5
 put-requires : tie.Need-put-requires
 put-requires c κs = search needs
 
--- src/main.rt:148:1
 same-length : tie.Need-same-length
 same-length c = search needs
 
--- src/main.rt:148:1
 same-length-2 : tie.Need-same-length-2
 same-length-2 c = search needs
 
--- src/main.rt:148:1
 returns : tie.Need-returns
 returns c = (answer-is _ (c .before .before .before .before .before .before .before .before .before .before .before .before .before .end-word .result) _ _ (c .before .before .before .before .before .before .before .before .read-hand .result) (c .before .before .before .before .before .before .before .before .before .before .before .before .before .end-word .ensures .0 .0) (c .before .before .before .before .before .before .before .before .before .before .before .before .before .end-word .ensures .0 .1) (c .before .before .before .before .before .before .before .before .read-hand .ensures .0) (c .before .before .before .before .before .before .put-reading .ensures .0) (c .before .before .put .ensures .0), omega (arith, c .before .before .before .before .before .before .put-reading .ensures .1, c .before .before .put .ensures .1))
 

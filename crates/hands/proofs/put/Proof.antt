@@ -1,24 +1,19 @@
-use Rattle.hands.specs.Answers.{written, Wrote}
-use mathlib.Core.Path.{_≡_, refl}
+-- `hands::put` meets its contract. Assumes nothing.
+use Rattle.hands.specs.Answers.{written}
+use mathlib.Core.Path.{refl}
 use borrow.Author.Needs.{needs}
 use Rattle.hands.proofs.put.Statement.{statement}
 use Rattle.hands.proofs.put.Tie as tie
-use Rattle.hands.proofs.put.Reads as reads
-use Rattle.hands.proofs.put.Lts as lts
 
--- src/main.rt:89:5
 slice-write-out : tie.Need-slice-write-out
 slice-write-out c = search needs
 
--- src/main.rt:90:5
 add-result : tie.Need-add-result
 add-result c = search needs
 
--- src/main.rt:84:1
 same-length : tie.Need-same-length
 same-length c = search needs
 
--- src/main.rt:84:1
 returns : tie.Need-returns
 unfolding written
 returns c = (record { end = refl; sheet = refl }, refl)

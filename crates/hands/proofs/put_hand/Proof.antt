@@ -1,48 +1,35 @@
+-- `hands::put_hand` meets its contract. Assumes nothing.
 use Rattle.hands.proofs.Written.{next}
 use Rattle.hands.specs.Answers.{handBytes}
 use native.Mathlib.Omega.{arith}
 use borrow.Author.Needs.{needs}
 use Rattle.hands.proofs.put_hand.Statement.{statement}
 use Rattle.hands.proofs.put_hand.Tie as tie
-use Rattle.hands.proofs.put_hand.Reads as reads
-use Rattle.hands.proofs.put_hand.Lts as lts
-use Rattle.hands.proofs.from_lowest.Reads as from-lowest-reads
-use Rattle.hands.proofs.put_number.Reads as put-number-reads
-use Rattle.hands.proofs.put_rank.Reads as put-rank-reads
 
--- src/main.rt:128:33
 from-lowest-requires : tie.Need-from-lowest-requires
 from-lowest-requires c κs = search needs
 
--- src/main.rt:128:9
 put-number-requires : tie.Need-put-number-requires
 put-number-requires c κs = search needs
 
--- src/main.rt:129:9
 put-rank-requires : tie.Need-put-rank-requires
 put-rank-requires c κs = search needs
 
--- src/main.rt:130:9
 put-rank-requires-2 : tie.Need-put-rank-requires-2
 put-rank-requires-2 c κs = search needs
 
--- src/main.rt:131:9
 put-rank-requires-3 : tie.Need-put-rank-requires-3
 put-rank-requires-3 c κs = search needs
 
--- src/main.rt:132:9
 put-rank-requires-4 : tie.Need-put-rank-requires-4
 put-rank-requires-4 c κs = search needs
 
--- src/main.rt:133:5
 put-rank-requires-5 : tie.Need-put-rank-requires-5
 put-rank-requires-5 c κs = search needs
 
--- src/main.rt:123:1
 same-length : tie.Need-same-length
 same-length c = search needs
 
--- src/main.rt:123:1
 returns : tie.Need-returns
 unfolding handBytes
 returns c = (next (next (next (next (next (rw (c .before .before .before .before .before .before .before .before .before .before .before .before .before .before .before .before .before .before .before .before .before .before .before .from-lowest .ensures) at (c .before .before .before .before .before .before .before .before .before .before .before .before .before .before .before .before .before .before .before .before .before .before .put-number .ensures .0)) (c .before .before .before .before .before .before .before .before .before .before .before .before .before .before .before .before .before .before .put-rank .ensures .0)) (c .before .before .before .before .before .before .before .before .before .before .before .before .before .before .put-rank2 .ensures .0)) (c .before .before .before .before .before .before .before .before .before .before .put-rank3 .ensures .0)) (c .before .before .before .before .before .before .put-rank4 .ensures .0)) (c .before .before .put-rank5 .ensures .0), omega (arith, c .before .before .before .before .before .before .before .before .before .before .before .before .before .before .before .before .before .before .before .before .before .before .put-number .ensures .1, c .before .before .before .before .before .before .before .before .before .before .before .before .before .before .before .before .before .before .put-rank .ensures .1, c .before .before .before .before .before .before .before .before .before .before .before .before .before .before .put-rank2 .ensures .1, c .before .before .before .before .before .before .before .before .before .before .put-rank3 .ensures .1, c .before .before .before .before .before .before .put-rank4 .ensures .1, c .before .before .put-rank5 .ensures .1))

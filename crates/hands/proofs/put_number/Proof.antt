@@ -1,3 +1,4 @@
+-- `hands::put_number` meets its contract. Assumes nothing.
 use Rattle.hands.proofs.Written.{next}
 use Rattle.hands.specs.Answers.{numberBytes}
 use borrow.Author.Tests.{lt-ltb, le-ltb}
@@ -5,48 +6,35 @@ use native.Mathlib.Omega.{arith}
 use borrow.Author.Needs.{needs}
 use Rattle.hands.proofs.put_number.Statement.{statement}
 use Rattle.hands.proofs.put_number.Tie as tie
-use Rattle.hands.proofs.put_number.Reads as reads
-use Rattle.hands.proofs.put_number.Lts as lts
-use Rattle.hands.proofs.put.Reads as put-reads
 
--- src/main.rt:100:29
 add-put : tie.Need-add-put
 add-put c = search needs
 
--- src/main.rt:100:9
 put-requires : tie.Need-put-requires
 put-requires c κs = search needs
 
--- src/main.rt:100:9
 same-length : tie.Need-same-length
 same-length c = search needs
 
--- src/main.rt:100:9
 returns : tie.Need-returns
 unfolding numberBytes
 returns c = (rw (lt-ltb _ _ (c .before .before .before .before .if1 .taken)) (c .before .before .put .ensures .0), omega arith)
 
--- src/main.rt:102:29
 add-put-2 : tie.Need-add-put-2
 add-put-2 c = search needs
 
--- src/main.rt:102:9
 put-requires-2 : tie.Need-put-requires-2
 put-requires-2 c κs = search needs
 
--- src/main.rt:103:20
 add-put-3 : tie.Need-add-put-3
 add-put-3 c = search needs
 
--- src/main.rt:103:5
 put-requires-3 : tie.Need-put-requires-3
 put-requires-3 c κs = search needs
 
--- src/main.rt:94:1
 same-length-2 : tie.Need-same-length-2
 same-length-2 c = search needs
 
--- src/main.rt:94:1
 returns-2 : tie.Need-returns-2
 unfolding numberBytes
 returns-2 c = (rw (le-ltb _ _ (c .before .before .before .before .before .before .before .before .if1 .left)) (next (c .before .before .before .before .before .before .put2 .ensures .0) (c .before .before .put3 .ensures .0)), omega arith)

@@ -1,27 +1,20 @@
+-- `hands::put_rank` meets its contract. Assumes nothing.
 use Rattle.hands.proofs.Written.{next}
 use Rattle.hands.specs.Answers.{rankBytes}
 use native.Mathlib.Omega.{arith}
 use borrow.Author.Needs.{needs}
 use Rattle.hands.proofs.put_rank.Statement.{statement}
 use Rattle.hands.proofs.put_rank.Tie as tie
-use Rattle.hands.proofs.put_rank.Reads as reads
-use Rattle.hands.proofs.put_rank.Lts as lts
-use Rattle.hands.proofs.put.Reads as put-reads
-use Rattle.hands.proofs.put_number.Reads as put-number-reads
 
--- src/main.rt:112:9
 put-requires : tie.Need-put-requires
 put-requires c κs = search needs
 
--- src/main.rt:113:5
 put-number-requires : tie.Need-put-number-requires
 put-number-requires c κs = search needs
 
--- src/main.rt:107:1
 same-length : tie.Need-same-length
 same-length c = search needs
 
--- src/main.rt:107:1
 returns : tie.Need-returns
 unfolding rankBytes
 returns c = (next (c .before .before .before .before .before .before .put .ensures .0) (c .before .before .put-number .ensures .0), omega arith)

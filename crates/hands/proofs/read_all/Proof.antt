@@ -1,3 +1,4 @@
+-- `hands::read_all` meets its contract. Assumes nothing.
 use mathlib.Core.Path.{_≡_, refl}
 use Prim.Native.Nat.{_≤_}
 use native.Mathlib.Omega.{arith}
@@ -5,10 +6,6 @@ use lib.ListN.{length}
 use borrow.Author.Needs.{needs}
 use Rattle.hands.proofs.read_all.Statement.{statement}
 use Rattle.hands.proofs.read_all.Tie as tie
-use Rattle.hands.proofs.read_all.Reads as reads
-use Rattle.hands.proofs.read_all.Lts as lts
-use Rattle.hands.proofs.fresh.Reads as fresh-reads
-use Rattle.hands.proofs.read_some.Reads as read-some-reads
 
 abbrev Inv-loop : tie.InvT-loop
 Inv-loop cards₀ line₀ turns₀ cards line turns = (length cards ≡ length cards₀) × (line .have ≤ length cards₀)
@@ -16,43 +13,33 @@ Inv-loop cards₀ line₀ turns₀ cards line turns = (length cards ≡ length c
 abbrev μ-loop : tie.MeasureT-loop
 μ-loop cards₀ line₀ turns₀ cards line turns = turns
 
--- src/main.rt:241:9
 fresh-requires : tie.Need-fresh-requires Inv-loop μ-loop
 fresh-requires c κs = search needs
 
--- src/main.rt:243:5
 loop-holds : tie.Need-loop-holds Inv-loop μ-loop
 loop-holds c = (refl, omega (arith, c .fresh .ensures .1))
 
--- src/main.rt:244:13
 read-some-requires : tie.Need-read-some-requires Inv-loop μ-loop
 read-some-requires c κs = omega (arith, c .before .before .loop .inv .0, c .before .before .loop .inv .1)
 
--- src/main.rt:248:13
 same-length : tie.Need-same-length Inv-loop μ-loop
 same-length c = search needs
 
--- src/main.rt:248:13
 returns : tie.Need-returns Inv-loop μ-loop
 returns c = omega (arith, c .before .before .before .before .before .read-some .ensures, c .before .before .before .before .before .before .before .before .loop .inv .0)
 
--- src/main.rt:250:9
 sub-turns : tie.Need-sub-turns Inv-loop μ-loop
 sub-turns c = search needs
 
--- src/main.rt:243:5
 loop-less : tie.Need-loop-less Inv-loop μ-loop
 loop-less c = search needs
 
--- src/main.rt:243:5
 loop-again : tie.Need-loop-again Inv-loop μ-loop
 loop-again c = (search needs, omega (arith, c .before .before .before .before .before .read-some .ensures, c .before .before .before .before .before .before .before .before .loop .inv .0))
 
--- src/main.rt:238:1
 same-length-2 : tie.Need-same-length-2 Inv-loop μ-loop
 same-length-2 c = search needs
 
--- src/main.rt:238:1
 returns-2 : tie.Need-returns-2 Inv-loop μ-loop
 returns-2 c = c .before .loop .inv .1
 

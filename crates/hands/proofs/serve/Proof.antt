@@ -1,3 +1,4 @@
+-- `hands::serve` meets its contract. Assumes nothing.
 use mathlib.Core.Path.{_≡_, refl}
 use Prim.Native.Nat.{_-_, _≤_}
 use native.Mathlib.Omega.{arith}
@@ -5,11 +6,6 @@ use lib.ListN.{length}
 use borrow.Author.Needs.{needs}
 use Rattle.hands.proofs.serve.Statement.{statement}
 use Rattle.hands.proofs.serve.Tie as tie
-use Rattle.hands.proofs.serve.Reads as reads
-use Rattle.hands.proofs.serve.Lts as lts
-use Rattle.hands.proofs.serve_byte.Reads as serve-byte-reads
-use Rattle.io.proofs.large_buffer.Reads as large-buffer-reads
-use Rattle.io.proofs.write_all.Reads as write-all-reads
 
 abbrev Inv-loop : tie.InvT-loop
 Inv-loop cards₀ part out₀ line₀ at₀ i₀ cards out line at i =
@@ -18,59 +14,45 @@ Inv-loop cards₀ part out₀ line₀ at₀ i₀ cards out line at i =
 abbrev μ-loop : tie.MeasureT-loop
 μ-loop cards₀ part out₀ line₀ at₀ i₀ cards out line at i = length part - i
 
--- src/main.rt:198:19
 large-buffer-requires : tie.Need-large-buffer-requires Inv-loop μ-loop
 large-buffer-requires c κs = search needs
 
--- src/main.rt:202:5
 loop-holds : tie.Need-loop-holds Inv-loop μ-loop
 loop-holds c = (refl, search needs, (c .before .before .before) .pre, omega arith, omega arith)
 
--- src/main.rt:203:41
 shared-slice-read-serve-byte : tie.Need-shared-slice-read-serve-byte Inv-loop μ-loop
 shared-slice-read-serve-byte c = search needs
 
--- src/main.rt:203:50
 slice-aggregate-serve-byte : tie.Need-slice-aggregate-serve-byte Inv-loop μ-loop
 slice-aggregate-serve-byte c = search needs
 
--- src/main.rt:203:13
 serve-byte-requires : tie.Need-serve-byte-requires Inv-loop μ-loop
 serve-byte-requires c κs = (omega (arith, c .before .before .before .before .loop .inv .2, c .before .before .before .before .loop .inv .0), omega (arith, c .before .before .before .before .loop .inv .1, c .before .before .before .before .loop .inv .3), c .before .before .before .before .loop .inv .1)
 
--- src/main.rt:207:9
 add-i : tie.Need-add-i Inv-loop μ-loop
 add-i c = search needs
 
--- src/main.rt:202:5
 loop-less : tie.Need-loop-less Inv-loop μ-loop
 loop-less c = search needs
 
--- src/main.rt:202:5
 loop-again : tie.Need-loop-again Inv-loop μ-loop
 loop-again c = (search needs, search needs, omega (arith, c .before .before .before .before .serve-byte .ensures .0, c .before .before .before .before .before .before .before .before .before .loop .inv .0), omega (arith, c .before .before .before .before .serve-byte .ensures .1, c .before .before .before .before .before .before .before .before .before .loop .inv .1), omega arith)
 
--- src/main.rt:209:34
 sub-write-all : tie.Need-sub-write-all Inv-loop μ-loop
 sub-write-all c = search needs
 
--- src/main.rt:209:34
 part-write-all-start : tie.Need-part-write-all-start Inv-loop μ-loop
 part-write-all-start c = search needs
 
--- src/main.rt:209:34
 part-write-all-end : tie.Need-part-write-all-end Inv-loop μ-loop
 part-write-all-end c = search needs
 
--- src/main.rt:209:5
 write-all-requires : tie.Need-write-all-requires Inv-loop μ-loop
 write-all-requires c κs = search needs
 
--- src/main.rt:194:1
 same-length : tie.Need-same-length Inv-loop μ-loop
 same-length c = search needs
 
--- src/main.rt:194:1
 returns : tie.Need-returns Inv-loop μ-loop
 returns c = c .before .before .before .before .loop .inv .2
 

@@ -1,32 +1,23 @@
+-- `hands::take_byte` meets its contract. Assumes nothing.
 use Rattle.hands.specs.Lines.{takenTo, cardsWith}
-use mathlib.Core.Path.{_≡_, refl}
 use borrow.Author.Tests.{eq-eqb, ne-eqb}
 use borrow.Author.Needs.{needs}
 use Rattle.hands.proofs.take_byte.Statement.{statement}
 use Rattle.hands.proofs.take_byte.Tie as tie
-use Rattle.hands.proofs.take_byte.Reads as reads
-use Rattle.hands.proofs.take_byte.Lts as lts
-use Rattle.hands.proofs.end_word.Reads as end-word-reads
-use Rattle.hands.proofs.grown.Reads as grown-reads
 
--- src/main.rt:75:9
 end-word-requires : tie.Need-end-word-requires
 end-word-requires c κs = search needs
 
--- src/main.rt:75:9
 same-length : tie.Need-same-length
 same-length c = search needs
 
--- src/main.rt:75:9
 returns : tie.Need-returns
 unfolding takenTo cardsWith
 returns c = ((rw (eq-eqb _ _ (c .before .before .before .before .if1 .taken)) (c .before .before .end-word .ensures .0 .0), rw (eq-eqb _ _ (c .before .before .before .before .if1 .taken)) (c .before .before .end-word .ensures .0 .1)), c .before .before .end-word .ensures .1)
 
--- src/main.rt:79:15
 grown-requires : tie.Need-grown-requires
 grown-requires c κs = search needs
 
--- src/main.rt:70:1
 returns-2 : tie.Need-returns-2
 unfolding takenTo cardsWith
 returns-2 c = ((rw (ne-eqb _ _ (c .before .if1 .left), c .grown .ensures), rw (ne-eqb _ _ (c .before .if1 .left))), λ h. h)
