@@ -4,7 +4,7 @@
 use Prim.Native.Nat.{ℕ, zero, suc, _+_, _-_, _*_, _/_, _%_, _^_, _≤_, _<_, max, zero-le}
 use mathlib.Core.Path.{_≡_, refl, sym, ap, ap₂, _∙_, subst}
 use mathlib.Core.Bool.{Bool, true, false}
-use mathlib.Core.List.{List, [], _∷_, _++_, map}
+use mathlib.Core.List.{List, [], _∷_, _++_, map, map-append}
 use native.Mathlib.Nat.{zero-add, suc-add}
 use native.Mathlib.Omega.{arith}
 use lib.Dec.{leb, eqb}
@@ -96,10 +96,6 @@ returned-zeros : (ts : List ℕ) (live k : ℕ) → map (returnedOf ts live) (ze
 unfolding returnedOf over
 returned-zeros ts live zero = refl
 returned-zeros ts live (suc k) = ap (λ l. 0 ∷ l) (returned-zeros ts live k)
-
-map-append : (f : ℕ → ℕ) (xs ys : List ℕ) → map f (xs ++ ys) ≡ map f xs ++ map f ys
-map-append f [] ys = refl
-map-append f (x ∷ xs) ys = ap (λ l. f x ∷ l) (map-append f xs ys)
 
 -- ---- the contenders of each pot are among the seats
 join-all : (P : ℕ → Type 0) (c i : ℕ) (ps : List Pot) → P i → All (λ (p : Pot). P (p .who)) ps → All (λ (p : Pot). P (p .who)) (join c i ps)

@@ -3,7 +3,7 @@ ghost use mathlib.Core.Path.{_≡_};
 ghost use mathlib.Core.Bool.{true};
 ghost use Prim.Native.Nat.{ℕ, _≤_, _<_};
 ghost use lib.ListN.{getD};
-ghost use Rattle.laws.specs.Lists.{sumOf, maxOf};
+ghost use Rattle.laws.specs.Lists.{sumOf};
 
 pub struct Hand {
     pub seats: usize,
@@ -79,18 +79,6 @@ fn sum(xs: [u32; 10]) -> u64
     s
 }
 
-fn largest(xs: [u32; 10]) -> u32
-    ensures { λ r. ⌜ r ≡ maxOf xs ⌝ }
-{
-    let mut m: u32 = 0;
-    let mut i: usize = 10;
-    while 0 < i {
-        i -= 1;
-        m = laws::most(xs[i], m);
-    }
-    m
-}
-
 // Whether a hand keeps the bounds that `pots` asks for.
 pub fn fair(h: Hand) -> bool
     ensures { λ r. ⌜ (r ≡ true → (h .seats ≤ 10) × (sumOf (h .totals) ≤ 100000000) × (h .rate ≤ 100) × (h .puck ≤ 10) × ((i : ℕ) → getD (h .scores) i 0 ≤ 100000000)) ⌝ }
@@ -112,5 +100,5 @@ pub fn fair(h: Hand) -> bool
     if 10 < h.puck {
         return false;
     }
-    largest(scores) <= 100000000
+    pots::mask_at(scores, 100000001) == 0
 }

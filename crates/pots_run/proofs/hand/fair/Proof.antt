@@ -3,8 +3,9 @@
 use mathlib.Core.Bool.{false≢true}
 use native.Mathlib.Omega.{arith}
 use borrow.Author.Needs.{needs}
-use borrow.Author.Tests.{leb-true}
-use Rattle.laws.proofs.Sums.{at-most-max}
+use borrow.Author.Tests.{eqb-true}
+use mathlib.Core.Path.{sym, _∙_}
+use Rattle.pots.proofs.Masks.{mask-empty}
 use Rattle.pots_run.proofs.hand.fair.Statement.{statement}
 use Rattle.pots_run.proofs.hand.fair.Tie as tie
 
@@ -26,8 +27,8 @@ returns-4 c = λ e. absurd (false≢true e)
 returns-5 : tie.Need-returns-5
 returns-5 c = λ e. absurd (false≢true e)
 
-largest-requires : tie.Need-largest-requires
-largest-requires c κs = search needs
+mask-at-requires : tie.Need-mask-at-requires
+mask-at-requires c κs = search needs
 
 returns-6 : tie.Need-returns-6
 returns-6 c = λ e. (
@@ -35,10 +36,10 @@ returns-6 c = λ e. (
   omega (arith, c .before .before .before .before .before .before .sum .ensures),
   omega arith,
   omega arith,
-  λ i. omega (arith, at-most-max (c .before .before .before .before .before .before .before .before .before .before .before .before .before .args .h .scores) i, leb-true (c .largest .result) 100000000 e, c .largest .ensures),
+  λ i. omega (arith, mask-empty (c .before .before .before .before .before .before .before .before .before .before .before .before .before .args .h .scores) 100000001 i (omega arith) (sym (c .mask-at .ensures) ∙ eqb-true (c .mask-at .result) 0 e)),
 )
 
 pub fair-spec : {M : Type 1} → statement M
 fair-spec =
     tie.close
-    (tie.spec returns returns-2 sum-requires returns-3 returns-4 returns-5 largest-requires returns-6)
+    (tie.spec returns returns-2 sum-requires returns-3 returns-4 returns-5 mask-at-requires returns-6)
