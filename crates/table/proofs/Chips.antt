@@ -16,7 +16,8 @@ use Rattle.paper.specs.declared.Entry.{Entry}
 use Rattle.paper.specs.declared.Entry.the-variants.{Sit, Leave, Hand, Hole, Fold, Check, Call, Wager, Board, Dead, Settle, Void}
 use Rattle.pots.specs.Runs.{potsOf}
 use Rattle.pots.specs.Heights.{returnedOf}
-use Rattle.pots.proofs.Hands.{none-lost, map-length, live-length, plus-length, won-length, paid-and-unclaimed}
+use Rattle.pots.proofs.Hands.{none-lost, map-length, plus-length, won-length, paid-and-unclaimed}
+use Rattle.pots.proofs.Masks.{live-length}
 use Rattle.chairs.specs.Chairs.{chipsOf, chairAt, putAt, roundOf, paidOf, actedOf, foldedOf, againOf, roundedOf, dealtOf, seatedOf, heldOf, closeAll, columnOf}
 use Rattle.chairs.specs.declared.Chair.{Chair}
 use Rattle.chairs.specs.declared.Dealt.{Dealt}
