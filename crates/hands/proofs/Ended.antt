@@ -11,8 +11,8 @@ use borrow.Author.Tests.{lt-ltb, le-ltb}
 use Rattle.laws.specs.Tests.{pick}
 use Rattle.cards.specs.Reading.{codeOfReading, readingOf}
 use Rattle.cards.specs.declared.Hand.{Hand}
-use Rattle.cards.specs.declared.Reading.{Reading}
-use Rattle.cards.specs.declared.Reading.the-variants.{Known}
+use Rattle.cards.specs.declared.asked.Reading.{Reading}
+use Rattle.cards.specs.declared.asked.Reading.the-variants.{Known}
 use Rattle.hands.specs.Answers.{Wrote, numberBytes, handBytes, readingBytes}
 use Rattle.hands.specs.Lines.{lineOf, endedTo, cardsTo, answerOf}
 use Rattle.hands.specs.declared.Line.{Line}

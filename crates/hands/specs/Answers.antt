@@ -7,8 +7,8 @@ use lib.ListN.{length, set}
 use Rattle.laws.specs.Tests.{pick}
 use Rattle.cards.specs.Reading.{codeOfReading}
 use Rattle.cards.specs.declared.Hand.{Hand}
-use Rattle.cards.specs.declared.Reading.{Reading}
-use Rattle.cards.specs.declared.Reading.the-variants.{Known, NotSeven, NoCard, Repeat}
+use Rattle.cards.specs.declared.asked.Reading.{Reading}
+use Rattle.cards.specs.declared.asked.Reading.the-variants.{Known, NotSeven, NoCard, Repeat}
 
 -- the list with the bytes in it from a place on
 unfoldable pub written : List ℕ → ℕ → List ℕ → List ℕ

@@ -2,7 +2,7 @@
 use mathlib.Core.Path.{refl}
 use native.Mathlib.Omega.{arith}
 use borrow.Author.Needs.{needs}
-use Rattle.cards.specs.declared.Reading.the-variants.{NotSeven, NoCard, Repeat}
+use Rattle.cards.specs.declared.asked.Reading.the-variants.{NotSeven, NoCard, Repeat}
 use Rattle.hands.specs.Answers.{readingBytes}
 use Rattle.hands.proofs.Ended.{known-bytes, refused-bytes}
 use Rattle.hands.proofs.put_reading.Statement.{statement}

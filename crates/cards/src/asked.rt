@@ -1,0 +1,86 @@
+// Document 01, "Hand order", its last sentence: what the box answers when it is asked directly about cards.
+use crate::Hand;
+use crate::best_hand;
+ghost use mathlib.Core.Path.{_≡_};
+ghost use Prim.Native.Nat.{_≤_};
+ghost use lib.ListN.{length, drop};
+ghost use Rattle.cards.specs.Reading.{anyAbove, isAmong, anyTwice, codeOfReading, readingOf, codeAsked};
+
+// What the box answers when it is asked about cards: a hand, or why it names none.
+pub enum Reading {
+    Known(Hand),
+    NotSeven,
+    NoCard,
+    Repeat,
+}
+
+// The paper's number for an answer.
+pub fn code_of(r: Reading) -> u8
+    ensures { λ k. ⌜ k ≡ codeOfReading r ⌝ }
+{
+    match r {
+        Reading::Known(_) => 0,
+        Reading::NotSeven => 2,
+        Reading::NoCard => 2,
+        Reading::Repeat => 8,
+    }
+}
+
+// Whether a card is above 51.
+fn any_above(cards: &[u8]) -> bool
+    ensures { λ r. ⌜ r ≡ anyAbove (now (cards .entry)) ⌝ }
+{
+    let mut i = 0;
+    while i < cards.len() {
+        if 51 < cards[i] {
+            return true;
+        }
+        i += 1;
+    }
+    false
+}
+
+// Whether x is among the cards from `from` on.
+fn among(cards: &[u8], from: usize, x: u8) -> bool
+    requires { ⌜ from ≤ length (now cards) ⌝ }
+    ensures { λ r. ⌜ r ≡ isAmong x (drop from (now (cards .entry))) ⌝ }
+{
+    let mut i = from;
+    while i < cards.len() {
+        if x == cards[i] {
+            return true;
+        }
+        i += 1;
+    }
+    false
+}
+
+// Whether a card comes twice.
+fn any_twice(cards: &[u8]) -> bool
+    ensures { λ r. ⌜ r ≡ anyTwice (now (cards .entry)) ⌝ }
+{
+    let mut i = 0;
+    while i < cards.len() {
+        if among(cards, i + 1, cards[i]) {
+            return true;
+        }
+        i += 1;
+    }
+    false
+}
+
+// The best hand of seven cards: any other number of cards is refused, then a card above 51, then a card that comes twice.
+pub fn read_hand(cards: &[u8]) -> Reading
+    ensures { λ r. ⌜ (r ≡ readingOf (now (cards .entry))) × (codeOfReading r ≡ codeAsked (now (cards .entry))) ⌝ }
+{
+    if cards.len() != 7 {
+        return Reading::NotSeven;
+    }
+    if any_above(cards) {
+        return Reading::NoCard;
+    }
+    if any_twice(cards) {
+        return Reading::Repeat;
+    }
+    Reading::Known(best_hand(cards))
+}
