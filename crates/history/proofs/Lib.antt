@@ -7,3 +7,4 @@ pub mod Shown
 pub mod Examples
 pub mod P11
 pub mod Spring
+pub mod Reached
