@@ -1,5 +1,4 @@
 -- Laws of the desk: what is shown is small, a refusal changes nothing, 12 keeps every byte. Assumes nothing.
--- ---- rows of sittings and what they are paid, one by one
 use mathlib.Core.Path.{_≡_, refl, sym, ap, subst, _∙_}
 use mathlib.Core.List.{List, [], _∷_, _++_, map}
 use mathlib.Core.Bool.{Bool, true, false}
@@ -51,6 +50,8 @@ use Rattle.desk.specs.declared.Judged.{Judged}
 use Rattle.desk.specs.declared.Answered.{Answered}
 use Rattle.desk.specs.Desk.{rowsOf, payoutShown, shownOf, refusedAt, judgeParsed, judgeBlock, judgedOf, blockBytes, answeredFrom, answeredOf, numberOfBlock, SmallPaid}
 use Rattle.chairs.specs.declared.What.the-variants as what
+
+-- ---- rows of sittings and what they are paid, one by one
 
 abbrev rowAt : List ℕ → List ℕ → ℕ → Row
 rowAt ss ps i = record { sitting = getD ss i 0; paid = getD ps i 0 }
@@ -135,10 +136,13 @@ fee-small : (t : Table) → Sound t → payoutNow t .fee ≤ 100000000
 unfolding payoutNow
 fee-small t h =
     let ls = map-length (λ (c : Chair). columnOf what.Total c) (t .chairs) in
-    omega (arith, totals-small t h,
+    omega (
+      arith,
+      totals-small t h,
       none-lost (totalsOf t) (livesOf t) (scoresOf t) (t .sheet .rate) (t .sheet .cap) (t .play .puck)
-      (map-length _ (t .chairs) ∙ sym ls)
-      (omega (arith, sheet-rate (t .sheet) (h .payable .sheet))))
+          (map-length _ (t .chairs) ∙ sym ls)
+          (omega (arith, sheet-rate (t .sheet) (h .payable .sheet))),
+    )
 
 small-now : (t : Table) → Sound t → SmallPaid (payoutNow t)
 unfolding payoutNow

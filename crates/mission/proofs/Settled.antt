@@ -126,9 +126,9 @@ module _ (sheet : Sheet) (ok : isSheet sheet ≡ true) (es : List Entry) (taken 
       let a = after sheet ok es (taken .1) in
       let cs = now .chairs in
       rw paying (one-paid s cs (payoutNow now .paid) (reach (puts sheet es) (putIn sheet es s)) (a .told .seated .once s z)
-        (λ i l e.
-        let there : chairAt cs (suc i) ≡ noChair → ⊥ = λ q. omega (arith, eqb-true (dealer (getD cs i noChair)) s e, ap dealer q) in
-        let put : putIn sheet es s ≡ getD (totalsOf now) i 0 =
-        a .told .notes .put s z ∙ keyed-at dealer s (λ (c : Chair). c .dealt .total) cs (suc i) e there (a .told .seated .once s z) ∙ sym (col-at (columnOf what.Total) cs i l) in
-        let r = reach-same (totalsOf now) (puts sheet es) (told-chips sheet ok es (taken .1)) (putIn sheet es s) in
-        omega (arith, paid-reach now i (a .size) (a .sound .payable .puck) (omega (arith, a .size)), ap (reach (totalsOf now)) put, r)))
+      (λ i l e.
+      let there : chairAt cs (suc i) ≡ noChair → ⊥ = λ q. omega (arith, eqb-true (dealer (getD cs i noChair)) s e, ap dealer q) in
+      let put : putIn sheet es s ≡ getD (totalsOf now) i 0 =
+      a .told .notes .put s z ∙ keyed-at dealer s (λ (c : Chair). c .dealt .total) cs (suc i) e there (a .told .seated .once s z) ∙ sym (col-at (columnOf what.Total) cs i l) in
+      let r = reach-same (totalsOf now) (puts sheet es) (told-chips sheet ok es (taken .1)) (putIn sheet es s) in
+      omega (arith, paid-reach now i (a .size) (a .sound .payable .puck) (omega (arith, a .size)), ap (reach (totalsOf now)) put, r)))

@@ -303,11 +303,11 @@ settle-taken t h =
     record {
       opened = q .0;
       moment = ⊎-elim (λ e. inl (eqb-true (liveHands t) 1 e))
-        (λ e. let r = both-true (nobodyOwes t) five e in inr ((λ o. true≢false (sym (r .0) ∙ not-nobody t o)), eqb-true (t .board .count) 5 (r .1)))
-        (one-of sole done (q .1));
+          (λ e. let r = both-true (nobodyOwes t) five e in inr ((λ o. true≢false (sym (r .0) ∙ not-nobody t o)), eqb-true (t .board .count) 5 (r .1)))
+          (one-of sole done (q .1));
       cards = λ l. ⊎-elim (λ e. eqb-true (countOf (wantOf Bare) (t .chairs)) 0 e)
-        (λ e. absurd (true≢false (sym (two many (not bare) (le-leb 2 (liveHands t) l) (on bare e)) ∙ when-zero (both many (not bare)) 9 (p .1))))
-        (test bare);
+          (λ e. absurd (true≢false (sym (two many (not bare) (le-leb 2 (liveHands t) l) (on bare e)) ∙ when-zero (both many (not bare)) 9 (p .1))))
+          (test bare);
     }
 
 settle-code : (t : Table) → MaySettle t → settleCode t ≡ 0
@@ -328,6 +328,7 @@ settle-code t m =
     go : (a b : Bool) → b ≡ false → both a b ≡ false
     go true b h = h
     go false b h = refl
+
     none : (a b : Bool) → a ≡ false → both a b ≡ false
     none true b h = absurd (true≢false h)
     none false b h = refl

@@ -51,8 +51,12 @@ module _ (sheet : Sheet) (ok : isSheet sheet ≡ true) (es : List Entry) (taken 
 
   not-higher : (i j : ℕ) → i < 10 → j < 10 → Shown i → Shown j → beatsBy places (best j) (best i) ≡ false → getD (scoresOf t) j 0 ≤ getD (scoresOf t) i 0
   not-higher i j l m u v h =
-      omega (arith, score-at i l, score-at j m,
-        ltb-false (scoreOf (t .board) (seatOf t (suc i))) (scoreOf (t .board) (seatOf t (suc j))) (sym (scores-compare sheet es taken (suc j) (suc i) v u) ∙ h))
+      omega (
+        arith,
+        score-at i l,
+        score-at j m,
+        ltb-false (scoreOf (t .board) (seatOf t (suc i))) (scoreOf (t .board) (seatOf t (suc j))) (sym (scores-compare sheet es taken (suc j) (suc i) v u) ∙ h),
+      )
 
   -- the winners among the contenders `who` of a pot
   pub better-wins : (who i : ℕ) → who < 2 ^ 10 → 0 < ones 10 who → i < 10 → ((j : ℕ) → j < 10 → bitAt who j ≡ 1 → Shown j)

@@ -59,7 +59,10 @@ fn fits(t: Table, log: &[u8], room: usize) -> bool
     }
     let mut sheet = [BLANK; LONGEST];
     let a = answer(t, log, &mut sheet[0..room]);
-    laws::both(laws::both(a.code != 12, a.written == room), blank_from(&sheet, room))
+    laws::both(
+        laws::both(a.code != 12, a.written == room),
+        blank_from(&sheet, room),
+    )
 }
 
 // How many rooms shorter than the answer go wrong.

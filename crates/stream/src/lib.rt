@@ -1,10 +1,10 @@
 // A log that comes in parts: the unfinished block is kept, each line cut after 33 bytes, and answered at its fifth LF.
 use desk::answer;
 use desk::log::refuse_sheet;
+use paper::Sheet;
 use table::table::Table;
 use table::take::new_table;
 use text::sheet::Opening;
-use paper::Sheet;
 use text::sheet::read_sheet;
 ghost use mathlib.Core.Path.{_≡_};
 ghost use Prim.Native.Nat.{ℕ, _+_, _-_, _*_, _≤_, _<_};

@@ -40,10 +40,15 @@ same-length-3 : tie.Need-same-length-3
 same-length-3 c = search needs
 
 returns-3 : tie.Need-returns-3
-returns-3 c =
-    (fed-whole ((c .before .before .before .before .before .before .before .before .before .before .before .before .before .before .before .before .before .before .before .before) .args .c) ((c .before .before .before .before .before .before .before .before .before .before .before .before .before .before .before .before .before .before .before .before) .args .buf .now) ((c .before .before .before .before .before .before .before .before .before .before .before .before .before .before .before .before .before .before .before .before) .args .part .now) ((c .before .before .before .before .before .before .before .before .before .before .before .before .before .before .before .before .before .before .before .before) .args .out .now) _ (c .before .before .before .before .before .before .before .before .before .before .before .before .gather .result .mark) (c .before .before .before .before .before .before .before .before .before .before .before .before .gather .result .used) (c .before .before .before .before .before .before .before .before .before .before .before .before .before .before .before .before .if1 .left) (c .before .before .before .before .before .before .before .before .before .before .before .before .gather .ensures .0) (c .before .before .before .before .before .before .before .before .if2 .left) (c .empty .ensures .1, c .empty .ensures .2, c .empty .ensures .3) (c .before .before .before .before .whole .ensures .0) (c .before .before .before .before .whole .ensures .1 .0),
-    (record { sound = c .before .before .before .before .whole .ensures .1 .1 .0; room = c .empty .ensures .0; lines = omega (arith, c .empty .ensures .1) },
-      c .before .before .before .before .before .before .before .before .before .before .before .before .gather .ensures .1 .1, c .before .before .before .before .before .before .before .before .before .before .before .before .gather .ensures .1 .2, c .before .before .before .before .whole .ensures .1 .1 .1))
+returns-3 c = (
+  fed-whole ((c .before .before .before .before .before .before .before .before .before .before .before .before .before .before .before .before .before .before .before .before) .args .c) ((c .before .before .before .before .before .before .before .before .before .before .before .before .before .before .before .before .before .before .before .before) .args .buf .now) ((c .before .before .before .before .before .before .before .before .before .before .before .before .before .before .before .before .before .before .before .before) .args .part .now) ((c .before .before .before .before .before .before .before .before .before .before .before .before .before .before .before .before .before .before .before .before) .args .out .now) _ (c .before .before .before .before .before .before .before .before .before .before .before .before .gather .result .mark) (c .before .before .before .before .before .before .before .before .before .before .before .before .gather .result .used) (c .before .before .before .before .before .before .before .before .before .before .before .before .before .before .before .before .if1 .left) (c .before .before .before .before .before .before .before .before .before .before .before .before .gather .ensures .0) (c .before .before .before .before .before .before .before .before .if2 .left) (c .empty .ensures .1, c .empty .ensures .2, c .empty .ensures .3) (c .before .before .before .before .whole .ensures .0) (c .before .before .before .before .whole .ensures .1 .0),
+  (
+    record { sound = c .before .before .before .before .whole .ensures .1 .1 .0; room = c .empty .ensures .0; lines = omega (arith, c .empty .ensures .1) },
+    c .before .before .before .before .before .before .before .before .before .before .before .before .gather .ensures .1 .1,
+    c .before .before .before .before .before .before .before .before .before .before .before .before .gather .ensures .1 .2,
+    c .before .before .before .before .whole .ensures .1 .1 .1,
+  ),
+)
 
 pub feed-spec : {M : Type 1} → statement M
 feed-spec =
