@@ -27,7 +27,8 @@ use Rattle.history.specs.History.{run, AllTaken, noteOf, sits, sittingsTo, putI
 use Rattle.table.specs.declared.table.Table.{Table}
 use Rattle.chairs.proofs.Over.{sumOver, keyed-at}
 use Rattle.history.proofs.Told.{dealer, deals, totals}
-use Rattle.history.proofs.Clerk.{after, col-at}
+use Rattle.history.proofs.Clerk.{after}
+use Rattle.table.proofs.Closing.{col-at}
 use Rattle.history.proofs.BySitting.{totals-told, stakes-told}
 use Rattle.history.proofs.Demand.{settle-all, paid-reach}
 use Rattle.mission.specs.Settled.{paidTo, settles, puts, clerkBack}
@@ -131,4 +132,4 @@ module _ (sheet : Sheet) (ok : isSheet sheet ≡ true) (es : List Entry) (taken 
       let put : putIn sheet es s ≡ getD (totalsOf now) i 0 =
       a .told .notes .put s z ∙ keyed-at dealer s (λ (c : Chair). c .dealt .total) cs (suc i) e there (a .told .seated .once s z) ∙ sym (col-at (columnOf what.Total) cs i l) in
       let r = reach-same (totalsOf now) (puts sheet es) (told-chips sheet ok es (taken .1)) (putIn sheet es s) in
-      omega (arith, paid-reach now i (a .size) (a .sound .payable .puck) (omega (arith, a .size)), ap (reach (totalsOf now)) put, r)))
+      omega (arith, paid-reach now i (a .standing .size) (a .sound .payable .puck) (omega (arith, a .standing .size)), ap (reach (totalsOf now)) put, r)))

@@ -22,7 +22,8 @@ use Rattle.table.specs.State.{seatOf}
 use Rattle.table.specs.Settle.{isShown, scoreOf, scoresOf}
 use Rattle.table.specs.declared.table.Table.{Table}
 use Rattle.history.specs.History.{run, AllTaken}
-use Rattle.history.proofs.Clerk.{after, col-at}
+use Rattle.history.proofs.Clerk.{after}
+use Rattle.table.proofs.Closing.{col-at}
 use Rattle.history.proofs.Shown.{cardsOf, scores-compare}
 
 module _ (sheet : Sheet) (ok : isSheet sheet ≡ true) (es : List Entry) (taken : AllTaken sheet es) where
@@ -34,10 +35,10 @@ module _ (sheet : Sheet) (ok : isSheet sheet ≡ true) (es : List Entry) (taken 
   best i = bestOf places (cardsOf t (suc i))
 
   ten : length (scoresOf t) ≡ 10
-  ten = map-length (scoreOf (t .board)) (t .chairs) ∙ after sheet ok es taken .size
+  ten = map-length (scoreOf (t .board)) (t .chairs) ∙ after sheet ok es taken .standing .size
 
   score-at : (i : ℕ) → i < 10 → getD (scoresOf t) i 0 ≡ scoreOf (t .board) (seatOf t (suc i))
-  score-at i l = col-at (scoreOf (t .board)) (t .chairs) i (omega (arith, after sheet ok es taken .size))
+  score-at i l = col-at (scoreOf (t .board)) (t .chairs) i (omega (arith, after sheet ok es taken .standing .size))
 
   -- the hand of the seat at place i can be compared
   abbrev Shown : ℕ → Type 0

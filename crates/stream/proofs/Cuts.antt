@@ -26,7 +26,7 @@ use Rattle.text.specs.declared.sheet.Opening.the-variants.{Read, Bad}
 use Rattle.desk.proofs.Whole.{fuel-free, end-within}
 use Rattle.stream.specs.Stream.{Kept, nothing, keepOf, streamFrom, Gathered, gatherOf, openedFrom, bytewise}
 use Rattle.laws.proofs.Tests.{test}
-use Rattle.stream.proofs.Lines.{cap, lfs, keepAll, keep-append, cap-lf, cap-in, snoc, kept-bytes, lfs-lf, lfs-on, kept-lines, ended-is, value-same, cap-lines, cap-value, cap-block, lfs-append, lines-front, lines-lfs, front-line, front-block, lines-none, lines-last}
+use Rattle.stream.proofs.Lines.{ended, cap, lfs, keepAll, keep-append, cap-lf, cap-in, snoc, kept-bytes, lfs-lf, lfs-on, kept-lines, ended-is, value-same, cap-lines, cap-value, cap-block, lfs-append, lines-front, lines-lfs, front-line, front-block, lines-none, lines-last}
 
 -- ---- what is answered depends on the block alone
 

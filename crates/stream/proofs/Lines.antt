@@ -114,7 +114,7 @@ pub line-on : (b : ℕ) (l : List ℕ) → eqb b 10 ≡ false → lineOf (b ∷ 
 line-on b l e = rw e
 
 -- whether the first line is ended
-abbrev ended : List ℕ → Bool
+abbrev pub ended : List ℕ → Bool
 ended [] = false
 ended (b ∷ bs) = pick (eqb b 10) true (ended bs)
 
