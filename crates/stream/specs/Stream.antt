@@ -87,6 +87,15 @@ pub record Held (c : Clerk) : Type 0 where
   pub room : Room (c .mark)
   pub lines : c .mark .lines < 5
 
+-- before the first byte: nothing is read and nothing kept; the table is a stand-in until the sheet is read
+abbrev pub startOf : Clerk
+startOf = record {
+  opened = false;
+  shut = false;
+  table = freshTable (record { seats = 2; small = 1; big = 1; rate = 0; cap = 0 });
+  mark = record { count = 0; lines = 0; width = 0 };
+}
+
 -- what feeding a part does: a clerk whose sheet was bad does nothing more; else the part's bytes are kept up to the block's fifth LF, and then the
 -- five lines are answered and nothing is kept
 pub record FedAs (c : Clerk) (buf part out buf2 out2 : List ℕ) (r : Fed) : Type 0 where

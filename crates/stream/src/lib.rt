@@ -12,7 +12,7 @@ ghost use lib.ListN.{length, take, drop};
 ghost use Rattle.text.specs.Sheet.{sheetAfter, Wrote};
 ghost use Rattle.desk.specs.Log.{fitting};
 ghost use Rattle.table.specs.Take.{Sound};
-ghost use Rattle.stream.specs.Stream.{stateOf, keepOf, gatherOf, Room, Held, FedAs, stepOf, stepBytes, closeBytes};
+ghost use Rattle.stream.specs.Stream.{stateOf, keepOf, gatherOf, Room, Held, FedAs, startOf, stepOf, stepBytes, closeBytes};
 
 // How much is kept: its bytes, its LFs, and the bytes of the line that is not ended.
 pub struct Mark {
@@ -52,7 +52,7 @@ pub struct Got {
 }
 
 // The bytes of a part up to the block's fifth LF, or all of them.
-pub fn gather(buf: &mut [u8], m: Mark, part: &[u8]) -> Got
+fn gather(buf: &mut [u8], m: Mark, part: &[u8]) -> Got
     requires { ⌜ Room m × (m .lines < 5) × (170 ≤ length (now buf)) ⌝ }
     ensures kept { λ r. ⌜ (stateOf (r .mark) (now (buf .exit)) ≡ gatherOf (stateOf m (now (buf .entry))) (now (part .entry)) .kept) × (drop (r .used) (now (part .entry)) ≡ gatherOf (stateOf m (now (buf .entry))) (now (part .entry)) .left) ⌝ }
     ensures room { λ r. ⌜ Room (r .mark) × (r .used ≤ length (now (part .entry))) × (0 < length (now (part .entry)) → 0 < r .used) ⌝ }
@@ -185,7 +185,7 @@ pub fn feed(c: Clerk, buf: &mut [u8], part: &[u8], out: &mut [u8]) -> Fed
 
 // Before the first byte.
 pub fn start() -> Clerk
-    ensures { λ r. ⌜ Held r ⌝ }
+    ensures { λ r. ⌜ (r ≡ startOf) × Held r ⌝ }
 {
     let s = Sheet {
         seats: 2,

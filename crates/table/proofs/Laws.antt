@@ -80,42 +80,31 @@ unfolding sumOf
 totals-within [] = omega arith
 totals-within (c ∷ cs) = omega (arith, totals-within cs)
 
--- a sheet's rate and seats
-pub sheet-rate : (s : Sheet) → isSheet s ≡ true → s .rate ≤ 100
+-- what is used of a good sheet: the bounds of its seats, big and rate
+sheet-bounds : (s : Sheet) → isSheet s ≡ true → (s .seats ≤ 10) × (s .big ≤ 10000) × (s .rate ≤ 100)
 unfolding isSheet
-sheet-rate s h =
-    let blinds = both (leb 1 (s .small)) (both (leb (s .small) (s .big)) (leb (s .big) 10000)) in
+sheet-bounds s h =
+    let big = both (leb (s .small) (s .big)) (leb (s .big) 10000) in
+    let blinds = both (leb 1 (s .small)) big in
     let rest = both (leb (s .rate) 100) (leb (s .cap) 1000000) in
     let p = both-true (both (leb 2 (s .seats)) (leb (s .seats) 10)) (both blinds rest) h in
-    leb-true (s .rate) 100 (both-true (leb (s .rate) 100) (leb (s .cap) 1000000) (both-true blinds rest (p .1) .1) .0)
+    let q = both-true blinds rest (p .1) in
+    let r = both-true (leb 1 (s .small)) big (q .0) in (
+      leb-true (s .seats) 10 (both-true (leb 2 (s .seats)) (leb (s .seats) 10) (p .0) .1),
+      leb-true (s .big) 10000 (both-true (leb (s .small) (s .big)) (leb (s .big) 10000) (r .1) .1),
+      leb-true (s .rate) 100 (both-true (leb (s .rate) 100) (leb (s .cap) 1000000) (q .1) .0),
+    )
 
 pub sheet-seats : (s : Sheet) → isSheet s ≡ true → s .seats ≤ 10
-unfolding isSheet
-sheet-seats s h =
-    let blinds = both (leb 1 (s .small)) (both (leb (s .small) (s .big)) (leb (s .big) 10000)) in
-    let rest = both (leb (s .rate) 100) (leb (s .cap) 1000000) in
-    let p = both-true (both (leb 2 (s .seats)) (leb (s .seats) 10)) (both blinds rest) h in
-    leb-true (s .seats) 10 (both-true (leb 2 (s .seats)) (leb (s .seats) 10) (p .0) .1)
+sheet-seats s h = sheet-bounds s h .0
 
 pub sheet-big : (s : Sheet) → isSheet s ≡ true → s .big ≤ 10000
-unfolding isSheet
-sheet-big s h =
-    let blinds = both (leb 1 (s .small)) (both (leb (s .small) (s .big)) (leb (s .big) 10000)) in
-    let rest = both (leb (s .rate) 100) (leb (s .cap) 1000000) in
-    let p = both-true (both (leb 2 (s .seats)) (leb (s .seats) 10)) (both blinds rest) h in
-    let q = both-true (leb 1 (s .small)) (both (leb (s .small) (s .big)) (leb (s .big) 10000)) (both-true blinds rest (p .1) .0) in
-    leb-true (s .big) 10000 (both-true (leb (s .small) (s .big)) (leb (s .big) 10000) (q .1) .1)
+sheet-big s h = sheet-bounds s h .1
+
+pub sheet-rate : (s : Sheet) → isSheet s ≡ true → s .rate ≤ 100
+sheet-rate s h = sheet-bounds s h .2
 
 -- ---- what a settle pays
-pub five-is : (l : List ℕ) → length l ≡ 5 → _≡_ {A = List ℕ} (getD l 0 0 ∷ getD l 1 0 ∷ getD l 2 0 ∷ getD l 3 0 ∷ getD l 4 0 ∷ []) l
-five-is [] h = absurd (omega arith)
-five-is (a ∷ []) h = absurd (omega arith)
-five-is (a ∷ b ∷ []) h = absurd (omega arith)
-five-is (a ∷ b ∷ c ∷ []) h = absurd (omega arith)
-five-is (a ∷ b ∷ c ∷ d ∷ []) h = absurd (omega arith)
-five-is (a ∷ b ∷ c ∷ d ∷ e ∷ []) h = refl
-five-is (a ∷ b ∷ c ∷ d ∷ e ∷ f ∷ l) h = absurd (omega arith)
-
 score-small : (b : Board) (c : Chair) → scoreOf b c ≤ 100000000
 unfolding scoreOf handScore
 score-small b c = go (isShown c)

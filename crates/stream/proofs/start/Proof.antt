@@ -1,5 +1,6 @@
 use Rattle.paper.specs.Paper.{isSheet}
 use mathlib.Core.Path.{refl}
+use native.Mathlib.Omega.{arith}
 use borrow.Author.Needs.{needs}
 use Rattle.stream.proofs.start.Statement.{statement}
 use Rattle.stream.proofs.start.Tie as tie
@@ -12,7 +13,10 @@ empty-requires : tie.Need-empty-requires
 empty-requires c κs = search needs
 
 returns : tie.Need-returns
-returns c = search needs
+returns c =
+    let z = c .empty .ensures in
+    let t = c .before .new-table .ensures in
+    (rw (t .0, z .1, z .2, z .3), record { sound = t .1; room = z .0; lines = omega (arith, z .1) })
 
 pub start-spec : {M : Type 1} → statement M
 start-spec = tie.close (tie.spec new-table-requires empty-requires returns)

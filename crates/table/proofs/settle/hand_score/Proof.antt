@@ -1,10 +1,10 @@
-use mathlib.Core.Path.{_≡_, ap, _∙_}
+use mathlib.Core.Path.{_≡_, sym, ap, _∙_}
 use mathlib.Core.List.{List, _∷_}
 use Prim.Native.Nat.{ℕ}
 use lib.ListN.{length}
 use Rattle.cards.specs.Order.{places, bestOf, strengthBy}
 use Rattle.table.specs.Settle.{handScore}
-use Rattle.table.proofs.Laws.{five-is}
+use Rattle.laws.proofs.Five.{five-list}
 use borrow.Author.Needs.{needs}
 use Rattle.table.proofs.settle.hand_score.Statement.{statement}
 use Rattle.table.proofs.settle.hand_score.Tie as tie
@@ -39,7 +39,7 @@ returns c =
     let b = c .before .before .before .before .args .b in
     let ch = c .before .before .before .before .args .c in
     let len : length (b .cards) ≡ 5 = search needs in
-    c .strength .ensures ∙ ap (strengthBy places) (c .before .best-hand .ensures ∙ ap (λ (l : List ℕ). bestOf places (ch .hole .first ∷ ch .hole .second ∷ l)) (five-is (b .cards) len))
+    c .strength .ensures ∙ ap (strengthBy places) (c .before .best-hand .ensures ∙ ap (λ (l : List ℕ). bestOf places (ch .hole .first ∷ ch .hole .second ∷ l)) (sym (five-list 0 (b .cards) len)))
 
 pub hand-score-spec : {M : Type 1} → statement M
 hand-score-spec =
