@@ -7,6 +7,7 @@ ghost use mathlib.Core.Path.{_≡_};
 ghost use Prim.Native.Nat.{ℕ, _+_, _-_, _≤_};
 ghost use lib.ListN.{getD};
 ghost use mathlib.Core.List.{map};
+ghost use Rattle.chairs.specs.declared.Who.the-variants.{Live, LiveWithChips};
 ghost use Rattle.chairs.specs.Chairs.{wantOf, sweepOf, columnOf, noChair, chairAt, putAt, countOf, chipsOf, firstOf, seatsFrom, clockwise, closeAll};
 
 // How many chairs are among those looked for.
@@ -23,6 +24,28 @@ pub fn count(cs: [Chair; 10], w: Who) -> u8
         i += 1;
     }
     n
+}
+
+// How many hands are live, and how many of those have chips.
+pub struct LiveCount {
+    pub hands: u32,
+    pub stacks: u32,
+}
+
+// Both counts in one pass, since whoever looks for an owing seat needs both.
+pub fn lives(cs: [Chair; 10]) -> LiveCount
+    ensures { λ r. ⌜ (r .hands ≡ countOf (wantOf Live) cs) × (r .stacks ≡ countOf (wantOf LiveWithChips) cs) ⌝ }
+{
+    let mut hands: u32 = 0;
+    let mut stacks: u32 = 0;
+    let mut i: usize = 0;
+    while i < 10 {
+        let c = cs[i];
+        hands += laws::one(c.dealt.live);
+        stacks += laws::one(crate::live_with_chips(c));
+        i += 1;
+    }
+    LiveCount { hands, stacks }
 }
 
 // The chair of a seat; a chair that nobody ever had for a seat that is not there.

@@ -64,8 +64,8 @@ fn shown_of(n: u32, code: u8, t: Table, paid: table::table::Payout) -> Shown
     requires { ⌜ Sound t × (n < 10 ^ 9) × SmallPaid paid ⌝ }
     ensures { λ r. ⌜ (r ≡ shownOf n code t paid) × Small r ⌝ }
 {
-    let ps = table::settle::pots_now(t);
-    let back = table::settle::back_now(t);
+    let stands = table::settle::stands_now(t);
+    let ps = stands.pots;
     let p = payout_shown(paid);
     Shown {
         n: n,
@@ -73,7 +73,7 @@ fn shown_of(n: u32, code: u8, t: Table, paid: table::table::Payout) -> Shown
         turn: t.play.turn,
         mark: t.play.mark,
         pots: ps,
-        back: back,
+        back: stands.back,
         settled: paid.settled,
         payout: p,
     }

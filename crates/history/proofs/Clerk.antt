@@ -29,18 +29,17 @@ use Rattle.table.specs.Settle.{settledTo, payoutNow, totalsOf, livesOf, hereOf,
 use Rattle.table.specs.Take.{Sound, kindCode, codeOf, appliedTo, nextOf}
 use Rattle.history.specs.History.{run, AllTaken, by, posts, blinds, hasChips, Note, nothing, puts, givesUp, noted, noteOf, sitsIn, sits}
 use Rattle.table.specs.declared.table.Table.{Table}
-use Rattle.table.proofs.Numbers.{none-numbered}
 use Rattle.chairs.proofs.Over.{sumOver, over-zero, map-at, All, all-map, paid-stack, paid-dealt, all-at}
 use Rattle.table.specs.Standing.{ChairOk, Standing}
 use Rattle.table.proofs.ChairsOk.{no-ok, ok-at, ok-acts, ok-fold, ok-hold, ok-round, ok-pays, Fresh, deal-fresh, fresh-post, live-some}
 use Rattle.table.proofs.Codes.{turn-live, call-live, wager-live, wager-fits, dead-live, sit-empty, leave-dead}
 use Rattle.table.proofs.Closing.{ok-close, paid-none}
-use Rattle.table.proofs.Standing.{standing-fresh, standing-next}
+use Rattle.table.proofs.Standing.{sound-fresh, sound-taken}
 use Rattle.table.proofs.Reached.{big-blind-other}
 use Rattle.chairs.proofs.Clockwise.{put-other}
 use Rattle.history.proofs.Told.{dealer, sitter}
 use Rattle.history.proofs.Noted.{Seated, Notes, seated-put, seated-map, notes-put, notes-again, notes-round, notes-fold, notes-pay, round-at, seated-sit, seated-leave, seated-close, notes-close, seated-deal, notes-deal}
-use Rattle.table.proofs.Sounds.{passed, sound-taken}
+use Rattle.table.proofs.Sounds.{passed}
 use Rattle.chairs.specs.declared.What.the-variants as what
 
 pub record Told (k : ℕ) (n : ℕ → Note) (cs : List Chair) : Type 0 where
@@ -266,7 +265,6 @@ sits-applied t Void = omega arith
 -- what holds after every taken entry
 pub record After (sheet : Sheet) (es : List Entry) (t : Table) : Type 0 where
   pub sound : Sound t
-  pub standing : Standing t
   pub count : t .sittings ≡ sits es
   pub told : Told (t .sittings) (noteOf sheet es) (t .chairs)
 
@@ -294,8 +292,7 @@ pub after : (sheet : Sheet) → isSheet sheet ≡ true → (es : List Entry) →
 unfolding run noteOf sits nextOf
 after sheet ok [] a =
     record {
-      sound = record { payable = record { chips = omega arith; sheet = ok; puck = omega arith }; sittings = omega arith; taken = omega arith; mark = omega arith; turn = omega arith; numbered = none-numbered 0 10 };
-      standing = standing-fresh sheet;
+      sound = sound-fresh sheet ok;
       count = refl;
       told = record {
         seated = none-seated;
@@ -310,8 +307,7 @@ after sheet ok (e ∷ es) a =
     let u = withTaken (appliedTo t e) n in
     let next : After sheet (e ∷ es) u = record {
       sound = sound-taken t n e (h .sound) (a .0);
-      standing = rw (eq-eqb (codeOf t n e) 0 (a .0)) at (standing-next t n e (h .sound) (h .standing));
       count = omega (arith, sits-applied t e, h .count);
-      told = told-applied (noteOf sheet es) t e (h .told) (h .standing) (h .sound .payable .puck) (p .moment);
+      told = told-applied (noteOf sheet es) t e (h .told) (h .sound .standing) (h .sound .payable .puck) (p .moment);
     } in
     rw (eq-eqb (codeOf t n e) 0 (a .0)) next

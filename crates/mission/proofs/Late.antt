@@ -147,5 +147,5 @@ module _ (sheet : Sheet) (ok : isSheet sheet ≡ true) where
       let h = after sheet ok es (a .1) in
       let t = run sheet es in
       let e = early-at (atDeal es) (t .chairs) (suc x) (early es (a .1)) in
-      let z = late-unpaid t x (omega (arith, h .standing .size)) (λ q. omega (arith, q, e)) in
-      rw (eq-eqb (codeOf t (length es + 1) Settle) 0 (a .0)) (closed-stack (t .chairs) (payoutNow t .paid) x (omega (arith, h .standing .size)) ∙ omega (arith, z))
+      let z = late-unpaid t x (omega (arith, h .sound .standing .size)) (λ q. omega (arith, q, e)) in
+      rw (eq-eqb (codeOf t (length es + 1) Settle) 0 (a .0)) (closed-stack (t .chairs) (payoutNow t .paid) x (omega (arith, h .sound .standing .size)) ∙ omega (arith, z))

@@ -132,4 +132,4 @@ module _ (sheet : Sheet) (ok : isSheet sheet ≡ true) (es : List Entry) (taken 
       let put : putIn sheet es s ≡ getD (totalsOf now) i 0 =
       a .told .notes .put s z ∙ keyed-at dealer s (λ (c : Chair). c .dealt .total) cs (suc i) e there (a .told .seated .once s z) ∙ sym (col-at (columnOf what.Total) cs i l) in
       let r = reach-same (totalsOf now) (puts sheet es) (told-chips sheet ok es (taken .1)) (putIn sheet es s) in
-      omega (arith, paid-reach now i (a .standing .size) (a .sound .payable .puck) (omega (arith, a .standing .size)), ap (reach (totalsOf now)) put, r)))
+      omega (arith, paid-reach now i (a .sound .standing .size) (a .sound .payable .puck) (omega (arith, a .sound .standing .size)), ap (reach (totalsOf now)) put, r)))

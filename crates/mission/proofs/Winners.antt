@@ -35,10 +35,10 @@ module _ (sheet : Sheet) (ok : isSheet sheet ≡ true) (es : List Entry) (taken 
   best i = bestOf places (cardsOf t (suc i))
 
   ten : length (scoresOf t) ≡ 10
-  ten = map-length (scoreOf (t .board)) (t .chairs) ∙ after sheet ok es taken .standing .size
+  ten = map-length (scoreOf (t .board)) (t .chairs) ∙ after sheet ok es taken .sound .standing .size
 
   score-at : (i : ℕ) → i < 10 → getD (scoresOf t) i 0 ≡ scoreOf (t .board) (seatOf t (suc i))
-  score-at i l = col-at (scoreOf (t .board)) (t .chairs) i (omega (arith, after sheet ok es taken .standing .size))
+  score-at i l = col-at (scoreOf (t .board)) (t .chairs) i (omega (arith, after sheet ok es taken .sound .standing .size))
 
   -- the hand of the seat at place i can be compared
   abbrev Shown : ℕ → Type 0

@@ -36,6 +36,13 @@ nobody-no-turn t h e =
     (λ (q : eqb (t .play .turn) 0 ≡ false). absurd (true≢false (sym (h .turn .some (eqb-false (t .play .turn) 0 q)) ∙ nobody t 0 (h .above) (eqb-true (firstOwing t 0) 0 e) (t .play .turn))))
     (test (eqb (t .play .turn) 0))
 
+pub turn-none : (t : Table) → Standing t → eqb (t .play .turn) 0 ≡ nobodyOwes t
+turn-none t h =
+    ⊎-elim (λ (q : eqb (t .play .turn) 0 ≡ true). q ∙ sym (no-turn-nobody t h (eqb-true (t .play .turn) 0 q)))
+    (λ (q : eqb (t .play .turn) 0 ≡ false).
+    ⊎-elim (λ (e : nobodyOwes t ≡ true). absurd (eqb-false (t .play .turn) 0 q (nobody-no-turn t h e))) (λ (e : nobodyOwes t ≡ false). q ∙ sym e) (test (nobodyOwes t)))
+    (test (eqb (t .play .turn) 0))
+
 -- else it is an owing seat
 pub turn-owes : (t : Table) → Standing t → (t .play .turn ≡ 0 → ⊥) → owes t (seatOf t (t .play .turn)) ≡ true
 turn-owes t h z = h .turn .some z

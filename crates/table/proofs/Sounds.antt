@@ -1,4 +1,4 @@
--- `take` keeps `Sound`: no act makes chips but `sit`, which is refused past 100,000,000; sittings grow by one at most. Assumes nothing.
+-- What `take` keeps of `Sound`, the standing apart: no act makes chips but `sit`, which is refused past 100,000,000; sittings grow by one at most. Assumes nothing.
 -- what an act keeps of a table
 use Prim.Native.Nat.{ℕ, zero, suc, _+_, _-_, _≤_}
 use mathlib.Core.Bool.{Bool, true, false, not}
@@ -28,8 +28,6 @@ use Rattle.table.specs.Settle.{Payable, settledTo, payoutNow}
 use Rattle.table.specs.Take.{Sound, kindCode, codeOf, appliedTo}
 use Rattle.table.specs.declared.table.Table.{Table}
 use Rattle.table.proofs.Laws.{chips-posted, sheet-seats, paid-sum}
-use Rattle.table.proofs.Turns.{marks}
-use Rattle.table.proofs.Numbers.{numbered-applied}
 use Rattle.chairs.specs.declared.What.the-variants as what
 
 pub record Kept (t u : Table) : Type 0 where
@@ -137,9 +135,9 @@ unfolding settledTo
 kept-settle t h = record { chips = omega (arith, chips-close (t .chairs) (payoutNow t .paid), paid-sum t h); sittings = refl; sheet = refl; puck = refl }
 
 -- what an entry that is taken leaves
-record Applied (t u : Table) : Type 0 where
-  payable : Payable u
-  sittings : u .sittings ≤ t .sittings + 1
+pub record Applied (t u : Table) : Type 0 where
+  pub payable : Payable u
+  pub sittings : u .sittings ≤ t .sittings + 1
 
 applied : (t u : Table) → Sound t → Kept t u → Applied t u
 applied t u h k =
@@ -170,7 +168,7 @@ applied-open t u s h q k =
       sittings = omega (arith, k .sittings);
     }
 
-sound-applied : (t : Table) (e : Entry) → Sound t → inKind (t .sheet) e ≡ true → kindCode t e ≡ 0 → Applied t (appliedTo t e)
+pub sound-applied : (t : Table) (e : Entry) → Sound t → inKind (t .sheet) e ≡ true → kindCode t e ≡ 0 → Applied t (appliedTo t e)
 sound-applied t (Sit s a) h r q = applied-sit t s a h q
 sound-applied t (Leave s) h r q = applied t (leftTo t s) h (kept-leave t s)
 sound-applied t (Hand s) h r q = applied-open t (openedTo t s) s h r (kept-open t s)
@@ -204,20 +202,6 @@ passed t n e h =
       kind = r .1;
       next = eqb-true (t .taken + 1) n (not-false same (when-zero (not same) 2 (q .0)));
       moment = q .1;
-    }
-
-pub sound-taken : (t : Table) (n : ℕ) (e : Entry) → Sound t → codeOf t n e ≡ 0 → Sound (withTaken (appliedTo t e) n)
-sound-taken t n e h q =
-    let p = passed t n e q in
-    let a = sound-applied t e h (p .kind) (p .moment) in
-    let m = marks t e h (p .kind) in
-    record {
-      payable = record { chips = a .payable .chips; sheet = a .payable .sheet; puck = a .payable .puck };
-      sittings = omega (arith, a .sittings, h .sittings, p .next);
-      taken = p .range;
-      mark = m .0;
-      turn = m .1;
-      numbered = numbered-applied t e (h .numbered);
     }
 
 -- the ranges of cards

@@ -12,7 +12,7 @@ use borrow.Author.Tests.{eqb-true}
 use Rattle.laws.specs.Tests.{both, pick}
 use Rattle.laws.specs.Lists.{All}
 use Rattle.laws.proofs.Tests.{both-true, test}
-use Rattle.paper.specs.Paper.{between, isSeat, isCard, inKind}
+use Rattle.paper.specs.Paper.{between, isSeat, isCard, isSheet, inKind}
 use Rattle.paper.proofs.Codes.{between-in}
 use Rattle.paper.specs.declared.Sheet.{Sheet}
 use Rattle.paper.specs.declared.Entry.{Entry}
@@ -37,9 +37,10 @@ use Rattle.table.specs.declared.table.Table.{Table}
 use Rattle.table.proofs.ChairsOk.{no-ok, ok-at, ok-sit, ok-leave, ok-hold, ok-acts, ok-fold, ok-round, ok-pays, live-some, empty-dead, deal-fresh, Fresh, fresh-ok, fresh-post}
 use Rattle.table.proofs.Codes.{turn-live, check-live, call-live, wager-live, dead-live, sit-empty, leave-dead, hole-open, board-open}
 use Rattle.table.proofs.Closing.{size-applied, ok-close, paid-none}
-use Rattle.table.proofs.Turns.{clockwise-most}
+use Rattle.table.proofs.Turns.{clockwise-most, marks}
+use Rattle.table.proofs.Numbers.{numbered-applied, none-numbered}
 use Rattle.table.proofs.InTurn.{not-live, from-first, same-turn, one-chair, dead-turn}
-use Rattle.table.proofs.Sounds.{passed}
+use Rattle.table.proofs.Sounds.{passed, sound-applied}
 
 -- ---- every chair
 chairs-board : (t : Table) (k : ℕ) → All ChairOk (t .chairs) → All ChairOk (boardedTo t k .chairs)
@@ -293,4 +294,33 @@ standing-fresh sheet =
         none = λ z x. not-live (freshTable sheet) (chairAt (replicate 10 noChair) x) (ap (λ (c : Chair). c .dealt .live) (none-at 10 x));
         some = λ z. absurd (z refl);
       };
+    }
+
+-- `take` keeps `Sound`
+pub sound-taken : (t : Table) (n : ℕ) (e : Entry) → Sound t → codeOf t n e ≡ 0 → Sound (withTaken (appliedTo t e) n)
+sound-taken t n e h q =
+    let p = passed t n e q in
+    let a = sound-applied t e h (p .kind) (p .moment) in
+    let m = marks t e h (p .kind) in
+    record {
+      payable = record { chips = a .payable .chips; sheet = a .payable .sheet; puck = a .payable .puck };
+      sittings = omega (arith, a .sittings, h .sittings, p .next);
+      taken = p .range;
+      mark = m .0;
+      turn = m .1;
+      numbered = numbered-applied t e (h .numbered);
+      standing = counted (appliedTo t e) n (standing-applied t e h (h .standing) (p .kind) (p .moment));
+    }
+
+-- `new_table` establishes it
+pub sound-fresh : (sheet : Sheet) → isSheet sheet ≡ true → Sound (freshTable sheet)
+sound-fresh sheet h =
+    record {
+      payable = record { chips = omega arith; sheet = h; puck = omega arith };
+      sittings = omega arith;
+      taken = omega arith;
+      mark = omega arith;
+      turn = omega arith;
+      numbered = none-numbered 0 10;
+      standing = standing-fresh sheet;
     }

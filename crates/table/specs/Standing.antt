@@ -1,5 +1,5 @@
--- What holds, beside `Sound`, of every table that is reached from a fresh one by any entries. proofs/Standing.antt shows that a fresh table has it and that
--- every entry, taken or refused, keeps it. Assumes nothing.
+-- How chairs, records and turn hang together; part of `Sound`. proofs/Standing.antt shows that a fresh table has it and that every entry, taken or
+-- refused, keeps it. Assumes nothing.
 use Prim.Native.Nat.{ℕ, _≤_, _<_}
 use mathlib.Core.Bool.{true, false}
 use mathlib.Core.Path.{_≡_}

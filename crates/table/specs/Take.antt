@@ -18,6 +18,7 @@ use Rattle.table.specs.Opening.{handCode, openedTo}
 use Rattle.table.specs.Dealing.{holeCode, boardCode, heldTo, boardedTo}
 use Rattle.laws.specs.Tests.{pick}
 use Rattle.table.specs.Settle.{Payable, settleCode, settledTo, payoutNow, noPayout}
+use Rattle.table.specs.Standing.{Standing}
 use Rattle.table.specs.declared.table.Table.{Table}
 use Rattle.table.specs.declared.table.Payout.{Payout}
 
@@ -29,6 +30,7 @@ pub record Sound (t : Table) : Type 0 where
   pub mark : t .play .mark ≤ 100000000
   pub turn : t .play .turn ≤ 10
   pub numbered : All (Numbered (t .sittings)) (t .chairs)
+  pub standing : Standing t
 
 -- the code that the table's state gives an entry
 abbrev pub kindCode : Table → Entry → ℕ

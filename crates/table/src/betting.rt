@@ -12,14 +12,16 @@ ghost use mathlib.Core.Path.{_≡_};
 ghost use Prim.Native.Nat.{_+_, _≤_};
 ghost use lib.Dec.{leb};
 ghost use Rattle.chairs.specs.Chairs.{chipsOf};
-ghost use Rattle.table.specs.Betting.{liveHands, onlyWithChips, firstOwing, turnCode, afterAct, foldedTo, checkCode, checkedTo, callCode, calledTo, isWager, wagerCode, liftAfter, wageredTo, deadCode, turnAfter, deadTo, newRound};
+ghost use Rattle.table.specs.Betting.{liveHands, firstOwing, nobodyOwes, turnCode, afterAct, foldedTo, checkCode, checkedTo, callCode, calledTo, isWager, wagerCode, liftAfter, wageredTo, deadCode, turnAfter, deadTo, newRound};
+ghost use Rattle.table.specs.Standing.{Standing};
 
 // The codes that stop an act out of its moment, at a seat that is not live, or out of turn.
 pub(crate) fn turn_code(t: Table, s: u32) -> u8
+    requires { ⌜ Standing t ⌝ }
     ensures { λ r. ⌜ r ≡ turnCode t s ⌝ }
 {
     let c = table::seat_of(t, s);
-    let none = first_owing(t, 0) == 0;
+    let none = nobody_owes(t);
     let out = !c.dealt.live;
     let other = t.play.turn != s;
     or_else(when(none, 4), or_else(when(out, 5), when(other, 6)))
@@ -27,6 +29,7 @@ pub(crate) fn turn_code(t: Table, s: u32) -> u8
 
 // The round total equals the mark.
 pub(crate) fn check_code(t: Table, s: u32) -> u8
+    requires { ⌜ Standing t ⌝ }
     ensures { λ r. ⌜ r ≡ checkCode t s ⌝ }
 {
     let c = table::seat_of(t, s);
@@ -36,6 +39,7 @@ pub(crate) fn check_code(t: Table, s: u32) -> u8
 
 // The round total is below the mark.
 pub(crate) fn call_code(t: Table, s: u32) -> u8
+    requires { ⌜ Standing t ⌝ }
     ensures { λ r. ⌜ r ≡ callCode t s ⌝ }
 {
     let c = table::seat_of(t, s);
@@ -86,6 +90,7 @@ fn may_wager(t: Table, c: Chair, a: u32) -> bool
 }
 
 pub(crate) fn wager_code(t: Table, s: u32, a: u32) -> u8
+    requires { ⌜ Standing t ⌝ }
     ensures { λ r. ⌜ r ≡ wagerCode t s a ⌝ }
 {
     let c = table::seat_of(t, s);
@@ -160,35 +165,36 @@ pub(crate) fn new_round(t: Table) -> Table
 }
 
 // How many hands are live.
-pub(crate) fn lives(t: Table) -> u8
+pub(crate) fn lives(t: Table) -> u32
     ensures { λ r. ⌜ r ≡ liveHands t ⌝ }
 {
     let cs = t.chairs;
-    chairs::seats::count(cs, Who::Live)
-}
-
-// Whether no more than one live seat has chips.
-fn alone(t: Table) -> bool
-    ensures { λ r. ⌜ r ≡ onlyWithChips t ⌝ }
-{
-    let cs = t.chairs;
-    chairs::seats::count(cs, Who::LiveWithChips) <= 1
+    chairs::seats::lives(cs).hands
 }
 
 // The first owing seat clockwise from s, which comes last; 0 where nobody owes.
 pub(crate) fn first_owing(t: Table, s: u32) -> u32
     ensures { λ r. ⌜ r ≡ firstOwing t s ⌝ }
 {
-    if lives(t) < 2 {
+    let cs = t.chairs;
+    let k = chairs::seats::lives(cs);
+    if k.hands < 2 {
         return 0;
     }
     let w = Who::Owing {
         mark: t.play.mark,
-        alone: alone(t),
+        alone: k.stacks <= 1,
     };
-    let cs = t.chairs;
     let n = t.sheet.seats;
     chairs::seats::first_from(cs, w, n, s)
+}
+
+// Whether nobody owes: then, and only then, it is nobody's turn.
+pub(crate) fn nobody_owes(t: Table) -> bool
+    requires { ⌜ Standing t ⌝ }
+    ensures { λ r. ⌜ r ≡ nobodyOwes t ⌝ }
+{
+    t.play.turn == 0
 }
 
 // The seat s has acted, and its chair is now c: the turn goes on to the first owing seat clockwise.

@@ -10,6 +10,7 @@ ghost use mathlib.Core.Path.{_≡_};
 ghost use Prim.Native.Nat.{_≤_, _<_};
 ghost use lib.ListN.{take};
 ghost use Rattle.table.specs.Dealing.{hasCard, inThisHand, holeCode, heldTo, boardCode, boardedTo};
+ghost use Rattle.table.specs.Standing.{Standing};
 
 // The seat is live and has no cards yet, and the cards are two new ones.
 pub(crate) fn hole_code(t: Table, s: u32, a: u32, b: u32) -> u8
@@ -37,10 +38,11 @@ pub(crate) fn holed(t: Table, s: u32, a: u32, b: u32) -> Table
 
 // Nobody owes, two hands or more are live, and fewer than five cards lie.
 pub(crate) fn board_code(t: Table, k: u32) -> u8
+    requires { ⌜ Standing t ⌝ }
     ensures { λ r. ⌜ r ≡ boardCode t k ⌝ }
 {
     let off = !t.play.opened;
-    let owed = betting::first_owing(t, 0) != 0;
+    let owed = !betting::nobody_owes(t);
     let few = betting::lives(t) < 2;
     let full = 5 <= t.board.count;
     let old = used(t, k);

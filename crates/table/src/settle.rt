@@ -12,7 +12,7 @@ use laws::both;
 use laws::either;
 use paper::or_else;
 use paper::when;
-use pots::Pots;
+use pots::Stands;
 ghost use mathlib.Core.Path.{_≡_};
 ghost use mathlib.Core.List.{map};
 ghost use Prim.Native.Nat.{_+_, _-_, _≤_, _<_};
@@ -20,6 +20,7 @@ ghost use lib.ListN.{length};
 ghost use Rattle.chairs.specs.Chairs.{chipsOf, closeAll};
 ghost use Rattle.pots.specs.Runs.{padded};
 ghost use Rattle.table.specs.Settle.{Payable, settleCode, totalsOf, livesOf, hereOf, handScore, scoreOf, potsNow, backNow, payoutNow, settledTo, closedPlay, noPayout};
+ghost use Rattle.table.specs.Standing.{Standing};
 
 // The table after an entry that is taken, and what it pays.
 pub struct Done {
@@ -29,11 +30,12 @@ pub struct Done {
 
 // One live; or nobody owes and five board cards lie. With two live or more each live seat has its cards.
 pub(crate) fn settle_code(t: Table) -> u8
+    requires { ⌜ Standing t ⌝ }
     ensures { λ r. ⌜ r ≡ settleCode t ⌝ }
 {
     let cs = t.chairs;
     let live = betting::lives(t);
-    let none = betting::first_owing(t, 0) == 0;
+    let none = betting::nobody_owes(t);
     let five = t.board.count == 5;
     let now = both(t.play.opened, either(live == 1, both(none, five)));
     let bare = chairs::seats::count(cs, Who::Bare) != 0;
@@ -196,18 +198,10 @@ pub fn no_payout() -> Payout
     }
 }
 
-// The pots of the open hand, from the lowest.
-pub fn pots_now(t: Table) -> Pots
+// The pots of the open hand, from the lowest, and the sum of returned heights.
+pub fn stands_now(t: Table) -> Stands
     requires { ⌜ chipsOf (t .chairs) ≤ 100000000 ⌝ }
-    ensures { λ r. ⌜ (r .n ≡ length (potsNow t)) × (r .list ≡ padded 9 (potsNow t)) × (r .n ≤ 9) ⌝ }
+    ensures { λ r. ⌜ (r .pots .n ≡ length (potsNow t)) × (r .pots .list ≡ padded 9 (potsNow t)) × (r .pots .n ≤ 9) × (r .back ≡ backNow t) ⌝ }
 {
-    pots::pots_of(totals(t), live_seats(t))
-}
-
-// The sum of returned heights.
-pub fn back_now(t: Table) -> u32
-    requires { ⌜ chipsOf (t .chairs) ≤ 100000000 ⌝ }
-    ensures { λ r. ⌜ r ≡ backNow t ⌝ }
-{
-    pots::back(totals(t), live_seats(t))
+    pots::stand(totals(t), live_seats(t))
 }

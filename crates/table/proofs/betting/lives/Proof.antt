@@ -3,12 +3,12 @@ use borrow.Author.Needs.{needs}
 use Rattle.table.proofs.betting.lives.Statement.{statement}
 use Rattle.table.proofs.betting.lives.Tie as tie
 
-count-requires : tie.Need-count-requires
-count-requires c κs = search needs
+lives-requires : tie.Need-lives-requires
+lives-requires c κs = search needs
 
 returns : tie.Need-returns
 unfolding liveHands
 returns c = cc
 
 pub lives-spec : {M : Type 1} → statement M
-lives-spec = tie.close (tie.spec count-requires returns)
+lives-spec = tie.close (tie.spec lives-requires returns)

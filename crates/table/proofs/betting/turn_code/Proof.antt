@@ -6,8 +6,8 @@ use Rattle.table.proofs.betting.turn_code.Tie as tie
 seat-of-requires : tie.Need-seat-of-requires
 seat-of-requires c κs = search needs
 
-first-owing-requires : tie.Need-first-owing-requires
-first-owing-requires c κs = search needs
+nobody-owes-requires : tie.Need-nobody-owes-requires
+nobody-owes-requires c κs = search needs
 
 when-requires : tie.Need-when-requires
 when-requires c κs = search needs
@@ -33,7 +33,7 @@ turn-code-spec =
     tie.close
     (tie.spec
     seat-of-requires
-    first-owing-requires
+    nobody-owes-requires
     when-requires
     when-requires-2
     when-requires-3

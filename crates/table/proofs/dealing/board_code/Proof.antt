@@ -3,8 +3,8 @@ use borrow.Author.Needs.{needs}
 use Rattle.table.proofs.dealing.board_code.Statement.{statement}
 use Rattle.table.proofs.dealing.board_code.Tie as tie
 
-first-owing-requires : tie.Need-first-owing-requires
-first-owing-requires c κs = search needs
+nobody-owes-requires : tie.Need-nobody-owes-requires
+nobody-owes-requires c κs = search needs
 
 lives-requires : tie.Need-lives-requires
 lives-requires c κs = search needs
@@ -38,7 +38,7 @@ pub board-code-spec : {M : Type 1} → statement M
 board-code-spec =
     tie.close
     (tie.spec
-    first-owing-requires
+    nobody-owes-requires
     lives-requires
     used-requires
     either-requires

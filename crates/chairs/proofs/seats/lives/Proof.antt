@@ -1,0 +1,90 @@
+-- The invariant: what is counted so far and what the rest counts make both whole counts.
+use mathlib.Core.Path.{ap, _∙_, _≡_}
+use lib.ListN.{drop-of-length-le, length, drop, getD}
+use borrow.Author.Needs.{needs}
+use Prim.Native.Nat.{_≤_, _+_, _-_}
+use native.Mathlib.Omega.{arith}
+use Rattle.laws.specs.Tests.{one}
+use Rattle.laws.proofs.Often.{one-small}
+use Rattle.chairs.specs.Chairs.{wantOf, countOf, noChair}
+use Rattle.chairs.specs.declared.Who.the-variants.{Live, LiveWithChips}
+use Rattle.chairs.proofs.Laws.{count-step}
+use Rattle.chairs.proofs.seats.lives.Statement.{statement}
+use Rattle.chairs.proofs.seats.lives.Tie as tie
+
+abbrev Inv-loop : tie.InvT-loop
+Inv-loop cs hands₀ stacks₀ i₀ hands stacks i =
+    (i ≤ 10) × (hands ≤ i) × (stacks ≤ i) × (hands + countOf (wantOf Live) (drop i cs) ≡ countOf (wantOf Live) cs)
+    × (stacks + countOf (wantOf LiveWithChips) (drop i cs) ≡ countOf (wantOf LiveWithChips) cs)
+
+abbrev μ-loop : tie.MeasureT-loop
+μ-loop cs hands₀ stacks₀ i₀ hands stacks i = 10 - i
+
+loop-holds : tie.Need-loop-holds Inv-loop μ-loop
+loop-holds c = search needs
+
+mul-c : tie.Need-mul-c Inv-loop μ-loop
+mul-c c = search needs
+
+array-copy-out-c : tie.Need-array-copy-out-c Inv-loop μ-loop
+array-copy-out-c c = search needs
+
+one-requires : tie.Need-one-requires Inv-loop μ-loop
+one-requires c κs = search needs
+
+add-hands : tie.Need-add-hands Inv-loop μ-loop
+add-hands c = omega (arith, c .one .ensures, one-small (getD (c .before .before .before .before .args .t1) (c .before .before .before .loop .i) noChair .dealt .live))
+
+live-with-chips-requires : tie.Need-live-with-chips-requires Inv-loop μ-loop
+live-with-chips-requires c κs = search needs
+
+one-requires-2 : tie.Need-one-requires-2 Inv-loop μ-loop
+one-requires-2 c κs = search needs
+
+add-stacks : tie.Need-add-stacks Inv-loop μ-loop
+add-stacks c = omega (arith, c .one2 .ensures, one-small (c .before .live-with-chips .result))
+
+add-i : tie.Need-add-i Inv-loop μ-loop
+add-i c = search needs
+
+loop-less : tie.Need-loop-less Inv-loop μ-loop
+loop-less c = search needs
+
+loop-again : tie.Need-loop-again Inv-loop μ-loop
+loop-again c =
+    let cs = c .before .before .before .before .before .before .args .t1 in
+    let i = c .before .before .before .before .before .loop .i in
+    let len : length cs ≡ 10 = search needs in
+    let l = wantOf Live (getD cs i noChair) in
+    let h : c .before .before .one .result ≡ one l = c .before .before .one .ensures in
+    let r = wantOf LiveWithChips (getD cs i noChair) in
+    let k : c .one2 .result ≡ one r = c .one2 .ensures ∙ ap one (c .before .live-with-chips .ensures) in
+    let a = count-step (wantOf Live) cs i noChair (omega arith) in
+    let b = count-step (wantOf LiveWithChips) cs i noChair (omega arith) in
+    (omega arith, omega (arith, h, one-small l), omega (arith, k, one-small r), omega (arith, h, a), omega (arith, k, b))
+
+returns : tie.Need-returns Inv-loop μ-loop
+returns c =
+    let cs = c .before .before .args .t1 in
+    let len : length cs ≡ 10 = search needs in
+    let none = drop-of-length-le cs {i = c .before .loop .i} (omega arith) in
+    (omega (arith, ap (countOf (wantOf Live)) none), omega (arith, ap (countOf (wantOf LiveWithChips)) none))
+
+pub lives-spec : {M : Type 1} → statement M
+lives-spec =
+    tie.close
+    (tie.spec
+    Inv-loop
+    μ-loop
+    loop-holds
+    mul-c
+    array-copy-out-c
+    one-requires
+    add-hands
+    live-with-chips-requires
+    one-requires-2
+    add-stacks
+    add-i
+    loop-less
+    loop-again
+    returns)
