@@ -37,7 +37,7 @@ answer-requires c κs =
 
 add-at : tie.Need-add-at Inv-loop μ-loop
 add-at c =
-    omega (arith, going-room (c .before .before .before .before .before .before .before .loop .inv) (c .before .before .before .before .answer .ensures .0), c .before .before .before .before .before .before .before .loop .inv .same)
+    omega (arith, c .before .before .before .before .before .before .before .before .before .before .good, going-room (c .before .before .before .before .before .before .before .loop .inv) (c .before .before .before .before .answer .ensures .0), c .before .before .before .before .before .before .before .loop .inv .same)
 
 rest-requires : tie.Need-rest-requires Inv-loop μ-loop
 rest-requires c κs =
