@@ -10,6 +10,7 @@ mod writer;
 
 pub use decimal::digit_count;
 pub use kind::entry_of;
+pub use line::read_key_number;
 pub use reader::read_block;
 pub use reader::rest;
 pub use writer::put_bytes;
