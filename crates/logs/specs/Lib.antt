@@ -1,0 +1,2 @@
+-- A sheet and an entry as they are written.
+pub mod LogText
