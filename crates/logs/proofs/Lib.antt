@@ -4,3 +4,5 @@ pub mod SheetText
 pub mod EntryText
 pub mod KindRows
 pub mod Puts
+pub mod Copies
+pub mod Fair

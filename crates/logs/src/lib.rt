@@ -1,4 +1,5 @@
-// A sheet and an entry written in document 01's text form, each at the front of a lent buffer.
+// A sheet and an entry written in document 01's text form, each at the front of a lent buffer; and a log copied fair.
+pub mod copy;
 mod entry;
 mod sheet;
 
