@@ -52,7 +52,7 @@ pub struct Got {
 }
 
 // The bytes of a part up to the block's fifth LF, or all of them.
-fn gather(buf: &mut [u8], m: Mark, part: &[u8]) -> Got
+pub fn gather(buf: &mut [u8], m: Mark, part: &[u8]) -> Got
     requires { ⌜ Room m × (m .lines < 5) × (170 ≤ length (now buf)) ⌝ }
     ensures kept { λ r. ⌜ (stateOf (r .mark) (now (buf .exit)) ≡ gatherOf (stateOf m (now (buf .entry))) (now (part .entry)) .kept) × (drop (r .used) (now (part .entry)) ≡ gatherOf (stateOf m (now (buf .entry))) (now (part .entry)) .left) ⌝ }
     ensures room { λ r. ⌜ Room (r .mark) × (r .used ≤ length (now (part .entry))) × (0 < length (now (part .entry)) → 0 < r .used) ⌝ }
@@ -85,7 +85,8 @@ pub struct Fed {
     pub written: usize,
 }
 
-fn empty() -> Mark
+// Nothing is kept.
+pub fn empty() -> Mark
     ensures { λ r. ⌜ Room r × (r .lines ≡ 0) × (r .count ≡ 0) × (r .width ≡ 0) ⌝ }
 {
     Mark {

@@ -9,6 +9,7 @@ pub mod sheet;
 mod writer;
 
 pub use decimal::digit_count;
+pub use decimal::put_digits;
 pub use kind::entry_of;
 pub use line::read_key_number;
 pub use reader::read_block;
