@@ -2,7 +2,34 @@
 
 use crate::entries::Card;
 use crate::seats::{clockwise_after, clockwise_from, Seat};
-use crate::table::{Dealt, Hand, Sitter, Table};
+use crate::table::{Act, Dealt, Hand, Sitter, Table};
+
+impl Act {
+    pub fn is_full_lift(self) -> bool {
+        matches!(self, Act::Wager { full: true, .. })
+    }
+
+    pub fn is_short_lift(self) -> bool {
+        matches!(self, Act::Wager { full: false, .. })
+    }
+}
+
+impl Hand {
+    /// The last full lift of the round and what came after it; the whole
+    /// round, if none came.
+    pub fn acts_since_full_lift(&self) -> &[(Seat, Act)] {
+        let last = self.acts.iter().rposition(|(_, act)| act.is_full_lift());
+        &self.acts[last.unwrap_or(0)..]
+    }
+
+    /// Request No. 2: after a short lift a seat that made the last full lift
+    /// or acted since it (or since the round opened, if none came) may only
+    /// call or fold.
+    pub fn may_only_call_or_fold(&self, seat: Seat) -> bool {
+        let since = self.acts_since_full_lift();
+        since.iter().any(|(_, act)| act.is_short_lift()) && since.iter().any(|(who, _)| *who == seat)
+    }
+}
 
 impl Table {
     /// Live, has chips, hasn't acted since the last wager of this round by
@@ -34,8 +61,13 @@ impl Table {
         self.hand.as_ref().map_or(0, |hand| hand.turn)
     }
 
-    /// Above the mark, within the stack, and either a full lift or all of it.
+    /// The amount is one a seat may wager to, and the seat may raise.
     pub fn wager_is_allowed(&self, hand: &Hand, dealt: &Dealt, seat: Seat, to: u64) -> bool {
+        self.amount_is_allowed(hand, dealt, seat, to) && !hand.may_only_call_or_fold(seat)
+    }
+
+    /// Above the mark, within the stack, and either a full lift or all of it.
+    pub fn amount_is_allowed(&self, hand: &Hand, dealt: &Dealt, seat: Seat, to: u64) -> bool {
         let stack = self.stack(seat);
         let in_reach = to > hand.mark && to - dealt.round_total <= stack;
         in_reach && (to >= hand.mark + hand.lift || to - dealt.round_total == stack)
@@ -64,7 +96,8 @@ impl Table {
         let big_blind = self.next_with_chips(puck).expect("two seats or more hold chips");
         let (mark, lift) = (self.sheet.big, self.sheet.big);
         self.last_puck = Some(puck);
-        self.hand = Some(Hand { puck, board: Vec::new(), mark, lift, turn: 0, dealt });
+        let (board, acts) = (Vec::new(), Vec::new());
+        self.hand = Some(Hand { puck, board, mark, lift, acts, turn: 0, dealt });
         self.pay(puck, self.sheet.small);
         self.pay(big_blind, self.sheet.big);
         self.pass_turn(big_blind);
@@ -86,7 +119,8 @@ impl Table {
         self.hand_mut().turn = self.first_owing(clockwise_after(seat, self.sheet.seats));
     }
 
-    pub(crate) fn acted(&mut self, seat: Seat) {
+    pub(crate) fn acted(&mut self, seat: Seat, act: Act) {
+        self.hand_mut().acts.push((seat, act));
         self.dealt_mut(seat).acted = true;
         self.pass_turn(seat);
     }
@@ -104,7 +138,7 @@ impl Table {
     pub(crate) fn call(&mut self, seat: Seat) {
         let below_mark = self.hand_mut().mark - self.dealt_mut(seat).round_total;
         self.pay(seat, below_mark);
-        self.acted(seat);
+        self.acted(seat, Act::Call);
     }
 
     pub(crate) fn wager(&mut self, seat: Seat, to: u64) {
@@ -112,12 +146,13 @@ impl Table {
         self.pay(seat, more);
         let hand = self.hand_mut();
         let rise = to - hand.mark;
+        let full = rise >= hand.lift;
         hand.mark = to;
-        if rise >= hand.lift {
+        if full {
             hand.lift = rise;
         }
         hand.dealt.iter_mut().flatten().for_each(|dealt| dealt.acted = false);
-        self.acted(seat);
+        self.acted(seat, Act::Wager { rise, full });
     }
 
     pub(crate) fn lay_board(&mut self, card: Card) {
@@ -134,6 +169,7 @@ impl Table {
         let (big, seats) = (self.sheet.big, self.sheet.seats);
         let hand = self.hand_mut();
         (hand.mark, hand.lift) = (0, big);
+        hand.acts.clear();
         for dealt in hand.dealt.iter_mut().flatten() {
             (dealt.round_total, dealt.acted) = (0, false);
         }

@@ -24,12 +24,26 @@ pub struct Dealt {
     pub cards: Option<[Card; 2]>,
 }
 
+/// What a seat did in a round of betting; a fold ends its part and is not kept.
+#[derive(Clone, Copy, Debug, PartialEq)]
+pub enum Act {
+    Check,
+    Call,
+    /// `full` if it lifted the mark by at least the lift.
+    Wager {
+        rise: u64,
+        full: bool,
+    },
+}
+
 #[derive(Clone, Debug, PartialEq)]
 pub struct Hand {
     pub puck: Seat,
     pub board: Vec<Card>,
     pub mark: u64,
     pub lift: u64,
+    /// Of this round, in order.
+    pub acts: Vec<(Seat, Act)>,
     /// 0 if none.
     pub turn: Seat,
     pub dealt: Vec<Option<Dealt>>,
@@ -154,7 +168,7 @@ impl Table {
             Entry::Hand { puck } => self.open(puck),
             Entry::Hole { seat, cards } => self.dealt_mut(seat).cards = Some(cards),
             Entry::Fold { seat } | Entry::Dead { seat } => self.drop_hand(seat),
-            Entry::Check { seat } => self.acted(seat),
+            Entry::Check { seat } => self.acted(seat, Act::Check),
             Entry::Call { seat } => self.call(seat),
             Entry::Wager { seat, to } => self.wager(seat, to),
             Entry::Board { card } => self.lay_board(card),

@@ -193,3 +193,43 @@ fn two_live_need_cards() {
     let settled = play.answer("settle").settlement.expect("both have cards");
     assert_eq!(settled.rows, [(1, 10), (2, 10)]);
 }
+
+/// Seats 3 and 4 have raised to 30 and called; seats 5 and 1 then put in
+/// whole stacks that lift the mark by 17 and by 8, with the lift at 20.
+fn after_two_short_lifts() -> Play {
+    let mut play = Play::new([5, 5, 10, 0, 0]);
+    play.take(&["sit 1 55", "sit 2 200", "sit 3 200", "sit 4 200", "sit 5 47", "hand 1"]);
+    play.take(&["wager 3 30", "call 4", "wager 5 47", "wager 1 55"]);
+    play
+}
+
+#[test]
+fn short_lifts_do_not_reopen_for_the_last_raiser_or_a_caller() {
+    let mut play = after_two_short_lifts();
+    play.take(&["fold 2"]);
+    let refused = ["wager 3 75", "wager 3 200", "check 3", "call 3"];
+    assert_eq!(refused.map(|entry| play.code(entry)), [7, 7, 7, 0]);
+    assert_eq!(["wager 4 75", "wager 4 200", "call 4"].map(|entry| play.code(entry)), [7, 7, 0]);
+    assert_eq!(play.table.turn(), 0);
+}
+
+#[test]
+fn one_who_has_not_acted_may_raise_after_short_lifts_and_reopens() {
+    let mut play = after_two_short_lifts();
+    assert_eq!(["wager 2 74", "wager 2 75"].map(|entry| play.code(entry)), [7, 0]);
+    assert_eq!(["wager 3 94", "wager 3 95"].map(|entry| play.code(entry)), [7, 0]);
+    play.take(&["wager 4 200"]);
+}
+
+#[test]
+fn a_short_lift_after_checks_bars_those_who_checked() {
+    let mut play = Play::new(SHEET);
+    play.take(&["sit 1 100", "sit 2 100", "sit 3 17", "sit 4 100", "hand 1"]);
+    play.take(&["call 3", "call 4", "call 1", "check 2", "board 0 1", "board 0 2", "board 0 3"]);
+    play.take(&["check 1", "check 2", "wager 3 7"]);
+    assert_eq!(["wager 4 16", "call 4"].map(|entry| play.code(entry)), [7, 0]);
+    assert_eq!(["wager 1 17", "wager 1 90", "fold 1"].map(|entry| play.code(entry)), [7, 7, 0]);
+    assert_eq!(["wager 2 17", "call 2"].map(|entry| play.code(entry)), [7, 0]);
+    assert_eq!(play.answer("board 0 4").turn, 2);
+    play.take(&["wager 2 10"]);
+}

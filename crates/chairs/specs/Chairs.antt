@@ -51,7 +51,7 @@ wantOf Bare c = isBare c
 
 -- the record of nobody, and no cards
 abbrev pub noDealt : Dealt
-noDealt = record { sitting = 0; total = 0; start = 0; live = false; acted = false }
+noDealt = record { sitting = 0; total = 0; start = 0; live = false; acted = false; spent = false }
 
 abbrev pub noHole : Hole
 noHole = record { entered = false; first = 0; second = 0 }
@@ -98,24 +98,27 @@ withDealt c d = record { sitting = c .sitting; stack = c .stack; dealt = d; hole
 
 -- the hand is given up
 abbrev pub foldedOf : Chair → Chair
-foldedOf c = withDealt c (record { sitting = c .dealt .sitting; total = c .dealt .total; start = c .dealt .start; live = false; acted = c .dealt .acted })
+foldedOf c = withDealt c (record { sitting = c .dealt .sitting; total = c .dealt .total; start = c .dealt .start; live = false; acted = c .dealt .acted; spent = c .dealt .spent })
 
-abbrev pub actsOf : Bool → Chair → Chair
-actsOf b c = withDealt c (record { sitting = c .dealt .sitting; total = c .dealt .total; start = c .dealt .start; live = c .dealt .live; acted = b })
+-- whether the hand has acted since the last wager by another, and whether its right to raise is spent (No. 2): the seat "made the last full lift or
+-- acted since it (or since the round opened, if none came)"
+abbrev pub actsOf : Bool → Bool → Chair → Chair
+actsOf b d c = withDealt c (record { sitting = c .dealt .sitting; total = c .dealt .total; start = c .dealt .start; live = c .dealt .live; acted = b; spent = d })
 
--- the hand has acted; another has wagered since
+-- the hand has acted: checked, called or wagered
 abbrev pub actedOf : Chair → Chair
-actedOf c = actsOf true c
+actedOf c = actsOf true true c
 
-abbrev pub againOf : Chair → Chair
-againOf c = actsOf false c
+-- another has wagered since. A full lift is a last one that the hand has not acted since; after a short one the last full lift is the one before
+abbrev pub againOf : Bool → Chair → Chair
+againOf full c = actsOf false (both (c .dealt .spent) (not full)) c
 
 -- a seat puts in a, or its whole stack where that is less
 abbrev pub paidOf : Chair → ℕ → Chair
 paidOf c a = record {
   sitting = c .sitting;
   stack = c .stack - min a (c .stack);
-  dealt = record { sitting = c .dealt .sitting; total = c .dealt .total + min a (c .stack); start = c .dealt .start; live = c .dealt .live; acted = c .dealt .acted };
+  dealt = record { sitting = c .dealt .sitting; total = c .dealt .total + min a (c .stack); start = c .dealt .start; live = c .dealt .live; acted = c .dealt .acted; spent = c .dealt .spent };
   hole = c .hole;
 }
 
@@ -123,21 +126,21 @@ paidOf c a = record {
 abbrev pub seatedOf : Chair → ℕ → ℕ → Chair
 seatedOf c k a = record { sitting = k; stack = a; dealt = c .dealt; hole = c .hole }
 
--- Betting, a new round: the round total is 0, and the hand hasn't acted
+-- Betting, a new round: the round total is 0, and the hand hasn't acted; no full lift came yet
 abbrev pub roundedOf : Chair → Chair
-roundedOf c = withDealt c (record { sitting = c .dealt .sitting; total = c .dealt .total; start = c .dealt .total; live = c .dealt .live; acted = false })
+roundedOf c = withDealt c (record { sitting = c .dealt .sitting; total = c .dealt .total; start = c .dealt .total; live = c .dealt .live; acted = false; spent = false })
 
 -- Opening, a new hand: a seat that is dealt in is live, and has put in nothing; no cards are entered
 abbrev pub dealtOf : Chair → Chair
 dealtOf c = record {
   sitting = c .sitting;
   stack = c .stack;
-  dealt = record { sitting = pick (isDealtIn c) (c .sitting) 0; total = 0; start = 0; live = isDealtIn c; acted = false };
+  dealt = record { sitting = pick (isDealtIn c) (c .sitting) 0; total = 0; start = 0; live = isDealtIn c; acted = false; spent = false };
   hole = noHole;
 }
 
 abbrev pub sweepOf : Sweep → Chair → Chair
-sweepOf Again c = againOf c
+sweepOf (Again full) c = againOf full c
 sweepOf Round c = roundedOf c
 sweepOf Deal c = dealtOf c
 

@@ -21,7 +21,7 @@ use Rattle.pots.proofs.Contest.{has-none}
 use Rattle.pots.proofs.Hands.{map-length}
 use Rattle.pots.proofs.Bounds.{bitAt, live-at, mask-bit, reach, reach-zero, due-at-most}
 use Rattle.table.specs.State.{seatOf, withTaken, withCard}
-use Rattle.table.specs.Betting.{afterAct, foldedTo, checkedTo, calledTo, wageredTo, deadTo, newRound}
+use Rattle.table.specs.Betting.{afterAct, isFullLift, foldedTo, checkedTo, calledTo, wageredTo, deadTo, newRound}
 use Rattle.table.specs.Sittings.{satTo, leftTo}
 use Rattle.table.specs.Opening.{nextDealtIn, openedTo, postedTo}
 use Rattle.table.specs.Dealing.{heldTo, boardedTo}
@@ -54,8 +54,8 @@ told-pay k n w cs x m h l e =
     let c = chairAt cs x in
     let o = ok-at cs x (h .seated .ok) in
     record {
-      seated = seated-put k cs x (actedOf (paidOf c m)) (h .seated) (ok-acts true (paidOf c m) (ok-pays c m o (λ z. absurd (live-some c o l z)))) refl refl;
-      notes = notes-pay n w cs x m true (h .notes) o (λ s p. e s p ∙ ap (λ (z : ℕ). pick (eqb z s) (min m (c .stack)) 0) (sym (o .here l)));
+      seated = seated-put k cs x (actedOf (paidOf c m)) (h .seated) (ok-acts true true (paidOf c m) (ok-pays c m o (λ z. absurd (live-some c o l z)))) refl refl;
+      notes = notes-pay n w cs x m true true (h .notes) o (λ s p. e s p ∙ ap (λ (z : ℕ). pick (eqb z s) (min m (c .stack)) 0) (sym (o .here l)));
     }
 
 -- what the clerk reckons with the note's round total, the table with the seat's
@@ -77,10 +77,11 @@ told-wager : (k : ℕ) (n : ℕ → Note) (t : Table) (x a : ℕ) → Told k n (
     → Told k (λ s. noted t (Wager x a) s (n s)) (wageredTo t x a .chairs)
 unfolding wageredTo afterAct by
 told-wager k n t x a h l fits =
-    let cs = map againOf (t .chairs) in
-    let at : chairAt cs x ≡ againOf (seatOf t x) = map-at againOf (t .chairs) x refl in
+    let f = isFullLift t a in
+    let cs = map (againOf f) (t .chairs) in
+    let at : chairAt cs x ≡ againOf f (seatOf t x) = map-at (againOf f) (t .chairs) x refl in
     let m = a - roundOf (seatOf t x) in
-    let all : Told k n cs = record { seated = seated-map k againOf (t .chairs) (h .seated) (ok-acts false) (λ c. refl) (λ c. refl); notes = notes-again n false (t .chairs) (h .notes) } in
+    let all : Told k n cs = record { seated = seated-map k (againOf f) (t .chairs) (h .seated) (λ c. ok-acts false _ c) (λ c. refl) (λ c. refl); notes = notes-again n f (t .chairs) (h .notes) } in
     let w : ℕ → ℕ = λ s. by t x s (a - n s .round) in
     let whole : m ≡ min m (chairAt cs x .stack) = omega (arith, fits, ap (λ (c : Chair). c .stack) at) in
     subst (λ (d : Chair). Told k (λ s. puts (n s) (w s)) (putAt cs x d)) (ap (λ (c : Chair). actedOf (paidOf c m)) at)
@@ -96,7 +97,7 @@ told-post k n w cs x m h f e =
     let fr : Fresh c = all-at Fresh cs x (record { ok = ok-at [] 0 tt; poor = λ z. refl }) f in
     record {
       seated = seated-put k cs x (paidOf c m) (h .seated) (ok-pays c m (fr .ok) (fr .poor)) refl refl;
-      notes = notes-pay n w cs x m (c .dealt .acted) (h .notes) (fr .ok) e;
+      notes = notes-pay n w cs x m (c .dealt .acted) (c .dealt .spent) (h .notes) (fr .ok) e;
     }
 
 -- a chair without chips pays nothing, so that its sitter and the sitting dealt in there are one
@@ -168,7 +169,7 @@ told-same k n t x d h o e f =
 told-check : (k : ℕ) (n : ℕ → Note) (t : Table) (x : ℕ) → Told k n (t .chairs) → Told k n (putAt (t .chairs) x (actedOf (seatOf t x)))
 told-check k n t x h =
     record {
-      seated = seated-put k (t .chairs) x (actedOf (seatOf t x)) (h .seated) (ok-acts true (seatOf t x) (ok-at (t .chairs) x (h .seated .ok))) refl refl;
+      seated = seated-put k (t .chairs) x (actedOf (seatOf t x)) (h .seated) (ok-acts true true (seatOf t x) (ok-at (t .chairs) x (h .seated .ok))) refl refl;
       notes = notes-put n (t .chairs) x (actedOf (seatOf t x)) (h .notes) (λ s. refl) (λ s. refl) (λ s. refl);
     }
 

@@ -8,3 +8,4 @@ pub mod Examples
 pub mod P11
 pub mod Spring
 pub mod Reached
+pub mod Raises

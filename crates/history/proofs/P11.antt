@@ -1,5 +1,6 @@
 -- P11 as rows of a table under one computed claim about the definitions: a wager of mark plus lift less one is refused with 7, one of mark plus lift is taken;
--- a whole stack of 17 is taken, and the next ordinary wager is to 27. Assumes nothing.
+-- a whole stack of 17 is taken, and the next ordinary wager is to 27. By No. 2 that holds for a seat that hasn't acted; one that called before the short lift
+-- gets 7, whole stack or not. Assumes nothing.
 use Prim.Native.Nat.{ℕ, _+_}
 use mathlib.Core.Path.{_≡_, refl}
 use mathlib.Core.List.{List, [], _∷_}
@@ -7,10 +8,10 @@ use lib.ListN.{length}
 use Rattle.paper.specs.Paper.{isSeat, inRange}
 use Rattle.paper.specs.declared.Sheet.{Sheet}
 use Rattle.paper.specs.declared.Entry.{Entry}
-use Rattle.paper.specs.declared.Entry.the-variants.{Sit, Hand, Wager}
+use Rattle.paper.specs.declared.Entry.the-variants.{Sit, Hand, Call, Wager}
 use Rattle.chairs.specs.Chairs.{roundOf}
 use Rattle.table.specs.State.{seatOf}
-use Rattle.table.specs.Betting.{liveHands, onlyWithChips, owes, firstOwing, afterAct, turnCode, isWager, wagerCode, wageredTo}
+use Rattle.table.specs.Betting.{liveHands, onlyWithChips, owes, firstOwing, afterAct, turnCode, callCode, calledTo, isWager, wagerCode, wageredTo}
 use Rattle.table.specs.Sittings.{sitCode, satTo}
 use Rattle.table.specs.Opening.{nextDealtIn, isPuck, handCode, postedTo, openedTo}
 use Rattle.table.specs.Take.{codeOf, nextOf}
@@ -33,6 +34,10 @@ row es x a =
 abbrev pub opening : ℕ → List Entry
 opening k = Hand 1 ∷ Sit 3 k ∷ Sit 2 500 ∷ Sit 1 500 ∷ []
 
+-- No. 2: seat 3 calls the big blind, and seat 1 lifts the mark to 17 with its whole stack
+abbrev pub shortLift : List Entry
+shortLift = Wager 1 17 ∷ Call 3 ∷ Hand 1 ∷ Sit 3 500 ∷ Sit 2 500 ∷ Sit 1 17 ∷ []
+
 unfoldable pub rows11 : List (List ℕ)
 rows11 =
     row (opening 500) 3 19
@@ -41,6 +46,10 @@ rows11 =
     ∷ row (opening 17) 3 17
     ∷ row (Wager 3 17 ∷ opening 17) 1 26
     ∷ row (Wager 3 17 ∷ opening 17) 1 27
+    ∷ row shortLift 2 26
+    ∷ row shortLift 2 27
+    ∷ row (Call 2 ∷ shortLift) 3 27
+    ∷ row (Call 2 ∷ shortLift) 3 500
     ∷ []
 
 unfoldable pub paper11 : List (List ℕ)
@@ -51,8 +60,12 @@ paper11 =
     ∷ (10 ∷ 10 ∷ 0 ∷ 17 ∷ 0 ∷ [])
     ∷ (17 ∷ 10 ∷ 5 ∷ 495 ∷ 7 ∷ [])
     ∷ (17 ∷ 10 ∷ 5 ∷ 495 ∷ 0 ∷ [])
+    ∷ (17 ∷ 10 ∷ 10 ∷ 490 ∷ 7 ∷ [])
+    ∷ (17 ∷ 10 ∷ 10 ∷ 490 ∷ 0 ∷ [])
+    ∷ (17 ∷ 10 ∷ 10 ∷ 490 ∷ 7 ∷ [])
+    ∷ (17 ∷ 10 ∷ 10 ∷ 490 ∷ 7 ∷ [])
     ∷ []
 
 pub p11 : rows11 ≡ paper11
-unfolding isSeat inRange liveHands onlyWithChips owes firstOwing afterAct nextDealtIn turnCode sitCode satTo isPuck handCode postedTo openedTo isWager wagerCode wageredTo codeOf nextOf run row rows11 paper11
+unfolding isSeat inRange liveHands onlyWithChips owes firstOwing afterAct nextDealtIn turnCode sitCode satTo isPuck handCode postedTo openedTo callCode calledTo isWager wagerCode wageredTo codeOf nextOf run row rows11 paper11
 p11 = refl

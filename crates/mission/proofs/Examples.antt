@@ -21,7 +21,7 @@ use Rattle.pots.specs.Hand.{winnersOf, plus, wonOf, unclaimedOf}
 use Rattle.pots.specs.Heights.{has, chipsAt, liveOf, maskAt, contenders, contested, contest, over, backAt, backOf, returnedOf}
 use Rattle.pots.specs.Runs.{join, runs, keyed, potsOf, padded}
 use Rattle.pots.specs.Settle.{feesOf, ones, shareOut, sharesOf}
-use Rattle.table.specs.Betting.{liveHands, onlyWithChips, owes, firstOwing, afterAct, turnCode, isWager, wagerCode, wageredTo, foldedTo}
+use Rattle.table.specs.Betting.{liveHands, onlyWithChips, owes, firstOwing, afterAct, turnCode, callCode, calledTo, isWager, wagerCode, wageredTo, foldedTo}
 use Rattle.table.specs.Opening.{nextDealtIn, isPuck, handCode, postedTo, openedTo}
 use Rattle.table.specs.Settle.{settleCode, potsNow, backNow, scoreOf, payoutNow, settledTo}
 use Rattle.table.specs.Sittings.{sitCode, satTo}
@@ -44,5 +44,5 @@ abbrev pub twelve : List Row
 twelve = handRows examples ++ (amounts p7 ∷ amounts p8 ∷ amounts p9 ∷ amounts p10 ∷ gives (flat rows11) (flat paper11) ∷ gives (outputOf log) wanted ∷ [])
 
 pub all-twelve : allPass twelve ≡ true
-unfolding before put inOrder ordered isWheel lowered inRow allAlike oneSuit classOf ranksOf classOfCards valueOfHands above betterBy keep choices bestOf has chipsAt liveOf maskAt contenders contested contest over maxOf sumOf backAt backOf returnedOf join runs keyed potsOf feesOf ones shareOut sharesOf winnersOf plus wonOf isSeat inRange liveHands onlyWithChips owes firstOwing afterAct nextDealtIn turnCode sitCode satTo isPuck handCode postedTo openedTo isWager wagerCode wageredTo codeOf nextOf run row rows11 paper11 sheetNumber sheetWith sheetOf sheetEnd valueOfLine numberLine restOf kindOf blockOf wellFormed numberOf digits parsedOf foldedTo settleCode potsNow backNow scoreOf payoutNow settledTo payoutOf padded unclaimedOf spells strengthBy twoBytes rowBytes stateBytes payoutBytes tableBytes answerBytes shownOf judgedOf blockBytes outputOf
+unfolding before put inOrder ordered isWheel lowered inRow allAlike oneSuit classOf ranksOf classOfCards valueOfHands above betterBy keep choices bestOf has chipsAt liveOf maskAt contenders contested contest over maxOf sumOf backAt backOf returnedOf join runs keyed potsOf feesOf ones shareOut sharesOf winnersOf plus wonOf isSeat inRange liveHands onlyWithChips owes firstOwing afterAct nextDealtIn turnCode sitCode satTo isPuck handCode postedTo openedTo callCode calledTo isWager wagerCode wageredTo codeOf nextOf run row rows11 paper11 sheetNumber sheetWith sheetOf sheetEnd valueOfLine numberLine restOf kindOf blockOf wellFormed numberOf digits parsedOf foldedTo settleCode potsNow backNow scoreOf payoutNow settledTo payoutOf padded unclaimedOf spells strengthBy twoBytes rowBytes stateBytes payoutBytes tableBytes answerBytes shownOf judgedOf blockBytes outputOf
 all-twelve = refl

@@ -17,7 +17,7 @@ use Rattle.paper.specs.declared.Entry.the-variants.{Sit, Leave, Hand, Hole, Fol
 use Rattle.chairs.specs.Chairs.{Numbered, noChair, chairAt, putAt, sweepOf, dealtOf, closedOf, closeAll, paidOf}
 use Rattle.chairs.specs.declared.Chair.{Chair}
 use Rattle.chairs.specs.declared.Sweep.the-variants.{Again, Round, Deal}
-use Rattle.table.specs.Betting.{afterAct, foldedTo, checkedTo, calledTo, wageredTo, deadTo, newRound}
+use Rattle.table.specs.Betting.{afterAct, isFullLift, foldedTo, checkedTo, calledTo, wageredTo, deadTo, newRound}
 use Rattle.table.specs.Dealing.{heldTo, boardedTo}
 use Rattle.table.specs.Opening.{nextDealtIn, openedTo, postedTo}
 use Rattle.table.specs.Sittings.{satTo, leftTo}
@@ -47,11 +47,11 @@ early-put k cs s d a e = all-put (Early k) cs s d a (omega (arith, e, early-at k
 early-map : (k : ℕ) (f : Chair → Chair) (cs : List Chair) → All (Early k) cs → ((c : Chair) → f c .dealt .sitting ≡ c .dealt .sitting) → All (Early k) (map f cs)
 early-map k f cs a e = all-map (Early k) (Early k) f cs a (λ c h. omega (arith, h, e c))
 
-again-at : (cs : List Chair) (s : ℕ) → chairAt (map (sweepOf Again) cs) s .dealt .sitting ≡ chairAt cs s .dealt .sitting
-again-at cs zero = refl
-again-at [] (suc k) = refl
-again-at (c ∷ cs) (suc zero) = refl
-again-at (c ∷ cs) (suc (suc k)) = again-at cs (suc k)
+again-at : (f : Bool) (cs : List Chair) (s : ℕ) → chairAt (map (sweepOf (Again f)) cs) s .dealt .sitting ≡ chairAt cs s .dealt .sitting
+again-at f cs zero = refl
+again-at f [] (suc k) = refl
+again-at f (c ∷ cs) (suc zero) = refl
+again-at f (c ∷ cs) (suc (suc k)) = again-at f cs (suc k)
 
 closed-early : (k : ℕ) (cs : List Chair) (ps : List ℕ) → All (Early k) (closeAll cs ps)
 closed-early k [] ps = tt
@@ -87,7 +87,9 @@ board-early k t c a = early-pick k (leb 3 (t .board .count + 1)) _ _ (early-map 
 
 wager-early : (k : ℕ) (t : Table) (s w : ℕ) → All (Early k) (t .chairs) → All (Early k) (wageredTo t s w .chairs)
 unfolding wageredTo afterAct
-wager-early k t s w a = early-put k (map (sweepOf Again) (t .chairs)) s _ (early-map k (sweepOf Again) (t .chairs) a (λ d. refl)) (sym (again-at (t .chairs) s))
+wager-early k t s w a =
+    let f = isFullLift t w in
+    early-put k (map (sweepOf (Again f)) (t .chairs)) s _ (early-map k (sweepOf (Again f)) (t .chairs) a (λ d. refl)) (sym (again-at f (t .chairs) s))
 
 early-step : (t : Table) (es : List Entry) (e : Entry) → t .sittings ≡ sits es → All (Numbered (t .sittings)) (t .chairs) → All (Early (atDeal es)) (t .chairs)
     → All (Early (atDeal (e ∷ es))) (appliedTo t e .chairs)

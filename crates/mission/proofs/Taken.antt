@@ -14,7 +14,7 @@ use Rattle.paper.specs.declared.Entry.{Entry}
 use Rattle.paper.specs.declared.Entry.the-variants.{Sit, Leave, Hand, Hole, Fold, Check, Call, Wager, Board, Dead, Settle, Void}
 use Rattle.chairs.specs.Chairs.{countOf, wantOf, roundOf, chipsOf}
 use Rattle.chairs.specs.declared.Who.the-variants.{Chips, Bare}
-use Rattle.table.specs.Betting.{liveHands, firstOwing, nobodyOwes, isWager, turnCode, checkCode, callCode, wagerCode, deadCode}
+use Rattle.table.specs.Betting.{liveHands, firstOwing, nobodyOwes, mayRaise, isWager, turnCode, checkCode, callCode, wagerCode, deadCode}
 use Rattle.table.specs.Dealing.{inThisHand, holeCode, boardCode}
 use Rattle.table.specs.Opening.{nextDealtIn, isPuck, handCode}
 use Rattle.table.specs.Sittings.{sitCode, leaveCode}
@@ -130,11 +130,14 @@ wager-taken t s a h =
     let within = leb put (c .stack) in
     let whole = eqb put (c .stack) in
     let full = leb (t .play .mark + t .play .lift) a in
-    let p = or-zero (turnCode t s) (when (not (both above (both within (either whole full)))) 7) h in
-    let q = both-true above (both within (either whole full)) (passes (both above (both within (either whole full))) 6 (p .1)) in
+    let ok = both above (both within (either whole full)) in
+    let p = or-zero (turnCode t s) (when (not (both (mayRaise c) ok)) 7) h in
+    let m = both-true (mayRaise c) ok (passes (both (mayRaise c) ok) 6 (p .1)) in
+    let q = both-true above (both within (either whole full)) (m .1) in
     let r = both-true within (either whole full) (q .1) in
     record {
       act = act-taken t s (p .0);
+      right = not-true (c .dealt .spent) (m .0);
       above = ltb-true (t .play .mark) a (q .0);
       within = leb-true put (c .stack) (r .0);
       enough = ⊎-elim (λ e. inr (eqb-true put (c .stack) e)) (λ e. inl (leb-true (t .play .mark + t .play .lift) a e)) (one-of whole full (r .1));
@@ -148,10 +151,11 @@ wager-code t s a m =
     let whole = eqb put (c .stack) in
     let full = leb (t .play .mark + t .play .lift) a in
     zero-or (turnCode t s) _ (act-code t s (m .act))
-    (passed (both (ltb (t .play .mark) a) (both (leb put (c .stack)) (either whole full))) 7
+    (passed (both (mayRaise c) (both (ltb (t .play .mark) a) (both (leb put (c .stack)) (either whole full)))) 7
+    (two (mayRaise c) _ (on (c .dealt .spent) (m .right))
     (two (ltb (t .play .mark) a) _ (lt-ltb (t .play .mark) a (m .above))
     (two (leb put (c .stack)) _ (le-leb put (c .stack) (m .within))
-    (⊎-elim (λ e. right-of whole full (le-leb (t .play .mark + t .play .lift) a e)) (λ e. left-of whole full (eq-eqb put (c .stack) e)) (m .enough)))))
+    (⊎-elim (λ e. right-of whole full (le-leb (t .play .mark + t .play .lift) a e)) (λ e. left-of whole full (eq-eqb put (c .stack) e)) (m .enough))))))
 
 -- ---- sit, leave, hand, hole
 

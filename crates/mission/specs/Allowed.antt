@@ -75,9 +75,11 @@ pub record MayCall (t : Table) (s : ℕ) : Type 0 where
   pub act : MayAct t s
   pub below : roundOf (seatOf t s) < t .play .mark
 
--- wager to a: a is above the mark; a minus the seat's round total is at most its stack; and either a is at least mark plus lift, or the whole stack goes in
+-- wager to a: a is above the mark; a minus the seat's round total is at most its stack; and either a is at least mark plus lift, or the whole stack goes in.
+-- No. 2: a seat that made the last full lift or acted since it (or since the round opened, if none came) may only call or fold
 pub record MayWager (t : Table) (s a : ℕ) : Type 0 where
   pub act : MayAct t s
+  pub right : seatOf t s .dealt .spent ≡ false
   pub above : t .play .mark < a
   pub within : a - roundOf (seatOf t s) ≤ seatOf t s .stack
   pub enough : (t .play .mark + t .play .lift ≤ a) ⊎ (a - roundOf (seatOf t s) ≡ seatOf t s .stack)

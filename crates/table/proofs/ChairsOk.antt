@@ -38,8 +38,8 @@ ok-leave c o f = record { start = o .start; none = o .none; dead = o .dead; here
 pub ok-hold : (c : Chair) (a b : ℕ) → ChairOk c → ChairOk (heldOf c a b)
 ok-hold c a b o = record { start = o .start; none = o .none; dead = o .dead; here = o .here; empty = o .empty }
 
-pub ok-acts : (b : Bool) (c : Chair) → ChairOk c → ChairOk (actsOf b c)
-ok-acts b c o = record { start = o .start; none = o .none; dead = o .dead; here = o .here; empty = o .empty }
+pub ok-acts : (b d : Bool) (c : Chair) → ChairOk c → ChairOk (actsOf b d c)
+ok-acts b d c o = record { start = o .start; none = o .none; dead = o .dead; here = o .here; empty = o .empty }
 
 pub ok-fold : (c : Chair) → ChairOk c → ChairOk (foldedOf c)
 ok-fold c o = record { start = o .start; none = o .none; dead = λ e. refl; here = λ l. absurd (false≢true l); empty = o .empty }

@@ -24,7 +24,7 @@ use Rattle.chairs.specs.declared.Dealt.{Dealt}
 use Rattle.chairs.proofs.Laws.{chips-paid}
 use Rattle.chairs.proofs.Over.{map-at}
 use Rattle.table.specs.State.{seatOf, withCard}
-use Rattle.table.specs.Betting.{afterAct, foldedTo, checkedTo, calledTo, wageredTo, deadTo, newRound}
+use Rattle.table.specs.Betting.{afterAct, isFullLift, foldedTo, checkedTo, calledTo, wageredTo, deadTo, newRound}
 use Rattle.table.specs.Sittings.{satTo, leftTo}
 use Rattle.table.specs.Opening.{nextDealtIn, postedTo, openedTo}
 use Rattle.table.specs.Dealing.{heldTo, boardedTo}
@@ -115,11 +115,12 @@ chips-open t p a = chips-post _ (nextDealtIn t p) (t .sheet .big) ∙ chips-post
 chips-wager : (t : Table) (x a : ℕ) → chipsOf (wageredTo t x a .chairs) ≡ chipsOf (t .chairs)
 unfolding wageredTo afterAct
 chips-wager t x a =
-    let cs = map againOf (t .chairs) in
+    let again = againOf (isFullLift t a) in
+    let cs = map again (t .chairs) in
     let m = a - roundOf (seatOf t x) in
-    let at : chairAt cs x ≡ againOf (seatOf t x) = map-at againOf (t .chairs) x refl in
+    let at : chairAt cs x ≡ again (seatOf t x) = map-at again (t .chairs) x refl in
     let e : chairAt cs x .stack + chairAt cs x .dealt .total ≡ seatOf t x .stack + seatOf t x .dealt .total = ap (λ (c : Chair). c .stack + c .dealt .total) at in
-    chips-same cs x (actedOf (paidOf (seatOf t x) m)) (chips-paid (seatOf t x) m ∙ sym e) ∙ chips-map againOf (λ c. refl) (t .chairs)
+    chips-same cs x (actedOf (paidOf (seatOf t x) m)) (chips-paid (seatOf t x) m ∙ sym e) ∙ chips-map again (λ c. refl) (t .chairs)
 
 chips-board : (t : Table) (k : ℕ) → chipsOf (boardedTo t k .chairs) ≡ chipsOf (t .chairs)
 unfolding boardedTo newRound

@@ -18,7 +18,7 @@ use Rattle.pots.proofs.Contest.{has-none}
 use Rattle.pots.proofs.Hands.{map-length}
 use Rattle.pots.proofs.Bounds.{bitAt, live-at, mask-bit, reach, reach-zero, due-at-most}
 use Rattle.table.specs.State.{withCard}
-use Rattle.table.specs.Betting.{afterAct, foldedTo, checkedTo, calledTo, wageredTo, deadTo, newRound}
+use Rattle.table.specs.Betting.{afterAct, isFullLift, foldedTo, checkedTo, calledTo, wageredTo, deadTo, newRound}
 use Rattle.table.specs.Sittings.{satTo, leftTo}
 use Rattle.table.specs.Opening.{nextDealtIn, openedTo, postedTo}
 use Rattle.table.specs.Dealing.{heldTo, boardedTo}
@@ -48,7 +48,7 @@ size-applied t (Hole x a b) = no-chair-length (t .chairs) x _
 size-applied t (Fold x) = no-chair-length (t .chairs) x _
 size-applied t (Check x) = no-chair-length (t .chairs) x _
 size-applied t (Call x) = no-chair-length (t .chairs) x _
-size-applied t (Wager x a) = no-chair-length _ x _ ∙ map-length againOf (t .chairs)
+size-applied t (Wager x a) = no-chair-length _ x _ ∙ map-length (againOf (isFullLift t a)) (t .chairs)
 size-applied t (Board k) = go (leb 3 (t .board .count + 1))
   where
     go : (b : Bool) → length (pick b (newRound (withCard t k)) (withCard t k) .chairs) ≡ length (t .chairs)

@@ -13,7 +13,7 @@ use Rattle.chairs.specs.Chairs.{roundOf, chipsOf, countOf, wantOf}
 use Rattle.chairs.specs.declared.Who.the-variants.{Chips}
 use Rattle.chairs.specs.declared.Chair.{Chair}
 use Rattle.table.specs.State.{seatOf}
-use Rattle.table.specs.Betting.{liveHands, nobodyOwes, turnCode, checkCode, callCode, wagerCode, deadCode, isWager}
+use Rattle.table.specs.Betting.{liveHands, nobodyOwes, turnCode, checkCode, callCode, wagerCode, deadCode, mayRaise, isWager}
 use Rattle.table.specs.Sittings.{sitCode, leaveCode}
 use Rattle.table.specs.Opening.{isPuck, handCode}
 use Rattle.table.specs.Dealing.{inThisHand, holeCode, boardCode}
@@ -45,9 +45,10 @@ wager-fits t x a h =
     let over = ltb (t .play .mark) a in
     let fits = leb (a - roundOf c) (c .stack) in
     let big = either (eqb (a - roundOf c) (c .stack)) (leb (t .play .mark + t .play .lift) a) in
-    let ok = both over (both fits big) in
+    let ok = both (mayRaise c) (both over (both fits big)) in
     let e = not-false ok (when-zero (not ok) 6 (or-zero (turnCode t x) (when (not ok) 7) h .1)) in
-    leb-true (a - roundOf c) (c .stack) (both-true fits big (both-true over (both fits big) e .1) .0)
+    let m = both-true (mayRaise c) (both over (both fits big)) e .1 in
+    leb-true (a - roundOf c) (c .stack) (both-true fits big (both-true over (both fits big) m .1) .0)
 
 pub dead-live : (t : Table) (x : ℕ) → deadCode t x ≡ 0 → seatOf t x .dealt .live ≡ true
 unfolding deadCode

@@ -14,7 +14,7 @@ use Rattle.laws.specs.Lists.{All}
 use Rattle.chairs.specs.declared.Chair.{Chair}
 use Rattle.chairs.specs.declared.Sweep.the-variants.{Again, Round, Deal}
 use Rattle.table.specs.State.{seatOf, withCard}
-use Rattle.table.specs.Betting.{afterAct, foldedTo, checkedTo, calledTo, wageredTo, deadTo, newRound}
+use Rattle.table.specs.Betting.{afterAct, isFullLift, foldedTo, checkedTo, calledTo, wageredTo, deadTo, newRound}
 use Rattle.table.specs.Sittings.{satTo, leftTo}
 use Rattle.table.specs.Opening.{nextDealtIn, openedTo, postedTo}
 use Rattle.table.specs.Dealing.{heldTo, boardedTo}
@@ -76,7 +76,7 @@ numbered-applied t (Check s) h = let c = number-at (t .sittings) (t .chairs) s h
 numbered-applied t (Call s) h = let c = number-at (t .sittings) (t .chairs) s h in put-same (t .sittings) (t .chairs) s _ h (c .here) (c .dealt)
 numbered-applied t (Wager s a) h =
     let c = number-at (t .sittings) (t .chairs) s h in
-    put-same (t .sittings) _ s _ (sweep-all (t .sittings) (sweepOf Again) (t .chairs) h (λ d n. record { here = n .here; dealt = n .dealt })) (c .here) (c .dealt)
+    put-same (t .sittings) _ s _ (sweep-all (t .sittings) (sweepOf (Again (isFullLift t a))) (t .chairs) h (λ d n. record { here = n .here; dealt = n .dealt })) (c .here) (c .dealt)
 numbered-applied t (Board k) h =
     all-pick (leb 3 (t .board .count + 1)) _ _ (sweep-all (t .sittings) (sweepOf Round) (t .chairs) h (λ d n. record { here = n .here; dealt = n .dealt })) h
 numbered-applied t (Dead s) h = let c = number-at (t .sittings) (t .chairs) s h in put-same (t .sittings) (t .chairs) s _ h (c .here) (c .dealt)

@@ -20,7 +20,7 @@ use Rattle.chairs.proofs.Laws.{chips-put, chips-paid, chips-sweep}
 use Rattle.chairs.specs.declared.Chair.{Chair}
 use Rattle.chairs.specs.declared.Sweep.the-variants.{Again, Round, Deal}
 use Rattle.table.specs.State.{withTaken, seatOf, withChair, withChairs, withMark, withCard}
-use Rattle.table.specs.Betting.{afterAct, liftAfter, foldedTo, checkedTo, calledTo, wageredTo, deadTo, newRound}
+use Rattle.table.specs.Betting.{afterAct, isFullLift, liftAfter, foldedTo, checkedTo, calledTo, wageredTo, deadTo, newRound}
 use Rattle.table.specs.Sittings.{sitCode, satTo, leftTo}
 use Rattle.table.specs.Opening.{nextDealtIn, openedTo, postedTo}
 use Rattle.table.specs.Dealing.{heldTo, boardedTo}
@@ -44,19 +44,20 @@ kept-act : (t : Table) (s : ℕ) (d : Chair) → d .stack + d .dealt .total ≤ 
 unfolding afterAct
 kept-act t s d h = record { chips = omega (arith, chips-put (t .chairs) s d); sittings = refl; sheet = refl; puck = refl }
 
-again-chips : (cs : List Chair) (s : ℕ) → chairAt (map (sweepOf Again) cs) s .stack + chairAt (map (sweepOf Again) cs) s .dealt .total ≡ chairAt cs s .stack + chairAt cs s .dealt .total
-again-chips cs zero = refl
-again-chips [] (suc k) = refl
-again-chips (c ∷ cs) (suc zero) = refl
-again-chips (c ∷ cs) (suc (suc k)) = again-chips cs (suc k)
+again-chips : (f : Bool) (cs : List Chair) (s : ℕ) → chairAt (map (sweepOf (Again f)) cs) s .stack + chairAt (map (sweepOf (Again f)) cs) s .dealt .total ≡ chairAt cs s .stack + chairAt cs s .dealt .total
+again-chips f cs zero = refl
+again-chips f [] (suc k) = refl
+again-chips f (c ∷ cs) (suc zero) = refl
+again-chips f (c ∷ cs) (suc (suc k)) = again-chips f cs (suc k)
 
 kept-wager : (t : Table) (s a : ℕ) → Kept t (wageredTo t s a)
 unfolding wageredTo
 kept-wager t s a =
     let d = actedOf (paidOf (seatOf t s) (a - roundOf (seatOf t s))) in
-    let u = withMark (withChairs t (map (sweepOf Again) (t .chairs))) a (liftAfter t a) in
-    let k = kept-act u s d (omega (arith, chips-paid (seatOf t s) (a - roundOf (seatOf t s)), again-chips (t .chairs) s)) in
-    record { chips = omega (arith, k .chips, chips-sweep Again (t .chairs)); sittings = k .sittings; sheet = k .sheet; puck = k .puck }
+    let f = isFullLift t a in
+    let u = withMark (withChairs t (map (sweepOf (Again f)) (t .chairs))) a (liftAfter t a) in
+    let k = kept-act u s d (omega (arith, chips-paid (seatOf t s) (a - roundOf (seatOf t s)), again-chips f (t .chairs) s)) in
+    record { chips = omega (arith, k .chips, chips-sweep (Again f) (t .chairs)); sittings = k .sittings; sheet = k .sheet; puck = k .puck }
 
 kept-fold : (t : Table) (s : ℕ) → Kept t (foldedTo t s)
 unfolding foldedTo

@@ -26,7 +26,7 @@ use Rattle.chairs.proofs.Clockwise.{put-other}
 use Rattle.pots.proofs.Contest.{le-or-lt}
 use Rattle.pots.proofs.Hands.{map-length}
 use Rattle.table.specs.State.{seatOf, withChair, withChairs, withMark, withCard, withTaken}
-use Rattle.table.specs.Betting.{liveHands, onlyWithChips, owes, firstOwing, afterAct, foldedTo, checkedTo, calledTo, wageredTo, deadTo, newRound, liftAfter}
+use Rattle.table.specs.Betting.{liveHands, onlyWithChips, owes, firstOwing, afterAct, foldedTo, checkedTo, calledTo, wageredTo, deadTo, newRound, isFullLift, liftAfter}
 use Rattle.table.specs.Sittings.{satTo, leftTo}
 use Rattle.table.specs.Opening.{nextDealtIn, postedTo, blindsPosted, withHand, openedTo}
 use Rattle.table.specs.Dealing.{heldTo, boardedTo}
@@ -54,7 +54,7 @@ chairs-board t k h = go (leb 3 (t .board .count + 1))
 chairs-pays : (t : Table) (x m : ℕ) → All ChairOk (t .chairs) → seatOf t x .dealt .live ≡ true → ChairOk (actedOf (paidOf (seatOf t x) m))
 chairs-pays t x m h l =
     let o = ok-at (t .chairs) x h in
-    ok-acts true (paidOf (seatOf t x) m) (ok-pays (seatOf t x) m o (λ z. absurd (live-some (seatOf t x) o l z)))
+    ok-acts true true (paidOf (seatOf t x) m) (ok-pays (seatOf t x) m o (λ z. absurd (live-some (seatOf t x) o l z)))
 
 chairs-applied : (t : Table) (e : Entry) → Sound t → Standing t → kindCode t e ≡ 0 → All ChairOk (appliedTo t e .chairs)
 unfolding satTo leftTo openedTo postedTo heldTo foldedTo checkedTo calledTo wageredTo deadTo settledTo afterAct
@@ -67,9 +67,9 @@ chairs-applied t (Hand p) w h q =
     fresh-ok (putAt es (nextDealtIn t p) (paidOf (chairAt es (nextDealtIn t p)) (t .sheet .big))) (fresh-post es (nextDealtIn t p) (t .sheet .big) (fresh-post ds p (t .sheet .small) f))
 chairs-applied t (Hole x a b) w h q = all-put ChairOk (t .chairs) x _ (h .chairs) (ok-hold (seatOf t x) a b (ok-at (t .chairs) x (h .chairs)))
 chairs-applied t (Fold x) w h q = all-put ChairOk (t .chairs) x _ (h .chairs) (ok-fold (seatOf t x) (ok-at (t .chairs) x (h .chairs)))
-chairs-applied t (Check x) w h q = all-put ChairOk (t .chairs) x _ (h .chairs) (ok-acts true (seatOf t x) (ok-at (t .chairs) x (h .chairs)))
+chairs-applied t (Check x) w h q = all-put ChairOk (t .chairs) x _ (h .chairs) (ok-acts true true (seatOf t x) (ok-at (t .chairs) x (h .chairs)))
 chairs-applied t (Call x) w h q = all-put ChairOk (t .chairs) x _ (h .chairs) (chairs-pays t x _ (h .chairs) (call-live t x q))
-chairs-applied t (Wager x a) w h q = all-put ChairOk _ x _ (all-map ChairOk ChairOk againOf (t .chairs) (h .chairs) (ok-acts false)) (chairs-pays t x _ (h .chairs) (wager-live t x a q))
+chairs-applied t (Wager x a) w h q = all-put ChairOk _ x _ (all-map ChairOk ChairOk (againOf (isFullLift t a)) (t .chairs) (h .chairs) (λ c. ok-acts false _ c)) (chairs-pays t x _ (h .chairs) (wager-live t x a q))
 chairs-applied t (Board k) w h q = chairs-board t k (h .chairs)
 chairs-applied t (Dead x) w h q = all-put ChairOk (t .chairs) x _ (h .chairs) (ok-fold (seatOf t x) (ok-at (t .chairs) x (h .chairs)))
 chairs-applied t Settle w h q =
@@ -135,7 +135,7 @@ above-applied t (Fold x) w h r = above-put (t .sheet .seats) (t .chairs) x _ (se
 above-applied t (Check x) w h r = above-put (t .sheet .seats) (t .chairs) x _ (seat-within (t .sheet) x r) (h .above)
 above-applied t (Call x) w h r = above-put (t .sheet .seats) (t .chairs) x _ (seat-within (t .sheet) x r) (h .above)
 above-applied t (Wager x a) w h r =
-    above-put (t .sheet .seats) _ x _ (seat-within (t .sheet) x (both-true (isSeat (t .sheet) x) (between 1 100000000 a) r .0)) (above-map againOf refl (t .sheet .seats) (t .chairs) (h .above))
+    above-put (t .sheet .seats) _ x _ (seat-within (t .sheet) x (both-true (isSeat (t .sheet) x) (between 1 100000000 a) r .0)) (above-map (againOf (isFullLift t a)) refl (t .sheet .seats) (t .chairs) (h .above))
 above-applied t (Board k) w h r = above-board t k (h .above)
 above-applied t (Dead x) w h r = above-put (t .sheet .seats) (t .chairs) x _ (seat-within (t .sheet) x r) (h .above)
 above-applied t Settle w h r = above-close t w h
@@ -213,7 +213,7 @@ turn-applied t (Fold x) w h r q = from-first (withChair t x (foldedOf (seatOf t 
 turn-applied t (Check x) w h r q = from-first (withChair t x (actedOf (seatOf t x))) x (above-applied t (Check x) w h r)
 turn-applied t (Call x) w h r q = from-first (withChair t x (actedOf (paidOf (seatOf t x) (t .play .mark - roundOf (seatOf t x))))) x (above-applied t (Call x) w h r)
 turn-applied t (Wager x a) w h r q =
-    let u = withMark (withChairs t (map againOf (t .chairs))) a (liftAfter t a) in
+    let u = withMark (withChairs t (map (againOf (isFullLift t a)) (t .chairs))) a (liftAfter t a) in
     from-first (withChair u x (actedOf (paidOf (seatOf t x) (a - roundOf (seatOf t x))))) x (above-applied t (Wager x a) w h r)
 turn-applied t (Board k) w h r q = turn-board t k h
 turn-applied t (Dead x) w h r q = dead-turn t x (above-put (t .sheet .seats) (t .chairs) x _ (seat-within (t .sheet) x r) (h .above)) (h .turn)

@@ -60,24 +60,35 @@ callCode t s = orElse (turnCode t s) (when (not (ltb (roundOf (seatOf t s)) (t .
 unfoldable pub calledTo : Table → ℕ → Table
 calledTo t s = afterAct t s (actedOf (paidOf (seatOf t s) (t .play .mark - roundOf (seatOf t s))))
 
--- "wager to a: a is above the mark; a minus the seat's round total is at most its stack; and either a is at least mark plus lift, or the whole stack goes in."
+-- No. 2, "Short raises don't reopen": after a wager that lifts the mark by less than the lift "a seat that made the last full lift or acted since it (or since
+-- the round opened, if none came) may then only call or fold. Its wager gets code 7, whole stack or not. A seat that hasn't acted keeps its right to raise."
+abbrev pub mayRaise : Chair → Bool
+mayRaise c = not (c .dealt .spent)
+
+-- "wager to a: a is above the mark; a minus the seat's round total is at most its stack; and either a is at least mark plus lift, or the whole stack goes in";
+-- and the seat has its right to raise
 unfoldable pub isWager : Table → Chair → ℕ → Bool
 isWager t c a =
-    both (ltb (t .play .mark) a)
+    both (mayRaise c)
+    (both (ltb (t .play .mark) a)
     (both (leb (a - roundOf c) (c .stack))
-    (either (eqb (a - roundOf c) (c .stack)) (leb (t .play .mark + t .play .lift) a)))
+    (either (eqb (a - roundOf c) (c .stack)) (leb (t .play .mark + t .play .lift) a))))
 
 unfoldable pub wagerCode : Table → ℕ → ℕ → ℕ
 wagerCode t s a = orElse (turnCode t s) (when (not (isWager t (seatOf t s) a)) 7)
 
+-- a full lift: the mark rises by at least the lift. "Several short lifts don't add up to a full one": the rise is this wager's own
+abbrev pub isFullLift : Table → ℕ → Bool
+isFullLift t a = leb (t .play .lift) (a - t .play .mark)
+
 -- "If it rose by at least the lift, that rise is the new lift."
 abbrev pub liftAfter : Table → ℕ → ℕ
-liftAfter t a = pick (leb (t .play .lift) (a - t .play .mark)) (a - t .play .mark) (t .play .lift)
+liftAfter t a = pick (isFullLift t a) (a - t .play .mark) (t .play .lift)
 
--- "The mark becomes a. .. Every other live seat with chips owes again and may do any of these."
+-- "The mark becomes a. .. Every other live seat with chips owes again"; after a full lift each has its right to raise, after a short one (No. 2) those who had it
 unfoldable pub wageredTo : Table → ℕ → ℕ → Table
 wageredTo t s a =
-    afterAct (withMark (withChairs t (map (sweepOf Again) (t .chairs))) a (liftAfter t a)) s
+    afterAct (withMark (withChairs t (map (sweepOf (Again (isFullLift t a))) (t .chairs))) a (liftAfter t a)) s
     (actedOf (paidOf (seatOf t s) (a - roundOf (seatOf t s))))
 
 -- dead: "a hand is open, two live or more"; the seat is "live"

@@ -12,7 +12,7 @@ ghost use mathlib.Core.Path.{_≡_};
 ghost use Prim.Native.Nat.{_+_, _≤_};
 ghost use lib.Dec.{leb};
 ghost use Rattle.chairs.specs.Chairs.{chipsOf};
-ghost use Rattle.table.specs.Betting.{liveHands, firstOwing, nobodyOwes, turnCode, afterAct, foldedTo, checkCode, checkedTo, callCode, calledTo, isWager, wagerCode, liftAfter, wageredTo, deadCode, turnAfter, deadTo, newRound};
+ghost use Rattle.table.specs.Betting.{liveHands, firstOwing, nobodyOwes, turnCode, afterAct, foldedTo, checkCode, checkedTo, callCode, calledTo, mayRaise, isWager, wagerCode, isFullLift, liftAfter, wageredTo, deadCode, turnAfter, deadTo, newRound};
 ghost use Rattle.table.specs.Standing.{Standing};
 
 // The codes that stop an act out of its moment, at a seat that is not live, or out of turn.
@@ -79,6 +79,13 @@ fn full_lift(mark: u32, lift: u32, a: u32) -> bool
     mark as u64 + lift as u64 <= a as u64
 }
 
+// Whether a seat has its right to raise: short lifts don't give it back.
+fn may_raise(c: Chair) -> bool
+    ensures { λ r. ⌜ r ≡ mayRaise c ⌝ }
+{
+    !c.dealt.spent
+}
+
 // Whether a wager to a is allowed.
 fn may_wager(t: Table, c: Chair, a: u32) -> bool
     ensures { λ r. ⌜ r ≡ isWager t c a ⌝ }
@@ -86,7 +93,8 @@ fn may_wager(t: Table, c: Chair, a: u32) -> bool
     let put = laws::short_of(a, chairs::round_of(c));
     let whole = put == c.stack;
     let full = full_lift(t.play.mark, t.play.lift, a);
-    both(t.play.mark < a, both(put <= c.stack, either(whole, full)))
+    let enough = both(t.play.mark < a, both(put <= c.stack, either(whole, full)));
+    both(may_raise(c), enough)
 }
 
 pub(crate) fn wager_code(t: Table, s: u32, a: u32) -> u8
@@ -98,15 +106,22 @@ pub(crate) fn wager_code(t: Table, s: u32, a: u32) -> u8
     or_else(turn_code(t, s), when(!ok, 7))
 }
 
+// Whether a wager to a, above the mark, is a full lift.
+fn is_full_lift(t: Table, a: u32) -> bool
+    ensures { λ r. ⌜ r ≡ isFullLift t a ⌝ }
+{
+    t.play.lift <= laws::short_of(a, t.play.mark)
+}
+
 // The lift after a wager to a.
 fn lift_after(t: Table, a: u32) -> u32
     ensures { λ r. ⌜ r ≡ liftAfter t a ⌝ }
 {
     let rise = laws::short_of(a, t.play.mark);
-    laws::chosen(t.play.lift <= rise, rise, t.play.lift)
+    laws::chosen(is_full_lift(t, a), rise, t.play.lift)
 }
 
-// The mark becomes a, and every other live seat with chips owes again.
+// The mark becomes a, and every other live seat with chips owes again; a short lift leaves a spent right to raise spent.
 pub(crate) fn wagered(t: Table, s: u32, a: u32) -> Table
     requires { ⌜ chipsOf (t .chairs) ≤ 100000000 ⌝ }
     ensures { λ r. ⌜ r ≡ wageredTo t s a ⌝ }
@@ -115,7 +130,8 @@ pub(crate) fn wagered(t: Table, s: u32, a: u32) -> Table
     let put = laws::short_of(a, chairs::round_of(c));
     let d = chairs::acting(chairs::paid(c, put));
     let cs = t.chairs;
-    let ds = chairs::seats::sweep_all(cs, Sweep::Again);
+    let full = is_full_lift(t, a);
+    let ds = chairs::seats::sweep_all(cs, Sweep::Again { full });
     let u = table::with_mark(table::with_chairs(t, ds), a, lift_after(t, a));
     after_act(u, s, d)
 }

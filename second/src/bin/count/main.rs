@@ -4,7 +4,6 @@
 
 mod lifts;
 
-use lifts::Lifts;
 use second::answer::{answer_block, Answer};
 use second::entries::{read_block, Entry};
 use second::pots::by_levels;
@@ -17,7 +16,7 @@ use std::collections::BTreeMap;
 pub struct Counts(BTreeMap<String, u64>);
 
 /// What a run of all profiles must contain, besides the codes 0 to 11.
-const DEMANDED: [&str; 10] = [
+const DEMANDED: [&str; 19] = [
     "pots 9",
     "unclaimed chips",
     "seat changed hands inside a hand",
@@ -28,6 +27,15 @@ const DEMANDED: [&str; 10] = [
     "short lift over one who has not acted",
     "short lift over one who raised",
     "short lift over the big blind's option",
+    "after a short lift: raise by one who has not acted",
+    "after a short lift: raise by the big blind, its option kept",
+    "after a short lift: raise by one who acted before the last full lift only",
+    "after a short lift: refused to one who checked",
+    "after a short lift: refused to one who called",
+    "after a short lift: refused to the last raiser",
+    "after a short lift: refused a whole stack",
+    "after a short lift: refused where short lifts add up to a full one",
+    "after a short lift: call by one who may not raise",
 ];
 
 impl Counts {
@@ -72,7 +80,6 @@ fn count_log(log: &[u8], counts: &mut Counts) {
     let (first, mut rest) = split_after_line(log, SHEET_KEYS.len());
     let Some(sheet) = sheet(first) else { return counts.add("code 11") };
     let mut table = Table::new(sheet, by_levels);
-    let mut lifts = Lifts::new(sheet.seats);
     while !rest.is_empty() {
         let block;
         (block, rest) = split_after_line(rest, ENTRY_KEYS.len());
@@ -80,9 +87,11 @@ fn count_log(log: &[u8], counts: &mut Counts) {
         let answer = answer_block(&mut table, block);
         count_answer(&answer, counts);
         let entry = read_block(block).and_then(|written| written.entry(sheet.seats));
-        if let Some(entry) = entry.filter(|_| answer.code == 0) {
-            count_taken(&before, &entry, &answer, counts);
-            lifts.note(&before, &table, &entry, counts);
+        if let Some(entry) = entry {
+            lifts::count(&before, &entry, answer.code, counts);
+            if answer.code == 0 {
+                count_taken(&before, &entry, &answer, counts);
+            }
         }
     }
 }

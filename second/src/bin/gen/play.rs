@@ -61,8 +61,10 @@ impl Player {
         let restless = self.seats(table, |seat| is_restless(table, seat) || full && table.stack(seat) > 0);
         let rich = self.seats(table, |seat| table.stack(seat) > 0);
         let broke = self.seats(table, |seat| table.chairs[seat].is_some() && table.stack(seat) == 0);
-        if self.random.chance(if full { 20 } else { 2 }) && !restless.is_empty() {
-            return Entry::Leave { seat: self.random.pick(&restless) };
+        if self.random.chance(if full { 20 } else { self.profile.leave }) && !restless.is_empty() {
+            let greatest = restless.iter().copied().max_by_key(|seat| table.stack(*seat)).unwrap_or(1);
+            let any = self.random.pick(&restless);
+            return Entry::Leave { seat: self.random.pick(&[any, greatest]) };
         }
         if !broke.is_empty() && (rich.len() < 2 || self.random.chance(70)) {
             return Entry::Leave { seat: self.random.pick(&broke) };
@@ -162,8 +164,10 @@ impl Player {
         if self.random.chance(self.profile.fold) {
             return Entry::Fold { seat };
         }
-        let raise = if short { 60 } else { self.profile.raise.max(self.profile.all_in) };
+        let raise = if short { self.profile.short } else { self.profile.raise.max(self.profile.all_in) };
         let raise = if self.mood.quiet && !short { 0 } else { raise };
+        // Who may only call or fold tries it all the same, now and then: 7.
+        let raise = if hand.may_only_call_or_fold(seat) { 25 } else { raise };
         if whole > hand.mark && self.random.chance(raise) {
             return Entry::Wager { seat, to: self.wager_to(table, hand, whole) };
         }

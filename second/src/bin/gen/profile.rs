@@ -11,6 +11,9 @@ pub enum Stacks {
     Tiny,
     /// Some big blinds, odd sizes.
     Blinds,
+    /// A few big blinds, so that whole stacks lie less than a lift apart; and
+    /// now and then a deep one.
+    Steps,
     /// Anything up to 1,000,000, small as likely as large.
     Any,
     /// 1,000,000, or what is left up to the table's limit, or one more.
@@ -25,7 +28,11 @@ pub struct Profile {
     pub fold: u64,
     pub raise: u64,
     pub all_in: u64,
+    /// A whole stack that lifts the mark by less than the lift goes in.
+    pub short: u64,
     pub dead: u64,
+    /// A player leaves between hands, above all one with a great stack.
+    pub leave: u64,
     /// A folded player leaves, and an empty seat is taken, inside a hand.
     pub churn: u64,
     pub tie: u64,
@@ -43,7 +50,9 @@ const CASH: Profile = Profile {
     fold: 15,
     raise: 25,
     all_in: 5,
+    short: 60,
     dead: 2,
+    leave: 2,
     churn: 20,
     tie: 20,
     fault: 3,
@@ -55,7 +64,18 @@ const CASH: Profile = Profile {
 pub static PROFILES: [Profile; 9] = [
     CASH,
     Profile { name: "tiny", stacks: Stacks::Tiny, all_in: 20, fold: 5, churn: 30, ..CASH },
-    Profile { name: "shorts", least_seats: 3, fold: 4, raise: 50, dead: 1, fault: 1, ..CASH },
+    Profile {
+        name: "shorts",
+        least_seats: 5,
+        stacks: Stacks::Steps,
+        fold: 4,
+        raise: 40,
+        short: 85,
+        dead: 1,
+        leave: 40,
+        fault: 1,
+        ..CASH
+    },
     Profile { name: "ladder", least_seats: 8, stacks: Stacks::Any, all_in: 70, fold: 3, ..CASH },
     Profile {
         name: "limit",
@@ -104,6 +124,10 @@ impl Profile {
 
     fn blinds(&self, random: &mut Random) -> (u64, u64) {
         let most = if self.stacks == Stacks::Tiny { 4 } else { 10_000 };
+        if self.stacks == Stacks::Steps {
+            let big = random.between(10, 200);
+            return (random.between(1, big), big);
+        }
         let some = random.of_any_size(most);
         let low = random.between(1, some);
         random.pick(&[
@@ -124,6 +148,8 @@ impl Profile {
         let chips = match stacks {
             Stacks::Tiny => random.between(1, 3),
             Stacks::Blinds => random.between(1, 30 * big),
+            Stacks::Steps if random.chance(20) => random.between(1, 40 * big),
+            Stacks::Steps => random.between(big, 5 * big),
             Stacks::Any => random.of_any_size(1_000_000),
             Stacks::Million => random.pick(&[1_000_000, 1_000_000, left.min(1_000_000), left + 1]),
         };

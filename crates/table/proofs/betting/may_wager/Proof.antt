@@ -21,6 +21,12 @@ both-requires c κs = search needs
 both-requires-2 : tie.Need-both-requires-2
 both-requires-2 c κs = search needs
 
+may-raise-requires : tie.Need-may-raise-requires
+may-raise-requires c κs = search needs
+
+both-requires-3 : tie.Need-both-requires-3
+both-requires-3 c κs = search needs
+
 returns : tie.Need-returns
 unfolding isWager
 returns c = cc
@@ -35,4 +41,6 @@ may-wager-spec =
     either-requires
     both-requires
     both-requires-2
+    may-raise-requires
+    both-requires-3
     returns)

@@ -27,6 +27,9 @@ paid-requires c κs =
 acting-requires : tie.Need-acting-requires
 acting-requires c κs = search needs
 
+is-full-lift-requires : tie.Need-is-full-lift-requires
+is-full-lift-requires c κs = search needs
+
 sweep-all-requires : tie.Need-sweep-all-requires
 sweep-all-requires c κs = search needs
 
@@ -44,7 +47,7 @@ after-act-requires c κs = search needs
 
 returns : tie.Need-returns
 unfolding wageredTo
-returns c = rw (c .before .with-mark .ensures, c .before .before .lift-after .ensures, c .before .before .before .with-chairs .ensures, c .before .before .before .before .sweep-all .ensures, c .before .before .before .before .before .before .acting .ensures, c .before .before .before .before .before .before .before .paid .ensures, c .before .before .before .before .before .before .before .before .short-of .ensures, c .before .before .before .before .before .before .before .before .before .round-of .ensures, c .before .before .before .before .before .before .before .before .before .before .seat-of .ensures) at (c .after-act .ensures)
+returns c = rw (c .before .with-mark .ensures, c .before .before .lift-after .ensures, c .before .before .before .with-chairs .ensures, c .before .before .before .before .sweep-all .ensures, c .before .before .before .before .before .is-full-lift .ensures, c .before .before .before .before .before .before .before .acting .ensures, c .before .before .before .before .before .before .before .before .paid .ensures, c .before .before .before .before .before .before .before .before .before .short-of .ensures, c .before .before .before .before .before .before .before .before .before .before .round-of .ensures, c .before .before .before .before .before .before .before .before .before .before .before .seat-of .ensures) at (c .after-act .ensures)
 
 pub wagered-spec : {M : Type 1} → statement M
 wagered-spec =
@@ -55,6 +58,7 @@ wagered-spec =
     short-of-requires
     paid-requires
     acting-requires
+    is-full-lift-requires
     sweep-all-requires
     with-chairs-requires
     lift-after-requires
