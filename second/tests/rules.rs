@@ -6,7 +6,7 @@ use play::{block, sheet_text, Play};
 use second::clerk::{answers_to, Clerk};
 use second::pots::literally;
 
-const SHEET: [u64; 5] = [4, 5, 10, 0, 0];
+const SHEET: [u64; 6] = [4, 5, 10, 0, 0, 1];
 
 fn opened() -> Play {
     let mut play = Play::new(SHEET);
@@ -37,6 +37,9 @@ fn bad_sheets() {
         ("rate=0", "Rate=0"),
         ("rate=0\n", ""),
         ("rate=0", "rate=+0"),
+        ("step=1", "step=0"),
+        ("step=1", "step=1001"),
+        ("step=1\n", ""),
     ];
     bad.extend(changes.map(|(from, to)| good.replace(from, to)));
     for sheet in bad {

@@ -17,7 +17,7 @@ use Rattle.table.specs.Take.{codeOf, nextOf}
 use Rattle.history.specs.History.{run}
 
 abbrev pub sheet11 : Sheet
-sheet11 = record { seats = 3; small = 5; big = 10; rate = 50; cap = 15 }
+sheet11 = record { seats = 3; small = 5; big = 10; rate = 50; cap = 15; step = 1 }
 
 -- a row: the mark, the lift, the seat's round total and stack, and the code of its wager to a
 unfoldable pub row : List Entry → ℕ → ℕ → List ℕ
