@@ -6,6 +6,7 @@ pub mod betting;
 pub mod clerk;
 pub mod entries;
 pub mod hands;
+pub mod mend;
 pub mod pots;
 pub mod random;
 pub mod refusals;

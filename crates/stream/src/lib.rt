@@ -54,14 +54,14 @@ pub struct Got {
 }
 
 // How many lines are read together: before the sheet was read the sheet's, then a block's five.
-fn lines_of(opened: bool) -> usize
+pub fn lines_of(opened: bool) -> usize
     ensures { λ r. ⌜ (r ≡ linesOf opened) × (r ≤ sheetLines) ⌝ }
 {
     if opened { 5 } else { LINES }
 }
 
 // The bytes of a part up to the LF of the last of so many lines, or all of them.
-fn gather(buf: &mut [u8], m: Mark, part: &[u8], want: usize) -> Got
+pub fn gather(buf: &mut [u8], m: Mark, part: &[u8], want: usize) -> Got
     requires { ⌜ Room m × (m .lines < want) × (want ≤ sheetLines) × (204 ≤ length (now buf)) ⌝ }
     ensures kept { λ r. ⌜ (stateOf (r .mark) (now (buf .exit)) ≡ gatherOf want (stateOf m (now (buf .entry))) (now (part .entry)) .kept) × (drop (r .used) (now (part .entry)) ≡ gatherOf want (stateOf m (now (buf .entry))) (now (part .entry)) .left) ⌝ }
     ensures room { λ r. ⌜ Room (r .mark) × (r .used ≤ length (now (part .entry))) × (0 < length (now (part .entry)) → 0 < r .used) ⌝ }
@@ -94,7 +94,8 @@ pub struct Fed {
     pub written: usize,
 }
 
-fn empty() -> Mark
+// Nothing is kept.
+pub fn empty() -> Mark
     ensures { λ r. ⌜ Room r × (r .lines ≡ 0) × (r .count ≡ 0) × (r .width ≡ 0) ⌝ }
 {
     Mark {

@@ -14,7 +14,7 @@ use lib.Dec.{eqb, leb, ltb}
 use borrow.Author.Tests.{eqb-true, ltb-true, leb-true, leb-false}
 use Rattle.laws.specs.Tests.{pick, both}
 use Rattle.laws.proofs.Tests.{both-true, test}
-use Rattle.text.specs.Number.{numberOf, digits}
+use Rattle.text.specs.Number.{numberOf}
 use Rattle.text.specs.Line.{lineLen, lineOf, afterLine, lineEnded, startsWith, hasKey, valueOf, lineNumber, numberLine}
 use Rattle.text.specs.declared.Number.the-variants.{Value, Bad}
 use Rattle.text.proofs.Numbers.{number-back, number-none}
@@ -54,22 +54,30 @@ split-line : (log : List ℕ) → lineLen log < length log → lineOf log ++ (10
 split-line log h =
     rw (← ended-lf log h, ← drop-cons log (lineLen log) 0 h) (take-append-drop (lineLen log) log)
 
-nothing : (key log : List ℕ) (n : ℕ) → drop (lineLen log) (lineOf log) ≡ digits n → numberOf (digits n) ≡ Value n → ⊥
-nothing key log n e v =
-    let w : drop (lineLen log) (lineOf log) ≡ [] = drop-of-length-le (lineOf log) {i = lineLen log} (le-of-eq (length-take-le (lineLen log) log (line-within log))) in
+-- bytes that are the value of a log's first line stand behind its key and `=` and before its LF
+pub value-back : (key log : List ℕ) → 0 < length (valueOf key log) → log ≡ key ++ (61 ∷ valueOf key log) ++ (10 ∷ afterLine log)
+unfolding valueOf
+value-back key log h = go (both (lineEnded log) (hasKey key (lineOf log))) refl h
+  where
+    go : (t : Bool) → both (lineEnded log) (hasKey key (lineOf log)) ≡ t → 0 < length (drop (pick t (length key + 1) (lineLen log)) (lineOf log))
+        → log ≡ key ++ (61 ∷ drop (pick t (length key + 1) (lineLen log)) (lineOf log)) ++ (10 ∷ afterLine log)
+    go false w p =
+        let none = ap length (drop-of-length-le (lineOf log) {i = lineLen log} (le-of-eq (length-take-le (lineLen log) log (line-within log)))) in
+        absurd (omega arith)
+    go true w p =
+        let q = both-true (lineEnded log) (hasKey key (lineOf log)) w in
+        let e : lineLen log < length log = ltb-true _ _ (both-true (ltb (lineLen log) (length log)) (leb (lineLen log) 32) (q .0) .0) in
+        sym (split-line log e) ∙ ap (λ (r : List ℕ). r ++ (10 ∷ afterLine log)) (sym (key-is key (lineOf log) (q .1)))
+
+-- a number has a digit
+some-digit : (bs : List ℕ) (n : ℕ) → numberOf bs ≡ Value n → 0 < length bs
+some-digit [] n e =
     let b : numberOf [] ≡ Bad = number-none [] refl in
-    let m : numberOf [] ≡ Value n = ap numberOf (sym w ∙ e) ∙ v in
-    let z : _≡_ {A = ℕ} 0 1 = cc in omega arith
+    let z : _≡_ {A = ℕ} 0 1 = cc in absurd (omega arith)
+some-digit (b ∷ bs) n e = omega arith
 
 pub line-back : (key log : List ℕ) (n : ℕ) → lineNumber key log ≡ Value n → log ≡ numberLine key n ++ afterLine log
-unfolding valueOf
-line-back key log n e = go (both (lineEnded log) (hasKey key (lineOf log))) refl (number-back (valueOf key log) n e .0) e
-  where
-    go : (t : Bool) → both (lineEnded log) (hasKey key (lineOf log)) ≡ t → drop (pick t (length key + 1) (lineLen log)) (lineOf log) ≡ digits n
-        → numberOf (drop (pick t (length key + 1) (lineLen log)) (lineOf log)) ≡ Value n → log ≡ numberLine key n ++ afterLine log
-    go false w v x = absurd (nothing key log n v (ap numberOf (sym v) ∙ x))
-    go true w v x =
-        let p = both-true (lineEnded log) (hasKey key (lineOf log)) w in
-        let h : lineLen log < length log = ltb-true _ _ (both-true (ltb (lineLen log) (length log)) (leb (lineLen log) 32) (p .0) .0) in
-        let k : key ++ (61 ∷ digits n) ≡ lineOf log = ap (λ (r : List ℕ). key ++ (61 ∷ r)) (sym v) ∙ key-is key (lineOf log) (p .1) in
-        sym (split-line log h) ∙ ap (λ (r : List ℕ). r ++ (10 ∷ afterLine log)) (sym k) ∙ sym (line-shape key (afterLine log) n)
+line-back key log n e =
+    value-back key log (some-digit (valueOf key log) n e)
+    ∙ ap (λ (r : List ℕ). key ++ (61 ∷ r) ++ (10 ∷ afterLine log)) (number-back (valueOf key log) n e .0)
+    ∙ sym (line-shape key (afterLine log) n)

@@ -1,20 +1,25 @@
 -- The code's table of sheet lines is the paper's: at each line, by a test that antt computes. Assumes nothing.
-use mathlib.Core.Path.{_≡_, refl, _∙_}
+use mathlib.Core.Path.{_≡_, refl, sym, ap, _∙_}
 use mathlib.Core.List.{List, [], _∷_}
 use mathlib.Core.Bool.{Bool, true}
-use Prim.Native.Nat.{ℕ, _-_, _≤_, _<_}
+use Prim.Native.Nat.{ℕ, _+_, _-_, _≤_, _<_}
+use native.Mathlib.Omega.{arith}
 use lib.ListN.{length, getD, take}
+use lib.Seq.{length-take-le}
 use lib.Dec.{leb, eqb}
 use borrow.Author.Tests.{leb-true, eqb-true}
 use Rattle.laws.specs.Tests.{both}
 use Rattle.laws.proofs.Tests.{both-true}
 use Rattle.laws.proofs.Rules.{allBelow, below-all}
-use Rattle.text.specs.Line.{lineNumber}
+use Rattle.text.specs.Line.{lineNumber, numberLine}
+use Rattle.text.specs.Number.{digits}
 use Rattle.text.specs.Block.{eqList, afterLines}
 use Rattle.text.specs.declared.Number.{Number}
 use Rattle.text.specs.TableSheet.{sheetLines, sheetKeys, sheetFrom, sheetTo, ranged, sheetNumber}
 use Rattle.text.specs.declared.sheet.SheetLine.{SheetLine}
 use Rattle.text.proofs.Blocks.{eq-list}
+use Rattle.text.proofs.Lines.{line-count}
+use Rattle.text.proofs.Numbers.{count-most}
 
 abbrev line : List ℕ → ℕ → ℕ → ℕ → SheetLine
 line key letters least most = record { key = key; letters = letters; least = least; most = most }
@@ -57,3 +62,26 @@ unfolding sheetNumber
 number-said k log h e f g =
     let p = row k h in
     g ∙ rw (f, e, p .1, p .2, p .3)
+
+-- ---- writing by the table: how many letters a key has, and how long its line is
+
+abbrev few : ℕ → Bool
+few k = leb (at k .letters) 5
+
+all-few : allBelow sheetLines few ≡ true
+all-few = refl
+
+module _ (k : ℕ) (h : k < sheetLines) where
+  letters-are : at k .letters ≡ length (getD sheetKeys k [])
+  letters-are =
+      let p = row k h in
+      let e : at k .letters - 0 ≡ at k .letters = omega arith in
+      sym (length-take-le (at k .letters) (at k .key) (p .0)) ∙ ap (λ (i : ℕ). length (take i (at k .key))) (sym e) ∙ ap length (p .1)
+
+  pub few-letters : at k .letters ≤ 5
+  few-letters = leb-true _ _ (below-all sheetLines few all-few k h)
+
+  pub line-long : (n : ℕ) {d r : ℕ} → d ≡ length (digits n) → r ≡ at k .letters + d + 2 → (r ≡ length (numberLine (getD sheetKeys k []) n)) × (r ≤ 16)
+  line-long n {d} {r} e q =
+      let l = letters-are in
+      (omega (arith, line-count (getD sheetKeys k []) n), omega (arith, few-letters, count-most n))

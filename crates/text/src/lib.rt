@@ -9,6 +9,7 @@ pub mod sheet;
 mod writer;
 
 pub use decimal::digit_count;
+pub use decimal::put_digits;
 pub use kind::entry_of;
 pub use reader::read_block;
 pub use reader::rest;

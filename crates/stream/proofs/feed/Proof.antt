@@ -57,7 +57,7 @@ returns-3 c =
     let w = c .before .before .before .before .whole in
     let e = c .empty .ensures in (
       fed-whole (s .args .c) (s .args .buf .now) (s .args .part .now) (s .args .out .now) _ (g .result .mark) (g .result .used) _ (c .before .before .before .before .before .before .before .before .before .before .before .before .before .before .before .before .before .if1 .left) (c .before .before .before .before .before .before .before .before .before .before .before .before .before .before .lines-of .ensures .0) (g .ensures .0)
-      (c .before .before .before .before .before .before .before .before .if2 .left) (e .1, e .2, e .3) (w .ensures .0) (w .ensures .1 .0),
+          (c .before .before .before .before .before .before .before .before .if2 .left) (e .1, e .2, e .3) (w .ensures .0) (w .ensures .1 .0),
       (
         record { sound = w .ensures .1 .1 .0; room = e .0; lines = omega (arith, e .1, lines-some (w .result .opened)) },
         g .ensures .1 .1,

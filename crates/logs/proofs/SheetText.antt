@@ -1,0 +1,206 @@
+-- Request No. 1, the sheet: reading what was written gives the same sheet and the rest, and a sheet that the reader accepts is written back byte for
+-- byte. By the table of sheet lines, for any bytes behind it. Assumes nothing.
+use mathlib.Core.Path.{_≡_, refl, sym, ap, _∙_}
+use mathlib.Core.List.{List, [], _∷_, _++_, append-assoc}
+use mathlib.Core.Bool.{Bool, true, false, true≢false}
+use Prim.Native.Nat.{ℕ, zero, suc, _+_, _≤_, _<_, _^_}
+use native.Mathlib.Numerals.{add-one}
+use native.Mathlib.Omega.{arith}
+use lib.ListN.{length, getD, drop, drop-of-length-le}
+use lib.Seq.{drop-cons}
+use lib.Dec.{leb, ltb}
+use borrow.Author.Tests.{le-leb, leb-true, ltb-true}
+use Rattle.laws.specs.Tests.{pick, both}
+use Rattle.laws.proofs.Tests.{both-true}
+use Rattle.laws.proofs.Rules.{allBelow, below-all}
+use Rattle.paper.specs.Paper.{between, isSheet}
+use Rattle.paper.specs.declared.Sheet.{Sheet}
+use Rattle.paper.proofs.Codes.{between-in}
+use Rattle.text.specs.Line.{afterLine, lineNumber, numberLine}
+use Rattle.text.specs.Block.{afterLines, allLetters}
+use Rattle.text.specs.TableSheet.{sheetLines, sheetKeys, sheetFrom, sheetTo, ranged, sheetNumber, isValue, valueIn, allGood, sheetWith, sheetOf, sheetEnd}
+use Rattle.text.specs.declared.Number.{Number}
+use Rattle.text.specs.declared.Number.the-variants.{Value, Bad}
+use Rattle.text.proofs.Entries.{in-range}
+use Rattle.text.proofs.RoundTrip.{NoLF, read-line, read-rest}
+use Rattle.text.proofs.ReadBack.{line-back}
+use Rattle.text.proofs.SheetLaws.{InRange, good-ranged, good-each, sheet-good}
+use Rattle.logs.specs.LogText.{sheetValues, linesOf, sheetText}
+use Rattle.text.specs.declared.sheet.Opening.the-variants as opening
+
+-- ---- lines by a table of keys, of any length
+
+-- a line, then the lines of the rest of the table
+pub lines-on : (ks : List (List ℕ)) (vs : List ℕ) (k : ℕ) → k < length ks → k < length vs
+    → linesOf (drop k ks) (drop k vs) ≡ numberLine (getD ks k []) (getD vs k 0) ++ linesOf (drop (k + 1) ks) (drop (k + 1) vs)
+lines-on ks vs k h i = rw (add-one k, drop-cons ks k [] h, drop-cons vs k 0 i)
+
+pub lines-end : (ks : List (List ℕ)) (vs : List ℕ) (k : ℕ) → length ks ≤ k → linesOf (drop k ks) (drop k vs) ≡ []
+lines-end ks vs k h = rw (drop-of-length-le ks h)
+
+-- keys and numbers that make lines which can be read: the keys have no LF and are not too long, the numbers at most nine digits
+abbrev Fit : List (List ℕ) → List ℕ → Type 0
+Fit ks vs = (k : ℕ) → k < length ks → NoLF (getD ks k []) × (length (getD ks k []) ≤ 22) × (getD vs k 0 < 10 ^ 9) × (k < length vs)
+
+fit-tail : (key : List ℕ) (v : ℕ) (ks : List (List ℕ)) (vs : List ℕ) → Fit (key ∷ ks) (v ∷ vs) → Fit ks vs
+fit-tail key v ks vs f k h = let q = f (suc k) (omega arith) in (q .0, q .1, q .2, omega (arith, q .3))
+
+-- k lines are used up
+after-lines : (k : ℕ) (ks : List (List ℕ)) (vs rest : List ℕ) → Fit ks vs → k ≤ length ks
+    → afterLines k (linesOf ks vs ++ rest) ≡ linesOf (drop k ks) (drop k vs) ++ rest
+after-lines zero ks vs rest f h = refl
+after-lines (suc k) [] vs rest f h = absurd (omega arith)
+after-lines (suc k) (key ∷ ks) [] rest f h = absurd (omega (arith, f 0 (omega arith) .3))
+after-lines (suc k) (key ∷ ks) (v ∷ vs) rest f h =
+    let q = f 0 (omega arith) in
+    ap (λ (l : List ℕ). afterLines k (afterLine l)) (append-assoc (numberLine key v) (linesOf ks vs) rest)
+    ∙ ap (afterLines k) (read-rest key (linesOf ks vs ++ rest) v (q .0) (q .2))
+    ∙ after-lines k ks vs rest (fit-tail key v ks vs f) (omega arith)
+
+-- and the next one is read
+line-number : (k : ℕ) (ks : List (List ℕ)) (vs rest : List ℕ) → Fit ks vs → k < length ks
+    → lineNumber (getD ks k []) (linesOf (drop k ks) (drop k vs) ++ rest) ≡ Value (getD vs k 0)
+line-number k [] vs rest f h = absurd (omega arith)
+line-number k (key ∷ ks) [] rest f h = absurd (omega (arith, f 0 (omega arith) .3))
+line-number zero (key ∷ ks) (v ∷ vs) rest f h =
+    let q = f 0 (omega arith) in
+    ap (lineNumber key) (append-assoc (numberLine key v) (linesOf ks vs) rest) ∙ read-line key (linesOf ks vs ++ rest) v (q .0) (q .2) (q .1)
+line-number (suc k) (key ∷ ks) (v ∷ vs) rest f h = line-number k ks vs rest (fit-tail key v ks vs f) (omega arith)
+
+-- small letters have no LF among them
+pub letters-no : (w : List ℕ) → allLetters w ≡ true → NoLF w
+letters-no [] e = tt
+letters-no (b ∷ w) e =
+    let p = both-true (between 97 122 b) (allLetters w) e in
+    let r = between-in 97 122 b (p .0) in
+    (λ q. omega arith, letters-no w (p .1))
+
+-- ---- the sheet's table: a row of the paper for each line
+
+-- the keys are letters, few of them, and the greatest numbers have at most nine digits
+abbrev right : ℕ → Bool
+right k = both (allLetters (getD sheetKeys k [])) (both (leb (length (getD sheetKeys k [])) 22) (ltb (getD sheetTo k 0) 1000000000))
+
+all-right : allBelow sheetLines right ≡ true
+all-right = refl
+
+row-is : (k : ℕ) → k < sheetLines → (allLetters (getD sheetKeys k []) ≡ true) × (length (getD sheetKeys k []) ≤ 22) × (getD sheetTo k 0 < 1000000000)
+row-is k h =
+    let few = leb (length (getD sheetKeys k [])) 22 in
+    let low = ltb (getD sheetTo k 0) 1000000000 in
+    let p = both-true (allLetters (getD sheetKeys k [])) (both few low) (below-all sheetLines right all-right k h) in
+    let q = both-true few low (p .1) in
+    (p .0, leb-true _ _ (q .0), ltb-true _ _ (q .1))
+
+-- each number of a good sheet is in the range of its row
+in-row : (s : Sheet) → InRange s → (k : ℕ) → k < sheetLines → (getD sheetFrom k 0 ≤ getD (sheetValues s) k 0) × (getD (sheetValues s) k 0 ≤ getD sheetTo k 0)
+in-row s r zero h = r .seats
+in-row s r (suc zero) h = r .small
+in-row s r (suc (suc zero)) h = (omega (arith, r .small, r .big), r .big .1)
+in-row s r (suc (suc (suc zero))) h = (omega arith, r .rate)
+in-row s r (suc (suc (suc (suc zero)))) h = (omega arith, r .cap)
+in-row s r (suc (suc (suc (suc (suc zero))))) h = r .step
+in-row s r (suc (suc (suc (suc (suc (suc k)))))) h = absurd (omega arith)
+
+module _ (s : Sheet) (good : isSheet s ≡ true) where
+  pub sheet-row : (k : ℕ) → k < sheetLines → (getD sheetFrom k 0 ≤ getD (sheetValues s) k 0) × (getD (sheetValues s) k 0 ≤ getD sheetTo k 0)
+  sheet-row k h = in-row s (good-ranged s good) k h
+
+  pub sheet-small : (k : ℕ) → k < sheetLines → getD (sheetValues s) k 0 < 10 ^ 9
+  sheet-small k h =
+      let most : getD sheetTo k 0 < 1000000000 = row-is k h .2 in
+      omega (arith, sheet-row k h .1)
+
+  fit : Fit sheetKeys (sheetValues s)
+  fit k h =
+      let p = row-is k h in
+      (letters-no (getD sheetKeys k []) (p .0), p .1, sheet-small k h, h)
+
+-- ---- reading what was written
+
+module _ (s : Sheet) (good : isSheet s ≡ true) (rest : List ℕ) where
+  number-read : (k : ℕ) → k < sheetLines → sheetNumber k (sheetText s ++ rest) ≡ Value (getD (sheetValues s) k 0)
+  unfolding sheetNumber sheetText
+  number-read k h =
+      let r = sheet-row s good k h in
+      rw (after-lines k sheetKeys (sheetValues s) rest (fit s good) (omega arith), line-number k sheetKeys (sheetValues s) rest (fit s good) h, in-range (getD sheetFrom k 0) (getD sheetTo k 0) (getD (sheetValues s) k 0) (r .0) (r .1))
+
+  all-read : (n : ℕ) → n ≤ sheetLines → allGood n (sheetText s ++ rest) ≡ true
+  all-read zero h = refl
+  all-read (suc n) h = rw (number-read n (omega arith), all-read n (omega arith))
+
+  with-read : sheetWith (sheetText s ++ rest) ≡ s
+  unfolding sheetWith
+  with-read = rw (number-read 0 (omega arith), number-read 1 (omega arith), number-read 2 (omega arith), number-read 3 (omega arith), number-read 4 (omega arith), number-read 5 (omega arith))
+
+  -- the same sheet
+  pub sheet-read : sheetOf (sheetText s ++ rest) ≡ opening.Read s
+  sheet-read =
+      let e = with-read in
+      sheet-good (sheetText s ++ rest) (all-read sheetLines (omega arith)) (rw e (le-leb _ _ (good-ranged s good .big .0))) ∙ ap opening.Read e
+
+  -- and the rest
+  pub sheet-rest : sheetEnd (sheetText s ++ rest) ≡ rest
+  unfolding sheetEnd sheetText
+  sheet-rest = after-lines sheetLines sheetKeys (sheetValues s) rest (fit s good) (omega arith)
+
+-- ---- a sheet that was read is written back
+
+value-was : (lo hi : ℕ) (x : Number) → isValue (ranged lo hi x) ≡ true → x ≡ Value (valueIn (ranged lo hi x))
+value-was lo hi Bad e = absurd (true≢false (sym e))
+value-was lo hi (Value v) e = go (between lo hi v) e
+  where
+    go : (t : Bool) → isValue (pick t (Value v) Bad) ≡ true → Value v ≡ Value (valueIn (pick t (Value v) Bad))
+    go true e = refl
+    go false e = absurd (true≢false (sym e))
+
+-- what a sheet that was read says: each line is good, and the numbers are the sheet's
+sheet-said : (log : List ℕ) (s : Sheet) → sheetOf log ≡ opening.Read s → (allGood sheetLines log ≡ true) × (sheetWith log ≡ s)
+unfolding sheetOf
+sheet-said log s e = go (both (allGood sheetLines log) (leb (valueIn (sheetNumber 1 log)) (valueIn (sheetNumber 2 log)))) refl e
+  where
+    go : (t : Bool) → both (allGood sheetLines log) (leb (valueIn (sheetNumber 1 log)) (valueIn (sheetNumber 2 log))) ≡ t
+        → pick t (opening.Read (sheetWith log)) opening.Bad ≡ opening.Read s → (allGood sheetLines log ≡ true) × (sheetWith log ≡ s)
+    go true w v = (both-true (allGood sheetLines log) (leb (valueIn (sheetNumber 1 log)) (valueIn (sheetNumber 2 log))) w .0, cc)
+    go false w v = let z : _≡_ {A = ℕ} 0 1 = cc in absurd (omega arith)
+
+-- row by row, the sheet's number is that of the line
+with-row : (log : List ℕ) (k : ℕ) → k < sheetLines → getD (sheetValues (sheetWith log)) k 0 ≡ valueIn (sheetNumber k log)
+unfolding sheetWith
+with-row log zero h = refl
+with-row log (suc zero) h = refl
+with-row log (suc (suc zero)) h = refl
+with-row log (suc (suc (suc zero))) h = refl
+with-row log (suc (suc (suc (suc zero)))) h = refl
+with-row log (suc (suc (suc (suc (suc zero))))) h = refl
+with-row log (suc (suc (suc (suc (suc (suc k)))))) h = absurd (omega arith)
+
+after-next : (k : ℕ) (log : List ℕ) → afterLine (afterLines k log) ≡ afterLines (suc k) log
+after-next zero log = refl
+after-next (suc k) log = after-next k (afterLine log)
+
+module _ (log : List ℕ) (s : Sheet) (e : sheetOf log ≡ opening.Read s) where
+  line-was : (k : ℕ) → k < sheetLines → lineNumber (getD sheetKeys k []) (afterLines k log) ≡ Value (getD (sheetValues s) k 0)
+  unfolding sheetNumber
+  line-was k h =
+      let p = sheet-said log s e in
+      value-was (getD sheetFrom k 0) (getD sheetTo k 0) (lineNumber (getD sheetKeys k []) (afterLines k log)) (good-each sheetLines k log h (p .0))
+      ∙ ap Value (sym (with-row log k h))
+      ∙ ap (λ (t : Sheet). Value (getD (sheetValues t) k 0)) (p .1)
+
+  lines-were : (j k : ℕ) → k + j ≡ sheetLines → afterLines k log ≡ linesOf (drop k sheetKeys) (drop k (sheetValues s)) ++ afterLines sheetLines log
+  lines-were zero k q =
+      let h : k ≡ sheetLines = omega arith in
+      ap (λ (i : ℕ). afterLines i log) h ∙ ap (λ (l : List ℕ). l ++ afterLines sheetLines log) (sym (lines-end sheetKeys (sheetValues s) k (omega arith)))
+  lines-were (suc j) k q =
+      let line = numberLine (getD sheetKeys k []) (getD (sheetValues s) k 0) in
+      let more = linesOf (drop (k + 1) sheetKeys) (drop (k + 1) (sheetValues s)) in
+      line-back (getD sheetKeys k []) (afterLines k log) (getD (sheetValues s) k 0) (line-was k (omega arith))
+      ∙ ap (λ (l : List ℕ). line ++ l) (after-next k log ∙ ap (λ (i : ℕ). afterLines i log) (sym (add-one k)) ∙ lines-were j (k + 1) (omega arith))
+      ∙ sym (append-assoc line more (afterLines sheetLines log))
+      ∙ ap (λ (l : List ℕ). l ++ afterLines sheetLines log) (sym (lines-on sheetKeys (sheetValues s) k (omega arith) (omega arith)))
+
+  -- byte for byte
+  pub sheet-back : log ≡ sheetText s ++ sheetEnd log
+  unfolding sheetText sheetEnd
+  sheet-back = lines-were sheetLines 0 refl
