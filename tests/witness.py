@@ -68,10 +68,10 @@ def make_log(seed, entries, profile):
 
 
 def blocks_of(log):
-    """The sheet, then block after block, each with its five LFs if it has them."""
+    """The sheet's six lines, then block after block, each with its five LFs if it has them."""
     lines = [line + b"\n" for line in log.split(b"\n")]
     lines[-1] = lines[-1][:-1]
-    return [b"".join(lines[i : i + 5]) for i in range(0, len(lines), 5)]
+    return [b"".join(lines[:6])] + [b"".join(lines[i : i + 5]) for i in range(6, len(lines), 5)]
 
 
 def difference(log):

@@ -89,7 +89,7 @@ impl Mender {
 }
 
 fn write_sheet(sheet: Sheet, copy: &mut Vec<u8>) {
-    let values = [sheet.seats as u64, sheet.small, sheet.big, sheet.rate, sheet.cap];
+    let values = [sheet.seats as u64, sheet.small, sheet.big, sheet.rate, sheet.cap, sheet.step];
     for (key, value) in SHEET_KEYS.into_iter().zip(values) {
         line(copy, key, value);
     }

@@ -130,12 +130,24 @@ impl Pots {
 pub struct Commission {
     pub rate: u64,
     pub cap: u64,
+    /// The room's smallest chip.
+    pub step: u64,
+    pub board_cards: usize,
 }
 
 impl Commission {
-    /// A pot's fee when lower pots have paid `so_far`.
+    /// A pot's fee when lower pots have paid `so_far`: rounded down to whole
+    /// chips before the cap, and the capped fee once more.
     fn fee(&self, amount: u64, so_far: u64) -> u64 {
-        (amount * self.rate / 1000).min(self.cap - so_far)
+        if self.board_cards == 0 {
+            return 0;
+        }
+        let rounded = self.in_chips(amount * self.rate / 1000);
+        self.in_chips(rounded.min(self.cap - so_far))
+    }
+
+    fn in_chips(&self, fee: u64) -> u64 {
+        fee - fee % self.step
     }
 }
 

@@ -146,7 +146,8 @@ impl Table {
     /// How the open hand would be shared out.
     pub fn shares(&self) -> Option<Shares> {
         let hand = self.hand.as_ref()?;
-        let commission = Commission { rate: self.sheet.rate, cap: self.sheet.cap };
+        let Sheet { rate, cap, step, .. } = self.sheet;
+        let commission = Commission { rate, cap, step, board_cards: hand.board.len() };
         Some(self.pots().share(commission, hand.puck, &hand.strengths()))
     }
 

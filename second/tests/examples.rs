@@ -111,16 +111,24 @@ fn p7_and_p9_pots_and_back() {
 
 #[test]
 fn p8_fees() {
-    let commission = Commission { rate: 50, cap: 15 };
-    let shares = literally(&stakes(&P7)).share(commission, 1, &[0, 3, 4, 3, 9]);
-    assert_eq!(shares.fee, 15);
-    assert_eq!(shares.divided, [(152, 1), (173, 2)]);
+    let shared = |step, board_cards| {
+        let commission = Commission { rate: 50, cap: 15, step, board_cards };
+        literally(&stakes(&P7)).share(commission, 1, &[0, 3, 4, 3, 9])
+    };
+    assert_eq!(shared(1, 5).fee, 15);
+    assert_eq!(shared(1, 5).divided, [(152, 1), (173, 2)]);
+    // No. 3: with step 5 the fees are 5 and 5, and without a board card none.
+    assert_eq!(shared(5, 5).divided, [(155, 1), (175, 2)]);
+    assert_eq!(shared(1, 1).fee, 15);
+    assert_eq!(shared(1, 0).divided, [(160, 1), (180, 2)]);
+    // The second pot's 9 is rounded down to 8, cut at the 7 left of the cap, and rounded down to 6.
+    assert_eq!(shared(2, 5).divided, [(152, 1), (174, 2)]);
 }
 
 #[test]
 fn p10_odd_units() {
     // P7 again: the second pot, 173 after P8's fees, is contested by 1 and 3.
-    let commission = Commission { rate: 50, cap: 15 };
+    let commission = Commission { rate: 50, cap: 15, step: 1, board_cards: 5 };
     let shares = literally(&stakes(&P7)).share(commission, 3, &[0, 3, 4, 3, 9]);
     assert_eq!(shares.due, [0, 87, 152, 86 + 100, 0]);
 }
@@ -128,7 +136,7 @@ fn p10_odd_units() {
 #[test]
 fn p11_wagers() {
     let opened = |stack: &str| {
-        let mut play = Play::new([3, 5, 10, 50, 15]);
+        let mut play = Play::new([3, 5, 10, 50, 15, 1]);
         play.take(&["sit 1 100", "sit 2 100", &format!("sit 3 {stack}"), "hand 1"]);
         play
     };
@@ -143,7 +151,7 @@ fn p11_wagers() {
 fn p12_whole_output() {
     let entries = ["sit 1 100", "sit 2 100", "hand 1", "fold 1", "settle"];
     let blocks = (1..).zip(entries).map(|(n, entry)| block(n, entry));
-    let log = sheet_text([3, 5, 10, 50, 15]) + &blocks.collect::<String>();
+    let log = sheet_text([3, 5, 10, 50, 15, 1]) + &blocks.collect::<String>();
     let expected = "n=1 code=0 turn=0 mark=0 back=0 n=2 code=0 turn=0 mark=0 back=0 \
         n=3 code=0 turn=1 mark=10 pot=10 back=5 n=4 code=0 turn=0 mark=10 pot=10 back=5 \
         n=5 code=0 turn=0 mark=0 back=0 fee=0 sitting=1 paid=0 sitting=2 paid=15 unclaimed=0 ";

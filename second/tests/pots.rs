@@ -26,12 +26,15 @@ fn nothing_is_made_or_lost() {
         let stakes = random_stakes(&mut random);
         let hands: Vec<u64> = stakes.iter().map(|_| random.between(1, 3)).collect();
         let puck = random.between(1, stakes.len() as u64 - 1) as usize;
-        let commission = Commission { rate: random.between(0, 100), cap: random.between(0, 50) };
+        let (rate, cap) = (random.between(0, 100), random.between(0, 50));
+        let (step, board_cards) = (random.between(1, 9), random.between(0, 5) as usize);
+        let commission = Commission { rate, cap, step, board_cards };
         let pots = by_levels(&stakes);
         let shares = pots.share(commission, puck, &hands);
         let put_in: u64 = stakes.iter().map(|stake| stake.total).sum();
         assert_eq!(shares.fee + shares.due.iter().sum::<u64>(), put_in);
-        assert!(pots.pots.len() <= 9 && shares.fee <= commission.cap);
+        assert!(pots.pots.len() <= 9 && shares.fee <= cap);
+        assert!(shares.fee.is_multiple_of(step) && (board_cards > 0 || shares.fee == 0));
     }
 }
 

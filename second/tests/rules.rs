@@ -6,7 +6,7 @@ use play::{block, sheet_text, Play};
 use second::clerk::{answers_to, Clerk};
 use second::pots::literally;
 
-const SHEET: [u64; 5] = [4, 5, 10, 0, 0];
+const SHEET: [u64; 6] = [4, 5, 10, 0, 0, 1];
 
 fn opened() -> Play {
     let mut play = Play::new(SHEET);
@@ -37,6 +37,9 @@ fn bad_sheets() {
         ("rate=0", "Rate=0"),
         ("rate=0\n", ""),
         ("rate=0", "rate=+0"),
+        ("step=1", "step=0"),
+        ("step=1", "step=1001"),
+        ("step=1\n", ""),
     ];
     bad.extend(changes.map(|(from, to)| good.replace(from, to)));
     for sheet in bad {
@@ -197,7 +200,7 @@ fn two_live_need_cards() {
 /// Seats 3 and 4 have raised to 30 and called; seats 5 and 1 then put in
 /// whole stacks that lift the mark by 17 and by 8, with the lift at 20.
 fn after_two_short_lifts() -> Play {
-    let mut play = Play::new([5, 5, 10, 0, 0]);
+    let mut play = Play::new([5, 5, 10, 0, 0, 1]);
     play.take(&["sit 1 55", "sit 2 200", "sit 3 200", "sit 4 200", "sit 5 47", "hand 1"]);
     play.take(&["wager 3 30", "call 4", "wager 5 47", "wager 1 55"]);
     play

@@ -29,7 +29,7 @@ use Rattle.paper.specs.declared.Entry.the-variants.{Sit, Leave, Hand, Hole, Fol
 use Rattle.chairs.specs.Chairs.{columnOf, Numbered}
 use Rattle.laws.specs.Lists.{All, sumOf}
 use Rattle.chairs.specs.declared.Chair.{Chair}
-use Rattle.table.specs.Settle.{totalsOf, livesOf, hereOf, scoresOf, dueNow, potsNow, backNow, payoutNow, noPayout}
+use Rattle.table.specs.Settle.{totalsOf, livesOf, hereOf, scoresOf, dueNow, potsNow, backNow, payoutNow, noPayout, commissionOf}
 use Rattle.table.specs.Take.{Sound, codeOf, nextOf, payoutOf, payoutBy}
 use Rattle.table.proofs.Laws.{totals-within, paid-at, due-small, sheet-rate}
 use Rattle.table.proofs.Refusals.{codes, refused-same}
@@ -139,7 +139,7 @@ fee-small t h =
     omega (
       arith,
       totals-small t h,
-      none-lost (totalsOf t) (livesOf t) (scoresOf t) (t .sheet .rate) (t .sheet .cap) (t .play .puck)
+      none-lost (totalsOf t) (livesOf t) (scoresOf t) (commissionOf t) (t .play .puck)
           (map-length _ (t .chairs) ∙ sym ls)
           (omega (arith, sheet-rate (t .sheet) (h .payable .sheet))),
     )

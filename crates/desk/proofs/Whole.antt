@@ -15,7 +15,7 @@ use Rattle.text.specs.Block.{restOf}
 use Rattle.text.specs.Sheet.{Wrote, over, fits, sheetAfter}
 use Rattle.text.proofs.Sheets.{then, part-is}
 use Rattle.text.proofs.Blocks.{rest-shorter, after-lines-no-longer}
-use Rattle.text.specs.TableSheet.{sheetOf, sheetEnd}
+use Rattle.text.specs.TableSheet.{sheetLines, sheetOf, sheetEnd}
 use Rattle.paper.specs.declared.Sheet.{Sheet}
 use Rattle.text.specs.declared.sheet.Opening.{Opening}
 use Rattle.text.specs.declared.sheet.Opening.the-variants.{Read, Bad}
@@ -193,7 +193,7 @@ run-good log o s room p q e f = rw (← p, q, e, f)
 
 pub end-within : (log : List ℕ) → length (sheetEnd log) ≤ length log
 unfolding sheetEnd
-end-within log = after-lines-no-longer 5 log
+end-within log = after-lines-no-longer sheetLines log
 
 -- with room for all, what is written is the output
 pub run-enough : (log : List ℕ) (room : ℕ) → length (outputOf log) ≤ room → outputIn log room ≡ outputOf log

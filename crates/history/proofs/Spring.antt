@@ -21,7 +21,7 @@ use Rattle.table.specs.Take.{codeOf, nextOf}
 use Rattle.history.specs.History.{run, noteOf, by, blinds, hasChips, putIn, liveIn}
 
 abbrev pub six : Sheet
-six = record { seats = 6; small = 5; big = 10; rate = 50; cap = 15 }
+six = record { seats = 6; small = 5; big = 10; rate = 50; cap = 15; step = 1 }
 
 -- the entries, the newest first
 abbrev pub spring : List Entry

@@ -18,7 +18,7 @@ use Rattle.paper.specs.declared.Sheet.{Sheet}
 use Rattle.paper.specs.declared.Entry.{Entry}
 use Rattle.text.specs.Block.{blockOf, restOf}
 use Rattle.text.specs.Entry.{parsedOf}
-use Rattle.text.specs.TableSheet.{sheetOf, sheetEnd}
+use Rattle.text.specs.TableSheet.{sheetLines, sheetOf, sheetEnd}
 use Rattle.text.specs.declared.Block.{Block}
 use Rattle.text.specs.declared.Block.the-variants.{Raw, Malformed, Nothing}
 use Rattle.text.specs.declared.Parsed.{Parsed}
@@ -145,5 +145,5 @@ pub fair-same : (log : List ℕ) (s : Sheet) → sheetOf log ≡ opening.Read s 
 unfolding fairCopy sheetEnd
 fair-same log s e z =
     ap (λ (o : Opening). fairFrom o log) e
-    ∙ ap (λ (l : List ℕ). sheetText s ++ l) (copies-same (length log) s (sheetEnd log) (after-lines-no-longer 5 log) z)
+    ∙ ap (λ (l : List ℕ). sheetText s ++ l) (copies-same (length log) s (sheetEnd log) (after-lines-no-longer sheetLines log) z)
     ∙ sym (sheet-back log s e)

@@ -99,7 +99,8 @@ in-row s r (suc zero) h = r .small
 in-row s r (suc (suc zero)) h = (omega (arith, r .small, r .big), r .big .1)
 in-row s r (suc (suc (suc zero))) h = (omega arith, r .rate)
 in-row s r (suc (suc (suc (suc zero)))) h = (omega arith, r .cap)
-in-row s r (suc (suc (suc (suc (suc k))))) h = absurd (omega arith)
+in-row s r (suc (suc (suc (suc (suc zero))))) h = r .step
+in-row s r (suc (suc (suc (suc (suc (suc k)))))) h = absurd (omega arith)
 
 module _ (s : Sheet) (good : isSheet s ≡ true) where
   pub sheet-row : (k : ℕ) → k < sheetLines → (getD sheetFrom k 0 ≤ getD (sheetValues s) k 0) × (getD (sheetValues s) k 0 ≤ getD sheetTo k 0)
@@ -130,7 +131,7 @@ module _ (s : Sheet) (good : isSheet s ≡ true) (rest : List ℕ) where
 
   with-read : sheetWith (sheetText s ++ rest) ≡ s
   unfolding sheetWith
-  with-read = rw (number-read 0 (omega arith), number-read 1 (omega arith), number-read 2 (omega arith), number-read 3 (omega arith), number-read 4 (omega arith))
+  with-read = rw (number-read 0 (omega arith), number-read 1 (omega arith), number-read 2 (omega arith), number-read 3 (omega arith), number-read 4 (omega arith), number-read 5 (omega arith))
 
   -- the same sheet
   pub sheet-read : sheetOf (sheetText s ++ rest) ≡ opening.Read s
@@ -171,7 +172,8 @@ with-row log (suc zero) h = refl
 with-row log (suc (suc zero)) h = refl
 with-row log (suc (suc (suc zero))) h = refl
 with-row log (suc (suc (suc (suc zero)))) h = refl
-with-row log (suc (suc (suc (suc (suc k))))) h = absurd (omega arith)
+with-row log (suc (suc (suc (suc (suc zero))))) h = refl
+with-row log (suc (suc (suc (suc (suc (suc k)))))) h = absurd (omega arith)
 
 after-next : (k : ℕ) (log : List ℕ) → afterLine (afterLines k log) ≡ afterLines (suc k) log
 after-next zero log = refl

@@ -21,7 +21,7 @@ use Rattle.logs.specs.declared.Put.the-variants.{Bytes, OutOfRange, NoRo
 
 -- a sheet's numbers in the order of its lines
 abbrev pub sheetValues : Sheet → List ℕ
-sheetValues s = s .seats ∷ s .small ∷ s .big ∷ s .rate ∷ s .cap ∷ []
+sheetValues s = s .seats ∷ s .small ∷ s .big ∷ s .rate ∷ s .cap ∷ s .step ∷ []
 
 -- a line for each key with its number
 abbrev pub linesOf : List (List ℕ) → List ℕ → List ℕ

@@ -2,6 +2,7 @@
 use crate::Put;
 use paper::Sheet;
 use paper::is_sheet;
+use text::sheet::LINES;
 use text::sheet::line_len;
 use text::sheet::put_line;
 ghost use mathlib.Core.Path.{_≡_};
@@ -12,14 +13,11 @@ ghost use Rattle.paper.specs.Paper.{isSheet};
 ghost use Rattle.text.specs.Sheet.{Wrote};
 ghost use Rattle.logs.specs.LogText.{sheetValues, sheetText, putOf, putAfter};
 
-// How many lines a sheet has.
-const LINES: usize = 5;
-
 // A sheet's numbers in the order of its lines.
 fn values_of(s: Sheet) -> [u32; LINES]
     ensures { λ r. ⌜ r ≡ sheetValues s ⌝ }
 {
-    [s.seats, s.small, s.big, s.rate, s.cap]
+    [s.seats, s.small, s.big, s.rate, s.cap, s.step]
 }
 
 // How long a good sheet is.

@@ -16,12 +16,12 @@ use Rattle.paper.specs.declared.Entry.the-variants.{Sit, Leave, Hand, Ho
 abbrev pub between : ℕ → ℕ → ℕ → Bool
 between lo hi x = both (leb lo x) (leb x hi)
 
--- seats (2 to 10), small, big (1 ≤ small ≤ big ≤ 10,000), rate (0 to 100, thousandths), cap (0 to 1,000,000)
+-- seats (2 to 10), small, big (1 ≤ small ≤ big ≤ 10,000), rate (0 to 100, thousandths), cap (0 to 1,000,000); request No. 3: "a sixth sheet line `step` (1 to 1,000)"
 unfoldable pub isSheet : Sheet → Bool
 isSheet s =
     both (between 2 10 (s .seats))
     (both (both (leb 1 (s .small)) (both (leb (s .small) (s .big)) (leb (s .big) 10000)))
-    (both (leb (s .rate) 100) (leb (s .cap) 1000000)))
+    (both (leb (s .rate) 100) (both (leb (s .cap) 1000000) (between 1 1000 (s .step)))))
 
 -- a used seat is 1 to `seats`
 unfoldable pub isSeat : Sheet → ℕ → Bool

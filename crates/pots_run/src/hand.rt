@@ -4,12 +4,12 @@ ghost use mathlib.Core.Bool.{true};
 ghost use Prim.Native.Nat.{ℕ, _≤_, _<_};
 ghost use lib.ListN.{getD};
 ghost use Rattle.laws.specs.Lists.{sumOf};
+use pots::Commission;
 
 pub struct Hand {
     pub seats: usize,
     pub puck: usize,
-    pub rate: u32,
-    pub cap: u32,
+    pub rule: Commission,
     pub totals: [u32; 10],
     pub live: u16,
     pub scores: [u32; 10],
@@ -22,7 +22,7 @@ fn number_at(nums: &[u32], i: usize) -> u32 {
 
 // The list of a line that begins at a place, with a number for each seat, and 0 for the seats above.
 fn column(nums: &[u32], from: usize, seats: usize) -> [u32; 10]
-    requires { ⌜ (from ≤ 34) × (seats ≤ 10) ⌝ }
+    requires { ⌜ (from ≤ 36) × (seats ≤ 10) ⌝ }
 {
     let mut a = [0u32; 10];
     let mut i: usize = 0;
@@ -44,20 +44,29 @@ fn seats_of(nums: &[u32], count: usize) -> usize
     if 10 < n {
         return 0;
     }
-    if count == 4 + 4 * n { n } else { 0 }
+    if count == 6 + 4 * n { n } else { 0 }
+}
+
+fn rule_of(nums: &[u32]) -> Commission {
+    Commission {
+        rate: number_at(nums, 2),
+        cap: number_at(nums, 3),
+        step: number_at(nums, 4),
+        board: number_at(nums, 5),
+    }
 }
 
 pub fn hand_of(nums: &[u32], count: usize) -> Hand {
     let seats = seats_of(nums, count);
+    let rule = rule_of(nums);
     Hand {
         seats,
         puck: number_at(nums, 1) as usize,
-        rate: number_at(nums, 2),
-        cap: number_at(nums, 3),
-        totals: column(nums, 4, seats),
-        live: pots::mask_at(column(nums, 4 + seats, seats), 1),
-        scores: column(nums, 4 + 2 * seats, seats),
-        here: pots::mask_at(column(nums, 4 + 3 * seats, seats), 1),
+        rule,
+        totals: column(nums, 6, seats),
+        live: pots::mask_at(column(nums, 6 + seats, seats), 1),
+        scores: column(nums, 6 + 2 * seats, seats),
+        here: pots::mask_at(column(nums, 6 + 3 * seats, seats), 1),
     }
 }
 
@@ -81,7 +90,7 @@ fn sum(xs: [u32; 10]) -> u64
 
 // Whether a hand keeps the bounds that `pots` asks for.
 pub fn fair(h: Hand) -> bool
-    ensures { λ r. ⌜ (r ≡ true → (h .seats ≤ 10) × (sumOf (h .totals) ≤ 100000000) × (h .rate ≤ 100) × (h .puck ≤ 10) × ((i : ℕ) → getD (h .scores) i 0 ≤ 100000000)) ⌝ }
+    ensures { λ r. ⌜ (r ≡ true → (h .seats ≤ 10) × (sumOf (h .totals) ≤ 100000000) × (h .rule .rate ≤ 100) × (0 < h .rule .step) × (h .puck ≤ 10) × ((i : ℕ) → getD (h .scores) i 0 ≤ 100000000)) ⌝ }
 {
     let totals = h.totals;
     let scores = h.scores;
@@ -94,7 +103,10 @@ pub fn fair(h: Hand) -> bool
     if 100000000 < sum(totals) {
         return false;
     }
-    if 100 < h.rate {
+    if 100 < h.rule.rate {
+        return false;
+    }
+    if h.rule.step < 1 {
         return false;
     }
     if 10 < h.puck {

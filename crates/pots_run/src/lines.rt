@@ -5,7 +5,7 @@ use crate::line::Scan;
 use pots::Pots;
 ghost use mathlib.Core.Bool.{true};
 ghost use mathlib.Core.Path.{_≡_};
-ghost use Prim.Native.Nat.{ℕ, _≤_};
+ghost use Prim.Native.Nat.{ℕ, _≤_, _<_};
 ghost use lib.ListN.{length, getD};
 ghost use Rattle.laws.specs.Lists.{sumOf};
 
@@ -84,14 +84,15 @@ struct Told {
 }
 
 fn tell(h: Hand) -> Told
-    requires { ⌜ (h .seats ≤ 10) × (sumOf (h .totals) ≤ 100000000) × (h .rate ≤ 100) × (h .puck ≤ 10) × ((i : ℕ) → getD (h .scores) i 0 ≤ 100000000) ⌝ }
+    requires { ⌜ (h .seats ≤ 10) × (sumOf (h .totals) ≤ 100000000) × (h .rule .rate ≤ 100) × (0 < h .rule .step) × (h .puck ≤ 10) × ((i : ℕ) → getD (h .scores) i 0 ≤ 100000000) ⌝ }
     ensures { λ r. ⌜ r .pots .n ≤ 9 ⌝ }
 {
     let totals = h.totals;
     let scores = h.scores;
     let p = pots::pots_of(totals, h.live);
     let back = pots::back(totals, h.live);
-    let s = pots::hand::settle_hand(totals, h.live, scores, h.rate, h.cap, h.puck);
+    let rule = h.rule;
+    let s = pots::hand::settle_hand(totals, h.live, scores, rule, h.puck);
     let due = s.due;
     let o = pots::hand::pay_out(due, h.here);
     let paid = o.paid;

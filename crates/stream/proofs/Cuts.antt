@@ -19,7 +19,7 @@ use Rattle.desk.specs.Desk.{judgeBlock, judgedOf, blockBytes, shownOf}
 use Rattle.desk.specs.Log.{blocksFrom, outputFrom, outputOf}
 use Rattle.table.specs.Take.{freshTable}
 use Rattle.answers.specs.Answer.{answerBytes}
-use Rattle.text.specs.TableSheet.{sheetKeys, sheetFrom, sheetTo, ranged, sheetNumber, isValue, sheetWith, sheetOf, sheetEnd}
+use Rattle.text.specs.TableSheet.{sheetLines, sheetKeys, sheetFrom, sheetTo, ranged, sheetNumber, isValue, sheetWith, sheetOf, sheetEnd}
 use Rattle.text.proofs.SheetLaws.{good-not, sheet-bad}
 use Rattle.text.specs.declared.sheet.Opening.{Opening}
 use Rattle.text.specs.declared.sheet.Opening.the-variants.{Read, Bad}
@@ -120,10 +120,10 @@ any-cuts t log = stream-is (length log) t [] log (omega arith) (omega arith)
 
 -- ---- a part of the log, cut anywhere: what `gather` does with it is what its bytes do one by one
 
-gather-whole : (k : Kept) (b : ℕ) (bs : List ℕ) → leb 5 (keepOf k b .lines) ≡ true → gatherOf k (b ∷ bs) ≡ record { kept = keepOf k b; left = bs }
+gather-whole : (k : Kept) (b : ℕ) (bs : List ℕ) → leb 5 (keepOf k b .lines) ≡ true → gatherOf 5 k (b ∷ bs) ≡ record { kept = keepOf k b; left = bs }
 gather-whole k b bs e = rw e
 
-gather-next : (k : Kept) (b : ℕ) (bs : List ℕ) → leb 5 (keepOf k b .lines) ≡ false → gatherOf k (b ∷ bs) ≡ gatherOf (keepOf k b) bs
+gather-next : (k : Kept) (b : ℕ) (bs : List ℕ) → leb 5 (keepOf k b .lines) ≡ false → gatherOf 5 k (b ∷ bs) ≡ gatherOf 5 (keepOf k b) bs
 gather-next k b bs e = rw e
 
 stream-whole : (t : Table) (k : Kept) (b : ℕ) (bs : List ℕ) → leb 5 (keepOf k b .lines) ≡ true
@@ -134,9 +134,9 @@ stream-next : (t : Table) (k : Kept) (b : ℕ) (bs : List ℕ) → leb 5 (keepOf
 stream-next t k b bs e = rw e
 
 -- a part that ends a block is answered, and what is left of it goes before what comes next
-pub part-ends : (t : Table) (k : Kept) (part more : List ℕ) → k .lines < 5 → 5 ≤ gatherOf k part .kept .lines
+pub part-ends : (t : Table) (k : Kept) (part more : List ℕ) → k .lines < 5 → 5 ≤ gatherOf 5 k part .kept .lines
     → streamFrom t k (part ++ more)
-    ≡ blockBytes t (gatherOf k part .kept .bytes) ++ streamFrom (judgedOf t (gatherOf k part .kept .bytes) .table) nothing (gatherOf k part .left ++ more)
+    ≡ blockBytes t (gatherOf 5 k part .kept .bytes) ++ streamFrom (judgedOf t (gatherOf 5 k part .kept .bytes) .table) nothing (gatherOf 5 k part .left ++ more)
 part-ends t k [] more h p = absurd (omega arith)
 part-ends t k (b ∷ bs) more h p = ⊎-elim
     (λ e. stream-whole t k b (bs ++ more) e
@@ -147,7 +147,7 @@ part-ends t k (b ∷ bs) more h p = ⊎-elim
     (test (leb 5 (keepOf k b .lines)))
 
 -- a part that ends none is kept
-pub part-kept : (t : Table) (k : Kept) (part more : List ℕ) → gatherOf k part .kept .lines < 5 → streamFrom t k (part ++ more) ≡ streamFrom t (gatherOf k part .kept) more
+pub part-kept : (t : Table) (k : Kept) (part more : List ℕ) → gatherOf 5 k part .kept .lines < 5 → streamFrom t k (part ++ more) ≡ streamFrom t (gatherOf 5 k part .kept) more
 part-kept t k [] more p = refl
 part-kept t k (b ∷ bs) more p = ⊎-elim
     (λ e. absurd (omega (arith, leb-true 5 (keepOf k b .lines) e, subst (λ (g : Gathered). g .kept .lines < 5) (gather-whole k b bs e) p)))
@@ -166,7 +166,7 @@ cap-sheet-number k l =
 
 pub cap-sheet : (l : List ℕ) → sheetOf (cap 0 l) ≡ sheetOf l
 unfolding sheetOf sheetWith
-cap-sheet l = rw (cap-sheet-number 0 l, cap-sheet-number 1 l, cap-sheet-number 2 l, cap-sheet-number 3 l, cap-sheet-number 4 l)
+cap-sheet l = rw (cap-sheet-number 0 l, cap-sheet-number 1 l, cap-sheet-number 2 l, cap-sheet-number 3 l, cap-sheet-number 4 l, cap-sheet-number 5 l)
 
 -- ---- the sheet, and so the whole output
 
@@ -190,21 +190,21 @@ number-open k l h =
     let z : lfs (afterLines k l) ≡ 0 = omega (arith, lines-lfs k l (omega arith)) in
     ap (λ (v : List ℕ). isValue (ranged (getD sheetFrom k 0) (getD sheetTo k 0) (numberOf v))) (value-open (getD sheetKeys k []) (afterLines k l) (none-ended (afterLines k l) z))
 
--- a sheet without its five LFs is bad
-sheet-open : (l : List ℕ) → lfs l < 5 → sheetOf l ≡ Bad
-sheet-open l h = sheet-bad l (good-not 5 (lfs l) l h (number-open (lfs l) l refl))
+-- a sheet without the LFs of all its lines is bad
+sheet-open : (l : List ℕ) → lfs l < sheetLines → sheetOf l ≡ Bad
+sheet-open l h = sheet-bad l (good-not sheetLines (lfs l) l h (number-open (lfs l) l refl))
 
-front-number : (k : ℕ) (xs rest : List ℕ) → k < 5 → 5 ≤ lfs xs → sheetNumber k (xs ++ rest) ≡ sheetNumber k xs
+front-number : (k : ℕ) (xs rest : List ℕ) → k < sheetLines → sheetLines ≤ lfs xs → sheetNumber k (xs ++ rest) ≡ sheetNumber k xs
 unfolding sheetNumber
 front-number k xs rest i h =
     let r = front-line (afterLines k xs) rest (omega (arith, lines-lfs k xs (omega arith))) in
     ap (λ (v : List ℕ). ranged (getD sheetFrom k 0) (getD sheetTo k 0) (numberOf v))
     (ap (valueOf (getD sheetKeys k [])) (lines-front k xs rest (omega arith)) ∙ value-same (getD sheetKeys k []) (afterLines k xs ++ rest) (afterLines k xs) (r .0) (r .1) (r .2))
 
-front-sheet : (xs rest : List ℕ) → 5 ≤ lfs xs → sheetOf (xs ++ rest) ≡ sheetOf xs
+front-sheet : (xs rest : List ℕ) → sheetLines ≤ lfs xs → sheetOf (xs ++ rest) ≡ sheetOf xs
 unfolding sheetOf sheetWith
 front-sheet xs rest h =
-    rw (front-number 0 xs rest (omega arith) h, front-number 1 xs rest (omega arith) h, front-number 2 xs rest (omega arith) h, front-number 3 xs rest (omega arith) h, front-number 4 xs rest (omega arith) h)
+    rw (front-number 0 xs rest (omega arith) h, front-number 1 xs rest (omega arith) h, front-number 2 xs rest (omega arith) h, front-number 3 xs rest (omega arith) h, front-number 4 xs rest (omega arith) h, front-number 5 xs rest (omega arith) h)
 
 opened-is : (o : Opening) (log bs : List ℕ) → sheetEnd log ≡ bs → openedFrom o bs ≡ outputFrom o log
 opened-is Bad log bs e = refl
@@ -213,34 +213,34 @@ opened-is (Read s) log bs e =
     ∙ fuel-free (length bs) (length log) (freshTable s) bs (omega arith) (omega (arith, end-within log, ap length e))
     ∙ ap (blocksFrom (length log) (freshTable s)) (sym e)
 
-bytewise-is : (raw bs : List ℕ) → lfs raw < 5 → bytewise (keepAll nothing raw) bs ≡ outputOf (raw ++ bs)
+bytewise-is : (raw bs : List ℕ) → lfs raw < sheetLines → bytewise (keepAll nothing raw) bs ≡ outputOf (raw ++ bs)
 unfolding outputOf sheetEnd
 bytewise-is raw [] h = sym (ap (λ (o : Opening). outputFrom o (raw ++ [])) (ap sheetOf (append-nil raw) ∙ sheet-open raw h))
 bytewise-is raw (b ∷ bs) h =
     let more : List ℕ = raw ++ (b ∷ []) in
     let one : keepOf (keepAll nothing raw) b ≡ keepAll nothing more = sym (keep-append nothing raw (b ∷ [])) in
     let n : keepAll nothing more .lines ≡ lfs more = omega (arith, kept-lines nothing more) in
-    ap (λ (x : Kept). pick (leb 5 (x .lines)) (openedFrom (sheetOf (x .bytes)) bs) (bytewise x bs)) one
+    ap (λ (x : Kept). pick (leb sheetLines (x .lines)) (openedFrom (sheetOf (x .bytes)) bs) (bytewise x bs)) one
     ∙ ⊎-elim
     (λ e.
-    let five : 5 ≤ lfs more = omega (arith, leb-true 5 (keepAll nothing more .lines) e) in
-    let lf : eqb b 10 ≡ true = five-lf raw b h five in
-    let four : lfs raw ≡ 4 = omega (arith, lfs-append raw (b ∷ []), lfs-lf b [] lf) in
-    let rest : sheetEnd (raw ++ (b ∷ bs)) ≡ bs = lines-last 4 b raw bs lf four in
+    let all : sheetLines ≤ lfs more = omega (arith, leb-true sheetLines (keepAll nothing more .lines) e) in
+    let lf : eqb b 10 ≡ true = last-lf raw b h all in
+    let but-one : lfs raw ≡ 5 = omega (arith, lfs-append raw (b ∷ []), lfs-lf b [] lf) in
+    let rest : sheetEnd (raw ++ (b ∷ bs)) ≡ bs = lines-last 5 b raw bs lf but-one in
     let sheet : sheetOf (keepAll nothing more .bytes) ≡ sheetOf (raw ++ (b ∷ bs)) =
-    ap sheetOf (kept-cap more) ∙ cap-sheet more ∙ sym (front-sheet more bs five) ∙ ap sheetOf (snoc raw bs b) in
+    ap sheetOf (kept-cap more) ∙ cap-sheet more ∙ sym (front-sheet more bs all) ∙ ap sheetOf (snoc raw bs b) in
     ap (λ (x : Bool). pick x (openedFrom (sheetOf (keepAll nothing more .bytes)) bs) (bytewise (keepAll nothing more) bs)) e
     ∙ ap (λ (o : Opening). openedFrom o bs) sheet
     ∙ opened-is (sheetOf (raw ++ (b ∷ bs))) (raw ++ (b ∷ bs)) bs rest)
     (λ e.
-    let few : lfs more < 5 = omega (arith, leb-false 5 (keepAll nothing more .lines) e) in
+    let few : lfs more < sheetLines = omega (arith, leb-false sheetLines (keepAll nothing more .lines) e) in
     ap (λ (x : Bool). pick x (openedFrom (sheetOf (keepAll nothing more .bytes)) bs) (bytewise (keepAll nothing more) bs)) e
     ∙ bytewise-is more bs few
     ∙ ap outputOf (snoc raw bs b))
-    (test (leb 5 (keepAll nothing more .lines)))
+    (test (leb sheetLines (keepAll nothing more .lines)))
   where
-    five-lf : (raw : List ℕ) (b : ℕ) → lfs raw < 5 → 5 ≤ lfs (raw ++ (b ∷ [])) → eqb b 10 ≡ true
-    five-lf raw b h five = ⊎-elim (λ e. e) (λ e. absurd (omega (arith, lfs-append raw (b ∷ []), lfs-on b [] e))) (test (eqb b 10))
+    last-lf : (raw : List ℕ) (b : ℕ) → lfs raw < sheetLines → sheetLines ≤ lfs (raw ++ (b ∷ [])) → eqb b 10 ≡ true
+    last-lf raw b h all = ⊎-elim (λ e. e) (λ e. absurd (omega (arith, lfs-append raw (b ∷ []), lfs-on b [] e))) (test (eqb b 10))
 
 -- request No. 9: bytes that come one by one get the output of the whole log
 pub whole-log : (log : List ℕ) → bytewise nothing log ≡ outputOf log

@@ -1,4 +1,4 @@
--- Laws of five whole lines.
+-- Laws of whole lines: the sheet, or a block.
 use mathlib.Core.Path.{_≡_, refl, sym, ap, subst, _∙_}
 use mathlib.Core.List.{List, []}
 use mathlib.Core.Bool.{Bool, true, false, true≢false}
@@ -22,7 +22,12 @@ use Rattle.desk.proofs.Whole.{answered-parts, fitting-within}
 use Rattle.stream.specs.declared.Step.{Step}
 use Rattle.stream.specs.declared.Clerk.{Clerk}
 use Rattle.stream.specs.declared.Mark.{Mark}
-use Rattle.stream.specs.Stream.{stepOf, stepFrom, stepBytes, answeredStep, Kept, gatherOf, stateOf, FedAs, closeBytes}
+use Rattle.stream.specs.Stream.{stepOf, stepFrom, stepBytes, answeredStep, Kept, linesOf, gatherOf, stateOf, FedAs, closeBytes}
+
+-- something is read at a time, before the sheet was read and after
+pub lines-some : (opened : Bool) → 0 < linesOf opened
+lines-some true = omega arith
+lines-some false = omega arith
 
 pub answered-room : (t : Table) (log sheet : List ℕ) → answeredOf t log sheet .written ≤ length sheet
 answered-room t log sheet = omega (arith, answered-parts t log sheet .1 .count, fitting-within (blockBytes t log) (length sheet))
@@ -87,31 +92,34 @@ fed-shut c buf part out {u} e = record {
   whole = λ q. absurd (true≢false (sym e ∙ q));
 }
 
-module _ (c : Clerk) (buf part out buf2 : List ℕ) (m : Mark) (u : ℕ) (e : c .shut ≡ false)
-    (g : (stateOf m buf2 ≡ gatherOf (stateOf (c .mark) buf) part .kept) × (drop u part ≡ gatherOf (stateOf (c .mark) buf) part .left)) where
-  lines-are : m .lines ≡ gatherOf (stateOf (c .mark) buf) part .kept .lines
+module _ (c : Clerk) (buf part out buf2 : List ℕ) (m : Mark) (u want : ℕ) (e : c .shut ≡ false) (n : want ≡ linesOf (c .opened))
+    (was : (stateOf m buf2 ≡ gatherOf want (stateOf (c .mark) buf) part .kept) × (drop u part ≡ gatherOf want (stateOf (c .mark) buf) part .left)) where
+  g : (stateOf m buf2 ≡ gatherOf (linesOf (c .opened)) (stateOf (c .mark) buf) part .kept) × (drop u part ≡ gatherOf (linesOf (c .opened)) (stateOf (c .mark) buf) part .left)
+  g = subst (λ (w : ℕ). (stateOf m buf2 ≡ gatherOf w (stateOf (c .mark) buf) part .kept) × (drop u part ≡ gatherOf w (stateOf (c .mark) buf) part .left)) n was
+
+  lines-are : m .lines ≡ gatherOf (linesOf (c .opened)) (stateOf (c .mark) buf) part .kept .lines
   lines-are = ap (λ (k : Kept). k .lines) (g .0)
 
-  pub fed-kept : m .lines < 5
+  pub fed-kept : m .lines < want
       → FedAs c buf part out buf2 out (record { clerk = record { opened = c .opened; shut = false; table = c .table; mark = m }; used = u; written = 0 })
   fed-kept h = record {
     shut = λ q. absurd (true≢false (sym q ∙ e));
     left = λ q. g .1;
     kept = λ q p. (g .0, refl, refl, refl, refl, refl);
-    whole = λ q p. absurd (omega (arith, lines-are));
+    whole = λ q p. absurd (omega (arith, n, lines-are));
   }
 
-  pub fed-whole : {z : Mark} {s : Step} {out2 : List ℕ} → 5 ≤ m .lines → (z .lines ≡ 0) × (z .count ≡ 0) × (z .width ≡ 0)
+  pub fed-whole : {z : Mark} {s : Step} {out2 : List ℕ} → want ≤ m .lines → (z .lines ≡ 0) × (z .count ≡ 0) × (z .width ≡ 0)
       → s ≡ stepOf (c .opened) (c .table) (take (m .count - 0) (drop 0 buf2)) out → out2 ≡ sheetAfter (stepBytes (c .opened) (c .table) (take (m .count - 0) (drop 0 buf2))) out
       → FedAs c buf part out buf2 out2 (record { clerk = record { opened = s .opened; shut = s .shut; table = s .table; mark = z }; used = u; written = s .written })
   fed-whole {z} {s} {out2} h y p q =
-      let n : m .count - 0 ≡ m .count = omega arith in
-      let k : take (m .count - 0) (drop 0 buf2) ≡ gatherOf (stateOf (c .mark) buf) part .kept .bytes =
-      ap (λ (i : ℕ). take i (drop 0 buf2)) n ∙ ap (λ (x : Kept). x .bytes) (g .0) in
+      let i : m .count - 0 ≡ m .count = omega arith in
+      let k : take (m .count - 0) (drop 0 buf2) ≡ gatherOf (linesOf (c .opened)) (stateOf (c .mark) buf) part .kept .bytes =
+      ap (λ (j : ℕ). take j (drop 0 buf2)) i ∙ ap (λ (x : Kept). x .bytes) (g .0) in
       record {
         shut = λ w. absurd (true≢false (sym w ∙ e));
         left = λ w. g .1;
-        kept = λ w v. absurd (omega (arith, lines-are));
+        kept = λ w v. absurd (omega (arith, n, lines-are));
         whole = λ w v. (
           rw (y .0, y .1, y .2),
           p ∙ ap (λ (x : List ℕ). stepOf (c .opened) (c .table) x out) k,

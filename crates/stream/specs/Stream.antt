@@ -8,7 +8,7 @@ use lib.ListN.{length, take, drop}
 use lib.Dec.{eqb, ltb, leb}
 use Rattle.laws.specs.Tests.{pick}
 use Rattle.table.specs.declared.table.Table.{Table}
-use Rattle.text.specs.TableSheet.{sheetOf}
+use Rattle.text.specs.TableSheet.{sheetLines, sheetOf}
 use Rattle.text.specs.declared.sheet.Opening.{Opening}
 use Rattle.text.specs.declared.sheet.Opening.the-variants.{Read, Bad}
 use Rattle.desk.specs.Desk.{judgedOf, blockBytes, answeredOf}
@@ -40,20 +40,24 @@ pub record Gathered : Type 0 where
   pub kept : Kept
   pub left : List ℕ
 
--- up to the fifth LF, or all
-abbrev pub gatherOf : Kept → List ℕ → Gathered
-gatherOf k [] = record { kept = k; left = [] }
-gatherOf k (b ∷ bs) = pick (leb 5 (keepOf k b .lines)) (record { kept = keepOf k b; left = bs }) (gatherOf (keepOf k b) bs)
+-- how many lines are read together: before the sheet was read the sheet's, then a block's five
+abbrev pub linesOf : Bool → ℕ
+linesOf opened = pick opened 5 sheetLines
+
+-- up to the LF of the last of so many lines, or all
+abbrev pub gatherOf : ℕ → Kept → List ℕ → Gathered
+gatherOf want k [] = record { kept = k; left = [] }
+gatherOf want k (b ∷ bs) = pick (leb want (keepOf k b .lines)) (record { kept = keepOf k b; left = bs }) (gatherOf want (keepOf k b) bs)
 
 abbrev pub stateOf : Mark → List ℕ → Kept
 stateOf m buf = record { bytes = take (m .count) buf; lines = m .lines; width = m .width }
 
--- what is kept fits into 170 bytes
+-- what is kept fits into 204 bytes: the sheet's lines, each with 33 bytes and its LF
 pub record Room (m : Mark) : Type 0 where
   pub count : m .count ≤ m .lines * 34 + m .width
   pub width : m .width ≤ 33
-  pub lines : m .lines ≤ 5
-  pub most : m .count ≤ 170
+  pub lines : m .lines ≤ sheetLines
+  pub most : m .count ≤ 204
 
 -- the answers of a table to bytes that come one by one, and at the close to what is left of an unfinished block
 abbrev pub streamFrom : Table → Kept → List ℕ → List ℕ
@@ -63,7 +67,7 @@ streamFrom t k (b ∷ bs) =
     (blockBytes t (keepOf k b .bytes) ++ streamFrom (judgedOf t (keepOf k b .bytes) .table) nothing bs)
     (streamFrom t (keepOf k b) bs)
 
--- what five whole lines do: before the sheet was read they are the sheet, then a block
+-- what whole lines do: before the sheet was read they are the sheet, then a block
 abbrev pub stepFrom : Opening → Table → List ℕ → Step
 stepFrom (Read s) t out = record { opened = true; shut = false; table = freshTable s; written = 0 }
 stepFrom Bad t out = record { opened = false; shut = true; table = t; written = length (fitting eleven (length out)) }
@@ -85,30 +89,30 @@ stepBytes opened t block = pick opened (blockBytes t block) (openingBytes (sheet
 pub record Held (c : Clerk) : Type 0 where
   pub sound : Sound (c .table)
   pub room : Room (c .mark)
-  pub lines : c .mark .lines < 5
+  pub lines : c .mark .lines < linesOf (c .opened)
 
 -- before the first byte: nothing is read and nothing kept; the table is a stand-in until the sheet is read
 abbrev pub startOf : Clerk
 startOf = record {
   opened = false;
   shut = false;
-  table = freshTable (record { seats = 2; small = 1; big = 1; rate = 0; cap = 0 });
+  table = freshTable (record { seats = 2; small = 1; big = 1; rate = 0; cap = 0; step = 1 });
   mark = record { count = 0; lines = 0; width = 0 };
 }
 
--- what feeding a part does: a clerk whose sheet was bad does nothing more; else the part's bytes are kept up to the block's fifth LF, and then the
--- five lines are answered and nothing is kept
+-- what feeding a part does: a clerk whose sheet was bad does nothing more; else the part's bytes are kept up to the last LF of the sheet or of a block,
+-- and then these lines are answered and nothing is kept
 pub record FedAs (c : Clerk) (buf part out buf2 out2 : List ℕ) (r : Fed) : Type 0 where
   pub shut : c .shut ≡ true → (r .clerk ≡ c) × (r .written ≡ 0) × (out2 ≡ out)
-  pub left : c .shut ≡ false → drop (r .used) part ≡ gatherOf (stateOf (c .mark) buf) part .left
-  pub kept : c .shut ≡ false → gatherOf (stateOf (c .mark) buf) part .kept .lines < 5
-      → (stateOf (r .clerk .mark) buf2 ≡ gatherOf (stateOf (c .mark) buf) part .kept)
+  pub left : c .shut ≡ false → drop (r .used) part ≡ gatherOf (linesOf (c .opened)) (stateOf (c .mark) buf) part .left
+  pub kept : c .shut ≡ false → gatherOf (linesOf (c .opened)) (stateOf (c .mark) buf) part .kept .lines < linesOf (c .opened)
+      → (stateOf (r .clerk .mark) buf2 ≡ gatherOf (linesOf (c .opened)) (stateOf (c .mark) buf) part .kept)
       × (r .clerk .opened ≡ c .opened) × (r .clerk .shut ≡ false) × (r .clerk .table ≡ c .table) × (r .written ≡ 0) × (out2 ≡ out)
-  pub whole : c .shut ≡ false → 5 ≤ gatherOf (stateOf (c .mark) buf) part .kept .lines
+  pub whole : c .shut ≡ false → linesOf (c .opened) ≤ gatherOf (linesOf (c .opened)) (stateOf (c .mark) buf) part .kept .lines
       → (stateOf (r .clerk .mark) buf2 ≡ nothing)
       × (_≡_ {A = Step} (record { opened = r .clerk .opened; shut = r .clerk .shut; table = r .clerk .table; written = r .written })
-      (stepOf (c .opened) (c .table) (gatherOf (stateOf (c .mark) buf) part .kept .bytes) out))
-      × (out2 ≡ sheetAfter (stepBytes (c .opened) (c .table) (gatherOf (stateOf (c .mark) buf) part .kept .bytes)) out)
+      (stepOf (c .opened) (c .table) (gatherOf (linesOf (c .opened)) (stateOf (c .mark) buf) part .kept .bytes) out))
+      × (out2 ≡ sheetAfter (stepBytes (c .opened) (c .table) (gatherOf (linesOf (c .opened)) (stateOf (c .mark) buf) part .kept .bytes)) out)
 
 -- the output for bytes that come one by one: the sheet first, and at the close a sheet that is not whole is bad
 abbrev pub openedFrom : Opening → List ℕ → List ℕ
@@ -117,7 +121,7 @@ openedFrom Bad bs = eleven
 
 abbrev pub bytewise : Kept → List ℕ → List ℕ
 bytewise k [] = eleven
-bytewise k (b ∷ bs) = pick (leb 5 (keepOf k b .lines)) (openedFrom (sheetOf (keepOf k b .bytes)) bs) (bytewise (keepOf k b) bs)
+bytewise k (b ∷ bs) = pick (leb sheetLines (keepOf k b .lines)) (openedFrom (sheetOf (keepOf k b .bytes)) bs) (bytewise (keepOf k b) bs)
 
 -- what the clerk writes at the close
 unfoldable pub closeBytes : Clerk → List ℕ → List ℕ

@@ -1,18 +1,20 @@
-// A log that comes in parts: the unfinished block is kept, each line cut after 33 bytes, and answered at its fifth LF.
+// A log that comes in parts: the unfinished sheet or block is kept, each line cut after 33 bytes, and answered at its last LF.
 use desk::answer;
 use desk::log::refuse_sheet;
 use paper::Sheet;
 use table::table::Table;
 use table::take::new_table;
+use text::sheet::LINES;
 use text::sheet::Opening;
 use text::sheet::read_sheet;
 ghost use mathlib.Core.Path.{_≡_};
 ghost use Prim.Native.Nat.{ℕ, _+_, _-_, _*_, _≤_, _<_};
 ghost use lib.ListN.{length, take, drop};
 ghost use Rattle.text.specs.Sheet.{sheetAfter, Wrote};
+ghost use Rattle.text.specs.TableSheet.{sheetLines};
 ghost use Rattle.desk.specs.Log.{fitting};
 ghost use Rattle.table.specs.Take.{Sound};
-ghost use Rattle.stream.specs.Stream.{stateOf, keepOf, gatherOf, Room, Held, FedAs, startOf, stepOf, stepBytes, closeBytes};
+ghost use Rattle.stream.specs.Stream.{linesOf, stateOf, keepOf, gatherOf, Room, Held, FedAs, startOf, stepOf, stepBytes, closeBytes};
 
 // How much is kept: its bytes, its LFs, and the bytes of the line that is not ended.
 pub struct Mark {
@@ -23,7 +25,7 @@ pub struct Mark {
 
 // One byte more.
 fn keep(buf: &mut [u8], m: Mark, b: u8) -> Mark
-    requires { ⌜ Room m × (m .lines < 5) × (170 ≤ length (now buf)) ⌝ }
+    requires { ⌜ Room m × (m .lines < sheetLines) × (204 ≤ length (now buf)) ⌝ }
     ensures { λ r. ⌜ (stateOf r (now (buf .exit)) ≡ keepOf (stateOf m (now (buf .entry))) b) × Room r ⌝ }
 {
     let at = m.count;
@@ -51,10 +53,17 @@ pub struct Got {
     pub used: usize,
 }
 
-// The bytes of a part up to the block's fifth LF, or all of them.
-pub fn gather(buf: &mut [u8], m: Mark, part: &[u8]) -> Got
-    requires { ⌜ Room m × (m .lines < 5) × (170 ≤ length (now buf)) ⌝ }
-    ensures kept { λ r. ⌜ (stateOf (r .mark) (now (buf .exit)) ≡ gatherOf (stateOf m (now (buf .entry))) (now (part .entry)) .kept) × (drop (r .used) (now (part .entry)) ≡ gatherOf (stateOf m (now (buf .entry))) (now (part .entry)) .left) ⌝ }
+// How many lines are read together: before the sheet was read the sheet's, then a block's five.
+pub fn lines_of(opened: bool) -> usize
+    ensures { λ r. ⌜ (r ≡ linesOf opened) × (r ≤ sheetLines) ⌝ }
+{
+    if opened { 5 } else { LINES }
+}
+
+// The bytes of a part up to the LF of the last of so many lines, or all of them.
+pub fn gather(buf: &mut [u8], m: Mark, part: &[u8], want: usize) -> Got
+    requires { ⌜ Room m × (m .lines < want) × (want ≤ sheetLines) × (204 ≤ length (now buf)) ⌝ }
+    ensures kept { λ r. ⌜ (stateOf (r .mark) (now (buf .exit)) ≡ gatherOf want (stateOf m (now (buf .entry))) (now (part .entry)) .kept) × (drop (r .used) (now (part .entry)) ≡ gatherOf want (stateOf m (now (buf .entry))) (now (part .entry)) .left) ⌝ }
     ensures room { λ r. ⌜ Room (r .mark) × (r .used ≤ length (now (part .entry))) × (0 < length (now (part .entry)) → 0 < r .used) ⌝ }
 {
     let mut mark = m;
@@ -64,7 +73,7 @@ pub fn gather(buf: &mut [u8], m: Mark, part: &[u8]) -> Got
         mark = keep(buf, mark, b);
         i += 1;
         let n = mark.lines;
-        if 5 <= n {
+        if want <= n {
             return Got { mark, used: i };
         }
     }
@@ -103,7 +112,7 @@ pub struct Step {
     pub written: usize,
 }
 
-// Five whole lines: the sheet, or a block that the table answers.
+// Whole lines: the sheet, or a block that the table answers.
 fn whole(opened: bool, t: Table, block: &[u8], out: &mut [u8]) -> Step
     requires { ⌜ Sound t ⌝ }
     ensures step { λ r. ⌜ r ≡ stepOf opened t (now (block .entry)) (now (out .entry)) ⌝ }
@@ -138,7 +147,7 @@ fn whole(opened: bool, t: Table, block: &[u8], out: &mut [u8]) -> Step
 
 // A part of the log: its bytes up to the end of a block, whose answer is written, or all of them.
 pub fn feed(c: Clerk, buf: &mut [u8], part: &[u8], out: &mut [u8]) -> Fed
-    requires { ⌜ Held c × (170 ≤ length (now buf)) ⌝ }
+    requires { ⌜ Held c × (204 ≤ length (now buf)) ⌝ }
     ensures fed { λ r. ⌜ FedAs c (now (buf .entry)) (now (part .entry)) (now (out .entry)) (now (buf .exit)) (now (out .exit)) r ⌝ }
     ensures held { λ r. ⌜ Held (r .clerk) × (r .used ≤ length (now (part .entry))) × (0 < length (now (part .entry)) → 0 < r .used) × (r .written ≤ length (now (out .entry))) ⌝ }
 {
@@ -151,10 +160,11 @@ pub fn feed(c: Clerk, buf: &mut [u8], part: &[u8], out: &mut [u8]) -> Fed
     }
     let t = c.table;
     let m = c.mark;
-    let g = gather(buf, m, part);
+    let want = lines_of(c.opened);
+    let g = gather(buf, m, part, want);
     let k = g.mark;
     let n = k.lines;
-    if n < 5 {
+    if n < want {
         let d = Clerk {
             opened: c.opened,
             shut: false,
@@ -194,6 +204,7 @@ pub fn start() -> Clerk
         big: 1,
         rate: 0,
         cap: 0,
+        step: 1,
     };
     let t = new_table(s);
     let z = empty();
@@ -207,7 +218,7 @@ pub fn start() -> Clerk
 
 // The end of the log: a sheet that is not whole is bad, and a block that is not whole is malformed.
 pub fn close(c: Clerk, buf: &[u8], out: &mut [u8]) -> usize
-    requires { ⌜ Held c × (170 ≤ length (now buf)) ⌝ }
+    requires { ⌜ Held c × (204 ≤ length (now buf)) ⌝ }
     ensures bytes { λ r. ⌜ Wrote (fitting (closeBytes c (now (buf .entry))) (length (now (out .entry)))) (now (out .entry)) (now (out .exit)) r ⌝ }
     ensures within { λ r. ⌜ r ≤ length (now (out .entry)) ⌝ }
 {

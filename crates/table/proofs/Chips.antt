@@ -28,7 +28,7 @@ use Rattle.table.specs.Betting.{afterAct, isFullLift, foldedTo, checkedT
 use Rattle.table.specs.Sittings.{satTo, leftTo}
 use Rattle.table.specs.Opening.{nextDealtIn, postedTo, openedTo}
 use Rattle.table.specs.Dealing.{heldTo, boardedTo}
-use Rattle.table.specs.Settle.{Payable, settledTo, payoutNow, totalsOf, livesOf, hereOf, scoreOf, scoresOf, dueNow}
+use Rattle.table.specs.Settle.{Payable, settledTo, payoutNow, totalsOf, livesOf, hereOf, scoreOf, scoresOf, dueNow, commissionOf}
 use Rattle.table.specs.Take.{Sound, kindCode, codeOf, appliedTo, nextOf}
 use Rattle.table.specs.Standing.{Cleared, Standing}
 use Rattle.table.specs.Chips.{broughtBy, takenOffBy}
@@ -74,7 +74,7 @@ pub settle-all : (t : Table) → Payable t → sumOf (payoutNow t .paid) + payou
 unfolding payoutNow
 settle-all t h =
     let l = map-length (scoreOf (t .board)) (t .chairs) ∙ sym (map-length (columnOf what.Total) (t .chairs)) in
-    let n = none-lost (totalsOf t) (livesOf t) (scoresOf t) (t .sheet .rate) (t .sheet .cap) (t .play .puck) l (omega (arith, sheet-rate (t .sheet) (h .sheet))) in
+    let n = none-lost (totalsOf t) (livesOf t) (scoresOf t) (commissionOf t) (t .play .puck) l (omega (arith, sheet-rate (t .sheet) (h .sheet))) in
     omega (arith, n, paid-and-unclaimed (dueNow t) (hereOf t))
 
 paid-length : (t : Table) → length (payoutNow t .paid) ≡ length (t .chairs)
@@ -82,7 +82,7 @@ unfolding payoutNow
 paid-length t =
     live-length (dueNow t) (hereOf t)
     ∙ plus-length _ (map (returnedOf (totalsOf t) (livesOf t)) (totalsOf t))
-    ∙ won-length (scoresOf t) (t .sheet .rate) (t .play .puck) (t .sheet .cap) (potsOf (totalsOf t) (livesOf t))
+    ∙ won-length (scoresOf t) (commissionOf t) (t .play .puck) (t .sheet .cap) (potsOf (totalsOf t) (livesOf t))
     ∙ map-length (scoreOf (t .board)) (t .chairs)
 
 -- ---- entries

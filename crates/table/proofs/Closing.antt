@@ -22,7 +22,7 @@ use Rattle.table.specs.Betting.{afterAct, isFullLift, foldedTo, checkedT
 use Rattle.table.specs.Sittings.{satTo, leftTo}
 use Rattle.table.specs.Opening.{nextDealtIn, openedTo, postedTo}
 use Rattle.table.specs.Dealing.{heldTo, boardedTo}
-use Rattle.table.specs.Settle.{settledTo, payoutNow, totalsOf, livesOf, hereOf, scoreOf, scoresOf, dueNow}
+use Rattle.table.specs.Settle.{settledTo, payoutNow, totalsOf, livesOf, hereOf, scoreOf, scoresOf, commissionOf, dueNow}
 use Rattle.table.specs.Take.{appliedTo}
 use Rattle.table.specs.Standing.{ChairOk}
 use Rattle.table.specs.declared.table.Table.{Table}
@@ -71,7 +71,7 @@ pub due-reach : (t : Table) (i : ℕ) → length (t .chairs) ≡ 10 → t .play 
 due-reach t i n k l =
     let lt = map-length (columnOf what.Total) (t .chairs) in
     let ls = map-length (scoreOf (t .board)) (t .chairs) in
-    due-at-most (totalsOf t) (livesOf t) (scoresOf t) (t .sheet .rate) (t .sheet .cap) (t .play .puck) i (ls ∙ sym lt) (omega arith) (omega arith)
+    due-at-most (totalsOf t) (livesOf t) (scoresOf t) (commissionOf t) (t .play .puck) i (ls ∙ sym lt) (omega arith) (omega arith)
 
 -- nothing is due to a seat where nobody was dealt in, and nothing paid where the sitting dealt in has left
 pub paid-none : (t : Table) (i : ℕ) → All ChairOk (t .chairs) → length (t .chairs) ≡ 10 → t .play .puck ≤ 10 → i < 10 → getD (t .chairs) i noChair .sitting ≡ 0 → getD (payoutNow t .paid) i 0 ≡ 0

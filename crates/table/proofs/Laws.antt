@@ -15,11 +15,12 @@ use Rattle.paper.proofs.Codes.{or-zero, when-zero}
 use Rattle.laws.proofs.Tests.{either-false, both-true}
 use Rattle.paper.specs.declared.Sheet.{Sheet}
 use Rattle.laws.specs.Lists.{sumOf}
+use Rattle.pots.specs.declared.Commission.{Commission}
 use Rattle.pots.specs.Hand.{feeOfHand, dueOf, paidOf, unclaimedOf}
 use Rattle.pots.proofs.Hands.{none-lost, map-length, paid-and-unclaimed, at-most-sum}
 use Rattle.cards.specs.Order.{places, bestOf, strengthBy}
 use Rattle.cards.proofs.Spelled.{strength-small}
-use Rattle.table.specs.Settle.{Payable, totalsOf, livesOf, hereOf, isShown, handScore, scoreOf, scoresOf, dueNow, payoutNow}
+use Rattle.table.specs.Settle.{Payable, totalsOf, livesOf, hereOf, isShown, handScore, scoreOf, scoresOf, dueNow, commissionOf, payoutNow}
 use Rattle.table.specs.declared.table.Board.{Board}
 use Rattle.table.specs.declared.table.Payout.{Payout}
 use Rattle.chairs.specs.Chairs.{firstOf, chipsOf, wantOf, clockwise, columnOf, noChair, paidOf as paysOf}
@@ -80,19 +81,23 @@ unfolding sumOf
 totals-within [] = omega arith
 totals-within (c ∷ cs) = omega (arith, totals-within cs)
 
--- what is used of a good sheet: the bounds of its seats, big and rate
-sheet-bounds : (s : Sheet) → isSheet s ≡ true → (s .seats ≤ 10) × (s .big ≤ 10000) × (s .rate ≤ 100)
+-- what is used of a good sheet: the bounds of its seats, big, rate and step
+sheet-bounds : (s : Sheet) → isSheet s ≡ true → (s .seats ≤ 10) × (s .big ≤ 10000) × (s .rate ≤ 100) × (1 ≤ s .step)
 unfolding isSheet
 sheet-bounds s h =
     let big = both (leb (s .small) (s .big)) (leb (s .big) 10000) in
     let blinds = both (leb 1 (s .small)) big in
-    let rest = both (leb (s .rate) 100) (leb (s .cap) 1000000) in
+    let steps = both (leb 1 (s .step)) (leb (s .step) 1000) in
+    let charge = both (leb (s .cap) 1000000) steps in
+    let rest = both (leb (s .rate) 100) charge in
     let p = both-true (both (leb 2 (s .seats)) (leb (s .seats) 10)) (both blinds rest) h in
     let q = both-true blinds rest (p .1) in
-    let r = both-true (leb 1 (s .small)) big (q .0) in (
+    let r = both-true (leb 1 (s .small)) big (q .0) in
+    let c = both-true (leb (s .rate) 100) charge (q .1) in (
       leb-true (s .seats) 10 (both-true (leb 2 (s .seats)) (leb (s .seats) 10) (p .0) .1),
       leb-true (s .big) 10000 (both-true (leb (s .small) (s .big)) (leb (s .big) 10000) (r .1) .1),
-      leb-true (s .rate) 100 (both-true (leb (s .rate) 100) (leb (s .cap) 1000000) (q .1) .0),
+      leb-true (s .rate) 100 (c .0),
+      leb-true 1 (s .step) (both-true (leb 1 (s .step)) (leb (s .step) 1000) (both-true (leb (s .cap) 1000000) steps (c .1) .1) .0),
     )
 
 pub sheet-seats : (s : Sheet) → isSheet s ≡ true → s .seats ≤ 10
@@ -103,6 +108,9 @@ sheet-big s h = sheet-bounds s h .1
 
 pub sheet-rate : (s : Sheet) → isSheet s ≡ true → s .rate ≤ 100
 sheet-rate s h = sheet-bounds s h .2
+
+pub sheet-step : (s : Sheet) → isSheet s ≡ true → 1 ≤ s .step
+sheet-step s h = sheet-bounds s h .3
 
 -- ---- what a settle pays
 score-small : (b : Board) (c : Chair) → scoreOf b c ≤ 100000000
@@ -121,29 +129,29 @@ score-at b (c ∷ cs) (suc i) = score-at b cs i
 pub scores-within : (b : Board) (cs : List Chair) (xs : List ℕ) → xs ≡ map (scoreOf b) cs → (i : ℕ) → getD xs i 0 ≤ 100000000
 scores-within b cs xs e i = rw e (score-at b cs i)
 
-due-within : (ts : List ℕ) (live : ℕ) (scores : List ℕ) (rate cap puck : ℕ) → length scores ≡ length ts → rate ≤ 1000 → sumOf (dueOf ts live scores rate cap puck) ≤ sumOf ts
-due-within ts live scores rate cap puck l r = omega (arith, none-lost ts live scores rate cap puck l r)
+due-within : (ts : List ℕ) (live : ℕ) (scores : List ℕ) (rule : Commission) (puck : ℕ) → length scores ≡ length ts → rule .rate ≤ 1000 → sumOf (dueOf ts live scores rule puck) ≤ sumOf ts
+due-within ts live scores rule puck l r = omega (arith, none-lost ts live scores rule puck l r)
 
 -- what all are due is at most what all have put in
 pub due-totals : (t : Table) → Payable t → sumOf (dueNow t) ≤ sumOf (totalsOf t)
 due-totals t h =
-    due-within (totalsOf t) (livesOf t) (scoresOf t) (t .sheet .rate) (t .sheet .cap) (t .play .puck)
+    due-within (totalsOf t) (livesOf t) (scoresOf t) (commissionOf t) (t .play .puck)
     (map-length (scoreOf (t .board)) (t .chairs) ∙ sym (map-length (columnOf what.Total) (t .chairs)))
     (omega (arith, sheet-rate (t .sheet) (h .sheet)))
 
 pub due-small : (t : Table) → Payable t → sumOf (dueNow t) ≤ 100000000
 due-small t h = omega (arith, due-totals t h, totals-within (t .chairs), h .chips)
 
-module _ (t : Table) (ts sc due paid sits : List ℕ) (lv hr fee un : ℕ) (ts-is : ts ≡ totalsOf t) (lv-is : lv ≡ livesOf t) (sc-is : sc ≡ scoresOf t)
-    (due-is : due ≡ dueOf ts lv sc (t .sheet .rate) (t .sheet .cap) (t .play .puck)) where
+module _ (t : Table) (ts sc due paid sits : List ℕ) (lv hr fee un : ℕ) (rule : Commission) (ts-is : ts ≡ totalsOf t) (lv-is : lv ≡ livesOf t) (sc-is : sc ≡ scoresOf t)
+    (rule-is : rule ≡ commissionOf t) (due-is : due ≡ dueOf ts lv sc rule (t .play .puck)) where
   pub due-now : due ≡ dueNow t
-  due-now = rw (ts-is, lv-is, sc-is) at due-is
+  due-now = rw (ts-is, lv-is, sc-is, rule-is) at due-is
 
-  pub payout-is : fee ≡ feeOfHand ts lv (t .sheet .rate) (t .sheet .cap) → hr ≡ hereOf t → paid ≡ paidOf due hr → un ≡ unclaimedOf due hr → sits ≡ map (columnOf what.Sitting) (t .chairs)
+  pub payout-is : fee ≡ feeOfHand ts lv rule → hr ≡ hereOf t → paid ≡ paidOf due hr → un ≡ unclaimedOf due hr → sits ≡ map (columnOf what.Sitting) (t .chairs)
       → _≡_ {A = Payout} (record { settled = true; fee = fee; paid = paid; sittings = sits; unclaimed = un }) (payoutNow t)
   unfolding payoutNow
   payout-is fee-is hr-is paid-is un-is sits-is =
-      let f = rw (ts-is, lv-is) at fee-is in
+      let f = rw (ts-is, lv-is, rule-is) at fee-is in
       let p = rw (due-now, hr-is) at paid-is in
       let u = rw (due-now, hr-is) at un-is in
       rw (f, p, u, sits-is)

@@ -13,6 +13,7 @@ use Rattle.pots.specs.Heights.{maskAt, backOf}
 use Rattle.pots.specs.Runs.{potsOf}
 use Rattle.pots.specs.Hand.{feeOfHand, dueOf, paidOf, unclaimedOf}
 use Rattle.pots.specs.declared.Pot.{Pot}
+use Rattle.pots.specs.declared.Commission.{Commission}
 use Rattle.chairs.specs.Chairs.{countOf, wantOf, columnOf, chipsOf, closeAll}
 use Rattle.chairs.specs.declared.Chair.{Chair}
 use Rattle.chairs.specs.declared.Who.the-variants.{Bare}
@@ -63,15 +64,19 @@ scoreOf b c = pick (isShown c) (handScore b c) 0
 abbrev pub scoresOf : Table → List ℕ
 scoresOf t = map (scoreOf (t .board)) (t .chairs)
 
+-- what the commission of the open hand goes by: the sheet's lines, and "the count of board cards"
+abbrev pub commissionOf : Table → Commission
+commissionOf t = record { rate = t .sheet .rate; cap = t .sheet .cap; step = t .sheet .step; board = t .board .count }
+
 -- what the sitting dealt in at each seat is due: its part of the pots less commission, and its returned chips
 abbrev pub dueNow : Table → List ℕ
-dueNow t = dueOf (totalsOf t) (livesOf t) (scoresOf t) (t .sheet .rate) (t .sheet .cap) (t .play .puck)
+dueNow t = dueOf (totalsOf t) (livesOf t) (scoresOf t) (commissionOf t) (t .play .puck)
 
 -- what a settle pays: to a sitting that left 0, and what it is due is unclaimed
 unfoldable pub payoutNow : Table → Payout
 payoutNow t = record {
   settled = true;
-  fee = feeOfHand (totalsOf t) (livesOf t) (t .sheet .rate) (t .sheet .cap);
+  fee = feeOfHand (totalsOf t) (livesOf t) (commissionOf t);
   paid = paidOf (dueNow t) (hereOf t);
   sittings = map (columnOf what.Sitting) (t .chairs);
   unclaimed = unclaimedOf (dueNow t) (hereOf t);

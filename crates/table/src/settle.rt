@@ -12,6 +12,7 @@ use laws::both;
 use laws::either;
 use paper::or_else;
 use paper::when;
+use pots::Commission;
 use pots::Stands;
 ghost use mathlib.Core.Path.{_≡_};
 ghost use mathlib.Core.List.{map};
@@ -19,7 +20,7 @@ ghost use Prim.Native.Nat.{_+_, _-_, _≤_, _<_};
 ghost use lib.ListN.{length};
 ghost use Rattle.chairs.specs.Chairs.{chipsOf, closeAll};
 ghost use Rattle.pots.specs.Runs.{padded};
-ghost use Rattle.table.specs.Settle.{Payable, settleCode, totalsOf, livesOf, hereOf, handScore, scoreOf, potsNow, backNow, payoutNow, settledTo, closedPlay, noPayout};
+ghost use Rattle.table.specs.Settle.{Payable, settleCode, totalsOf, livesOf, hereOf, handScore, scoreOf, potsNow, backNow, commissionOf, payoutNow, settledTo, closedPlay, noPayout};
 ghost use Rattle.table.specs.Standing.{Standing};
 
 // The table after an entry that is taken, and what it pays.
@@ -98,6 +99,18 @@ fn scores(b: Board, cs: [Chair; 10]) -> [u32; 10]
     a
 }
 
+// What the commission of the open hand goes by.
+fn commission(t: Table) -> Commission
+    ensures { λ r. ⌜ r ≡ commissionOf t ⌝ }
+{
+    Commission {
+        rate: t.sheet.rate,
+        cap: t.sheet.cap,
+        step: t.sheet.step,
+        board: t.board.count as u32,
+    }
+}
+
 // What a settle pays.
 fn payout(t: Table) -> Payout
     requires { ⌜ Payable t ⌝ }
@@ -107,14 +120,7 @@ fn payout(t: Table) -> Payout
     let b = t.board;
     let sc = scores(b, cs);
     let puck = t.play.puck as usize;
-    let s = pots::hand::settle_hand(
-        totals(t),
-        live_seats(t),
-        sc,
-        t.sheet.rate,
-        t.sheet.cap,
-        puck,
-    );
+    let s = pots::hand::settle_hand(totals(t), live_seats(t), sc, commission(t), puck);
     let due = s.due;
     let p = pots::hand::pay_out(due, here_seats(t));
     let paid = p.paid;

@@ -86,6 +86,7 @@ pub record InRange (s : Sheet) : Type 0 where
   pub big : (s .small ≤ s .big) × (s .big ≤ 10000)
   pub rate : s .rate ≤ 100
   pub cap : s .cap ≤ 1000000
+  pub step : (1 ≤ s .step) × (s .step ≤ 1000)
 
 pub sheet-ranged : (l : List ℕ) (s : Sheet) → sheetOf l ≡ opening.Read s → InRange s
 unfolding sheetOf sheetWith
@@ -104,6 +105,7 @@ sheet-ranged l s e = go (both (allGood sheetLines l) (leb (valueIn (sheetNumber 
           big = (leb-true _ _ (p .1), each 2 (omega arith) .1);
           rate = each 3 (omega arith) .1;
           cap = each 4 (omega arith) .1;
+          step = each 5 (omega arith);
         } in
         rw m at r
 
@@ -112,7 +114,7 @@ pub sheet-is : (l : List ℕ) (s : Sheet) → sheetOf l ≡ opening.Read s → i
 unfolding isSheet
 sheet-is l s e =
     let r = sheet-ranged l s e in
-    rw (le-leb 2 (s .seats) (r .seats .0), le-leb (s .seats) 10 (r .seats .1), le-leb 1 (s .small) (r .small .0), le-leb (s .small) (s .big) (r .big .0), le-leb (s .big) 10000 (r .big .1), le-leb (s .rate) 100 (r .rate), le-leb (s .cap) 1000000 (r .cap))
+    rw (le-leb 2 (s .seats) (r .seats .0), le-leb (s .seats) 10 (r .seats .1), le-leb 1 (s .small) (r .small .0), le-leb (s .small) (s .big) (r .big .0), le-leb (s .big) 10000 (r .big .1), le-leb (s .rate) 100 (r .rate), le-leb (s .cap) 1000000 (r .cap), le-leb 1 (s .step) (r .step .0), le-leb (s .step) 1000 (r .step .1))
 
 -- and each number of a good sheet is in its range
 pub good-ranged : (s : Sheet) → isSheet s ≡ true → InRange s
@@ -120,19 +122,22 @@ unfolding isSheet
 good-ranged s h =
     let seats = between 2 10 (s .seats) in
     let blinds = both (leb 1 (s .small)) (both (leb (s .small) (s .big)) (leb (s .big) 10000)) in
-    let fees = both (leb (s .rate) 100) (leb (s .cap) 1000000) in
+    let most = both (leb (s .cap) 1000000) (between 1 1000 (s .step)) in
+    let fees = both (leb (s .rate) 100) most in
     let p = both-true seats (both blinds fees) h in
     let q = both-true blinds fees (p .1) in
     let b = both-true (leb 1 (s .small)) (both (leb (s .small) (s .big)) (leb (s .big) 10000)) (q .0) in
     let c = both-true (leb (s .small) (s .big)) (leb (s .big) 10000) (b .1) in
-    let f = both-true (leb (s .rate) 100) (leb (s .cap) 1000000) (q .1) in
+    let f = both-true (leb (s .rate) 100) most (q .1) in
+    let g = both-true (leb (s .cap) 1000000) (between 1 1000 (s .step)) (f .1) in
     let least : 1 ≤ s .small = leb-true _ _ (b .0) in
     let order : s .small ≤ s .big = leb-true _ _ (c .0) in
-    let most : s .big ≤ 10000 = leb-true _ _ (c .1) in
+    let high : s .big ≤ 10000 = leb-true _ _ (c .1) in
     record {
       seats = between-in 2 10 (s .seats) (p .0);
       small = (least, omega arith);
-      big = (order, most);
+      big = (order, high);
       rate = leb-true _ _ (f .0);
-      cap = leb-true _ _ (f .1);
+      cap = leb-true _ _ (g .0);
+      step = between-in 1 1000 (s .step) (g .1);
     }

@@ -1,4 +1,5 @@
 -- Document 01, "The table sheet and the entries": "The sheet comes first: seats (2 to 10), small, big (1 ≤ small ≤ big ≤ 10,000), rate (0 to 100, thousandths), cap (0 to 1,000,000)."
+-- Request No. 3: "the room's smallest chip, a sixth sheet line step (1 to 1,000)".
 -- Refusal 11: "a sheet line is missing, malformed or out of its range".
 use Prim.Native.Nat.{ℕ, zero, suc}
 use mathlib.Core.List.{List, [], _∷_, map}
@@ -37,6 +38,8 @@ sheetTable =
     ∷ line (114 ∷ 97 ∷ 116 ∷ 101 ∷ []) 0 100
     -- cap
     ∷ line (99 ∷ 97 ∷ 112 ∷ []) 0 1_000_000
+    -- step
+    ∷ line (115 ∷ 116 ∷ 101 ∷ 112 ∷ []) 1 1_000
     ∷ []
 
 -- how many lines a sheet has
@@ -82,6 +85,7 @@ sheetWith log = record {
   big = valueIn (sheetNumber 2 log);
   rate = valueIn (sheetNumber 3 log);
   cap = valueIn (sheetNumber 4 log);
+  step = valueIn (sheetNumber 5 log);
 }
 
 -- the sheet at the front of a log: each of its lines is good, and small is at most big

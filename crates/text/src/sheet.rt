@@ -20,7 +20,7 @@ pub enum Opening {
 }
 
 // How many lines a sheet has.
-const LINES: usize = 5;
+pub const LINES: usize = 6;
 
 // A line of the sheet: the letters of its key and how many they are, and the least and the greatest number that it may have.
 struct SheetLine {
@@ -60,6 +60,12 @@ const TABLE: [SheetLine; LINES] = [
         letters: 3,
         least: 0,
         most: 1000000,
+    },
+    SheetLine {
+        key: *b"step ",
+        letters: 4,
+        least: 1,
+        most: 1000,
     },
 ];
 
@@ -141,6 +147,7 @@ fn sheet_with(log: &[u8]) -> Sheet
         big: value_at(log, 2),
         rate: value_at(log, 3),
         cap: value_at(log, 4),
+        step: value_at(log, 5),
     }
 }
 

@@ -1,6 +1,6 @@
-//! Lines `seats puck rate cap  totals  live  strengths  present` in, one line
-//! with pots, back, fee, due, paid and unclaimed out. A line of another length
-//! or with a word that is no number is answered by `2`.
+//! Lines `seats puck rate cap step board  totals  live  strengths  present` in, one line
+//! with pots, back, fee, due, paid and unclaimed out. A line of another length,
+//! with a step of 0 or with a word that is no number is answered by `2`.
 
 use second::pots::{literally, Commission, Pots, Shares, Stake};
 use std::io::{self, BufRead, BufWriter, Write};
@@ -26,9 +26,9 @@ fn main() -> io::Result<()> {
 fn case(line: &str) -> Option<Case> {
     let words = line.split_ascii_whitespace();
     let numbers: Vec<u64> = words.map(|word| word.parse().ok()).collect::<Option<_>>()?;
-    let [seats, puck, rate, cap, lists @ ..] = numbers.as_slice() else { return None };
-    let seats = *seats as usize;
-    if !(2..=10).contains(&seats) || lists.len() != 4 * seats {
+    let [seats, puck, rate, cap, step, board, ref lists @ ..] = *numbers else { return None };
+    let (seats, board_cards) = (seats as usize, board as usize);
+    if !(2..=10).contains(&seats) || lists.len() != 4 * seats || step == 0 {
         return None;
     }
     // Seat s stands at place s of each list; place 0 is filled up with 0.
@@ -38,8 +38,8 @@ fn case(line: &str) -> Option<Case> {
     };
     let stakes = list(0).zip(list(1)).map(|(total, live)| Stake { total, live: live == 1 });
     Some(Case {
-        puck: *puck as usize,
-        commission: Commission { rate: *rate, cap: *cap },
+        puck: puck as usize,
+        commission: Commission { rate, cap, step, board_cards },
         stakes: stakes.collect(),
         strengths: list(2).collect(),
         present: list(3).map(|present| present == 1).collect(),

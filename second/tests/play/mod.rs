@@ -5,9 +5,9 @@ use second::pots::literally;
 use second::table::Table;
 use second::text::sheet;
 
-pub fn sheet_text(numbers: [u64; 5]) -> String {
-    let [seats, small, big, rate, cap] = numbers;
-    format!("seats={seats}\nsmall={small}\nbig={big}\nrate={rate}\ncap={cap}\n")
+pub fn sheet_text(numbers: [u64; 6]) -> String {
+    let [seats, small, big, rate, cap, step] = numbers;
+    format!("seats={seats}\nsmall={small}\nbig={big}\nrate={rate}\ncap={cap}\nstep={step}\n")
 }
 
 pub fn block(n: u64, entry: &str) -> String {
@@ -21,7 +21,7 @@ pub struct Play {
 }
 
 impl Play {
-    pub fn new(numbers: [u64; 5]) -> Play {
+    pub fn new(numbers: [u64; 6]) -> Play {
         let sheet = sheet(sheet_text(numbers).as_bytes()).expect("a good sheet");
         Play { table: Table::new(sheet, literally) }
     }

@@ -1,4 +1,4 @@
-use Rattle.stream.proofs.Steps.{fed-shut, fed-kept, fed-whole}
+use Rattle.stream.proofs.Steps.{lines-some, fed-shut, fed-kept, fed-whole}
 use native.Mathlib.Omega.{arith}
 use borrow.Author.Needs.{needs}
 use Rattle.stream.proofs.feed.Statement.{statement}
@@ -8,15 +8,26 @@ returns : tie.Need-returns
 returns c =
     (fed-shut ((c .before .before .before .before) .args .c) ((c .before .before .before .before) .args .buf .now) ((c .before .before .before .before) .args .part .now) ((c .before .before .before .before) .args .out .now) (c .if1 .taken), search needs)
 
+lines-of-requires : tie.Need-lines-of-requires
+lines-of-requires c κs = search needs
+
 gather-requires : tie.Need-gather-requires
-gather-requires c κs = search needs
+gather-requires c κs =
+    let h = c .before .before .before .before .before .before .before .before .pre in
+    let w = c .before .lines-of .ensures in
+    (h .0 .room, omega (arith, h .0 .lines, w .0), w .1, h .1)
 
 same-length : tie.Need-same-length
 same-length c = search needs
 
 returns-2 : tie.Need-returns-2
 returns-2 c =
-    (fed-kept ((c .before .before .before .before .before .before .before .before .before .before .before .before) .args .c) ((c .before .before .before .before .before .before .before .before .before .before .before .before) .args .buf .now) ((c .before .before .before .before .before .before .before .before .before .before .before .before) .args .part .now) ((c .before .before .before .before .before .before .before .before .before .before .before .before) .args .out .now) _ (c .before .before .before .before .gather .result .mark) (c .before .before .before .before .gather .result .used) (c .before .before .before .before .before .before .before .before .if1 .left) (c .before .before .before .before .gather .ensures .0) (omega arith), search needs)
+    let s = c .before .before .before .before .before .before .before .before .before .before .before .before .before in
+    let g = c .before .before .before .before .gather in
+    let w = c .before .before .before .before .before .before .lines-of .ensures in (
+      fed-kept (s .args .c) (s .args .buf .now) (s .args .part .now) (s .args .out .now) _ (g .result .mark) (g .result .used) _ (c .before .before .before .before .before .before .before .before .before .if1 .left) (w .0) (g .ensures .0) (c .if2 .taken),
+      (record { sound = s .pre .0 .sound; room = g .ensures .1 .0; lines = omega (arith, w .0, c .if2 .taken) }, g .ensures .1 .1, g .ensures .1 .2, omega arith),
+    )
 
 sub-whole : tie.Need-sub-whole
 sub-whole c = search needs
@@ -40,21 +51,27 @@ same-length-3 : tie.Need-same-length-3
 same-length-3 c = search needs
 
 returns-3 : tie.Need-returns-3
-returns-3 c = (
-  fed-whole ((c .before .before .before .before .before .before .before .before .before .before .before .before .before .before .before .before .before .before .before .before) .args .c) ((c .before .before .before .before .before .before .before .before .before .before .before .before .before .before .before .before .before .before .before .before) .args .buf .now) ((c .before .before .before .before .before .before .before .before .before .before .before .before .before .before .before .before .before .before .before .before) .args .part .now) ((c .before .before .before .before .before .before .before .before .before .before .before .before .before .before .before .before .before .before .before .before) .args .out .now) _ (c .before .before .before .before .before .before .before .before .before .before .before .before .gather .result .mark) (c .before .before .before .before .before .before .before .before .before .before .before .before .gather .result .used) (c .before .before .before .before .before .before .before .before .before .before .before .before .before .before .before .before .if1 .left) (c .before .before .before .before .before .before .before .before .before .before .before .before .gather .ensures .0) (c .before .before .before .before .before .before .before .before .if2 .left) (c .empty .ensures .1, c .empty .ensures .2, c .empty .ensures .3) (c .before .before .before .before .whole .ensures .0) (c .before .before .before .before .whole .ensures .1 .0),
-  (
-    record { sound = c .before .before .before .before .whole .ensures .1 .1 .0; room = c .empty .ensures .0; lines = omega (arith, c .empty .ensures .1) },
-    c .before .before .before .before .before .before .before .before .before .before .before .before .gather .ensures .1 .1,
-    c .before .before .before .before .before .before .before .before .before .before .before .before .gather .ensures .1 .2,
-    c .before .before .before .before .whole .ensures .1 .1 .1,
-  ),
-)
+returns-3 c =
+    let s = c .before .before .before .before .before .before .before .before .before .before .before .before .before .before .before .before .before .before .before .before .before in
+    let g = c .before .before .before .before .before .before .before .before .before .before .before .before .gather in
+    let w = c .before .before .before .before .whole in
+    let e = c .empty .ensures in (
+      fed-whole (s .args .c) (s .args .buf .now) (s .args .part .now) (s .args .out .now) _ (g .result .mark) (g .result .used) _ (c .before .before .before .before .before .before .before .before .before .before .before .before .before .before .before .before .before .if1 .left) (c .before .before .before .before .before .before .before .before .before .before .before .before .before .before .lines-of .ensures .0) (g .ensures .0)
+          (c .before .before .before .before .before .before .before .before .if2 .left) (e .1, e .2, e .3) (w .ensures .0) (w .ensures .1 .0),
+      (
+        record { sound = w .ensures .1 .1 .0; room = e .0; lines = omega (arith, e .1, lines-some (w .result .opened)) },
+        g .ensures .1 .1,
+        g .ensures .1 .2,
+        w .ensures .1 .1 .1,
+      ),
+    )
 
 pub feed-spec : {M : Type 1} → statement M
 feed-spec =
     tie.close
     (tie.spec
     returns
+    lines-of-requires
     gather-requires
     same-length
     returns-2

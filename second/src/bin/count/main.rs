@@ -6,9 +6,9 @@ mod lifts;
 
 use second::answer::{answer_block, Answer};
 use second::entries::{read_block, Entry};
-use second::pots::by_levels;
+use second::pots::{by_levels, Shares};
 use second::table::Table;
-use second::text::{sheet, ENTRY_KEYS, LF, SHEET_KEYS};
+use second::text::{sheet, Sheet, ENTRY_KEYS, LF, SHEET_KEYS};
 use std::collections::BTreeMap;
 
 /// How often each named thing occurred.
@@ -16,11 +16,14 @@ use std::collections::BTreeMap;
 pub struct Counts(BTreeMap<String, u64>);
 
 /// What a run of all profiles must contain, besides the codes 0 to 11.
-const DEMANDED: [&str; 19] = [
+const DEMANDED: [&str; 22] = [
     "pots 9",
     "unclaimed chips",
     "seat changed hands inside a hand",
     "odd units shared",
+    "no fee before a board card",
+    "fee rounded down to the step",
+    "capped fee rounded down again",
     "two short lifts in a row",
     "short lift over one who checked",
     "short lift over one who called",
@@ -124,7 +127,25 @@ fn count_settle(before: &Table, answer: &Answer, counts: &mut Counts) {
     if settlement.fee > 0 {
         counts.add("fee taken");
     }
+    count_fees(before, &shares, counts);
     for (amount, winners) in shares.divided.iter().filter(|(_, winners)| *winners > 1) {
         counts.add(if amount % winners == 0 { "pot shared evenly" } else { "odd units shared" });
+    }
+}
+
+/// What the board, the step and the cap took off the fee of each pot.
+fn count_fees(before: &Table, shares: &Shares, counts: &mut Counts) {
+    let Sheet { rate, cap, .. } = before.sheet;
+    let mut left = cap;
+    for (pot, (rest, _)) in before.pots().pots.iter().zip(&shares.divided) {
+        let (plain, fee) = (pot.amount * rate / 1000, pot.amount - rest);
+        if plain > 0 && before.board_count() == 0 {
+            counts.add("no fee before a board card");
+        } else if fee > 0 && fee < plain && plain <= left {
+            counts.add("fee rounded down to the step");
+        } else if fee > 0 && fee < left && left < plain {
+            counts.add("capped fee rounded down again");
+        }
+        left -= fee;
     }
 }

@@ -108,18 +108,20 @@ impl Profile {
     }
 
     /// Good numbers, the extremes as likely as all the rest.
-    fn sheet_numbers(&self, random: &mut Random) -> [u64; 5] {
+    fn sheet_numbers(&self, random: &mut Random) -> [u64; 6] {
         let some_seats = random.between(self.least_seats, 10);
         let seats = random.pick(&[self.least_seats, 10, some_seats]);
         let (small, big) = self.blinds(random);
+        let some_step = random.of_any_size(1_000);
+        let step = random.pick(&[1, 1_000, 5, some_step, some_step]);
         // A high commission would keep a table from ever reaching the limit.
         if self.stacks == Stacks::Million {
-            return [seats, small, big, random.between(0, 4), 1_000];
+            return [seats, small, big, random.between(0, 4), 1_000, step];
         }
         let (some_rate, some_cap) = (random.between(1, 99), random.of_any_size(1_000_000));
         let rate = random.pick(&[0, 100, 50, some_rate, some_rate]);
         let cap = random.pick(&[0, 1_000_000, 15, some_cap, some_cap]);
-        [seats, small, big, rate, cap]
+        [seats, small, big, rate, cap, step]
     }
 
     fn blinds(&self, random: &mut Random) -> (u64, u64) {
@@ -158,15 +160,17 @@ impl Profile {
 }
 
 /// One number put just outside its range.
-fn out_of_range(good: [u64; 5], random: &mut Random) -> [u64; 5] {
-    let [seats, small, big, rate, cap] = good;
+fn out_of_range(good: [u64; 6], random: &mut Random) -> [u64; 6] {
+    let [seats, small, big, rate, cap, step] = good;
     random.pick(&[
-        [1, small, big, rate, cap],
-        [11, small, big, rate, cap],
-        [seats, 0, big, rate, cap],
-        [seats, big + 1, big, rate, cap],
-        [seats, small, 10_001, rate, cap],
-        [seats, small, big, 101, cap],
-        [seats, small, big, rate, 1_000_001],
+        [1, small, big, rate, cap, step],
+        [11, small, big, rate, cap, step],
+        [seats, 0, big, rate, cap, step],
+        [seats, big + 1, big, rate, cap, step],
+        [seats, small, 10_001, rate, cap, step],
+        [seats, small, big, 101, cap, step],
+        [seats, small, big, rate, 1_000_001, step],
+        [seats, small, big, rate, cap, 0],
+        [seats, small, big, rate, cap, 1_001],
     ])
 }

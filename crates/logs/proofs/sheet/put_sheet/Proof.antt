@@ -3,15 +3,16 @@ use borrow.Author.Needs.{needs}
 use native.Mathlib.Omega.{arith}
 use Prim.Native.Nat.{_-_, _≤_}
 use mathlib.Core.Path.{refl}
+use Rattle.text.specs.TableSheet.{sheetLines}
 use Rattle.logs.proofs.Puts.{Going, values-count, values-small, going-start, going-room, going-part, going-turn, going-done}
 use Rattle.logs.proofs.sheet.put_sheet.Statement.{statement}
 use Rattle.logs.proofs.sheet.put_sheet.Tie as tie
 
 abbrev Inv-loop : tie.InvT-loop
-Inv-loop buffer₀ values at₀ k₀ buffer at k = (k ≤ 5) × Going values buffer₀ buffer k at
+Inv-loop buffer₀ values at₀ k₀ buffer at k = (k ≤ sheetLines) × Going values buffer₀ buffer k at
 
 abbrev μ-loop : tie.MeasureT-loop
-μ-loop buffer₀ values at₀ k₀ buffer at k = 5 - k
+μ-loop buffer₀ values at₀ k₀ buffer at k = sheetLines - k
 
 values-of-requires : tie.Need-values-of-requires Inv-loop μ-loop
 values-of-requires c κs = search needs

@@ -4,15 +4,16 @@ use native.Mathlib.Omega.{arith}
 use lib.ListN.{length}
 use Prim.Native.Nat.{_+_, _-_, _*_, _≤_}
 use mathlib.Core.Path.{_≡_}
+use Rattle.text.specs.TableSheet.{sheetLines}
 use Rattle.logs.proofs.Puts.{linesFrom, values-count, count-on, count-done}
 use Rattle.logs.proofs.sheet.sheet_len.Statement.{statement}
 use Rattle.logs.proofs.sheet.sheet_len.Tie as tie
 
 abbrev Inv-loop : tie.InvT-loop
-Inv-loop values at₀ k₀ at k = (k ≤ 5) × (at ≤ k * 16) × (at + length (linesFrom values k) ≡ length (linesFrom values 0))
+Inv-loop values at₀ k₀ at k = (k ≤ sheetLines) × (at ≤ k * 16) × (at + length (linesFrom values k) ≡ length (linesFrom values 0))
 
 abbrev μ-loop : tie.MeasureT-loop
-μ-loop values at₀ k₀ at k = 5 - k
+μ-loop values at₀ k₀ at k = sheetLines - k
 
 values-of-requires : tie.Need-values-of-requires Inv-loop μ-loop
 values-of-requires c κs = search needs

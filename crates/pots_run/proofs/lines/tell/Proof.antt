@@ -20,12 +20,12 @@ settle-hand-requires c κs = search needs
 
 pay-out-requires : tie.Need-pay-out-requires
 pay-out-requires c κs =
-    let s = c .before .before .before .before .before .before in
+    let s = c .before .before .before .before .before .before .before in
     let h = s .args .h in
     let p = s .pre in
     let n : length (h .scores) ≡ 10 = search needs in
     let m : length (h .totals) ≡ 10 = search needs in
-    omega (arith, ap sumOf (c .before .settle-hand .ensures .1), none-lost (h .totals) (h .live) (h .scores) (h .rate) (h .cap) (h .puck) (n ∙ sym m) (omega (arith, p .2)), p .1)
+    omega (arith, ap sumOf (c .before .settle-hand .ensures .1), none-lost (h .totals) (h .live) (h .scores) (h .rule) (h .puck) (n ∙ sym m) (omega (arith, p .2)), p .1)
 
 returns : tie.Need-returns
 returns c = search needs
