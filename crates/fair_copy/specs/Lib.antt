@@ -1,0 +1,2 @@
+-- What the program keeps between two parts of its input.
+pub mod Kept
