@@ -2,6 +2,7 @@
 use paper::Entry;
 
 mod decimal;
+mod front;
 mod kind;
 mod line;
 mod reader;
@@ -9,6 +10,8 @@ pub mod sheet;
 mod writer;
 
 pub use decimal::digit_count;
+pub use front::Front;
+pub use front::read_front;
 pub use kind::entry_of;
 pub use reader::read_block;
 pub use reader::rest;
