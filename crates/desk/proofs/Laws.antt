@@ -48,7 +48,7 @@ use Rattle.answers.specs.declared.Shown.{Shown}
 use Rattle.answers.specs.Answer.{SmallRow, Small, answerBytes}
 use Rattle.desk.specs.declared.Judged.{Judged}
 use Rattle.desk.specs.declared.Answered.{Answered}
-use Rattle.desk.specs.Desk.{rowsOf, payoutShown, shownOf, refusedAt, judgeParsed, judgeBlock, judgedOf, blockBytes, answeredFrom, answeredOf, numberOfBlock, SmallPaid}
+use Rattle.desk.specs.Desk.{rowsOf, payoutShown, shownOf, refusedAt, judgeParsed, judgeBlock, judgedOf, judgedBytes, blockBytes, answeredFrom, answeredOf, numberOfBlock, SmallPaid}
 use Rattle.chairs.specs.declared.What.the-variants as what
 
 -- ---- rows of sittings and what they are paid, one by one
@@ -296,14 +296,19 @@ made-shown n code t p {ps} {back} {k} {po} v b o kc r h w =
     pots-eq : (z : Pots) {a : ℕ} {f : List Pot} → z .n ≡ a → z .list ≡ f → z ≡ record { n = a; list = f }
     pots-eq z e f = rw (e, f)
 
-pub answered-is : (t : Table) (log sheet : List ℕ) {j : Judged} {s : Shown} {w : Written} {r : Answered} {out : List ℕ}
-    → j ≡ judgedOf t log → s ≡ shownOf (j .n) (j .code) (j .table) (j .payout) → w ≡ writtenOf (answerBytes s) sheet → out ≡ sheetAfter (answerBytes s) sheet
+pub answered-is : (t : Table) (k : Judged) (sheet : List ℕ) {j : Judged} {s : Shown} {w : Written} {r : Answered} {out : List ℕ}
+    → j ≡ k → s ≡ shownOf (j .n) (j .code) (j .table) (j .payout) → w ≡ writtenOf (answerBytes s) sheet → out ≡ sheetAfter (answerBytes s) sheet
     → r ≡ answeredFrom t j w → Sound (r .table)
-    → (r ≡ answeredOf t log sheet) × ((out ≡ sheetAfter (blockBytes t log) sheet) × Sound (r .table))
-unfolding answeredOf blockBytes
-answered-is t log sheet {j} {s} {w} {r} {out} p q e f g h =
-    let b : answerBytes s ≡ blockBytes t log =
-    ap answerBytes (q ∙ ap (λ (x : Judged). shownOf (x .n) (x .code) (x .table) (x .payout)) p) in
-    let e' : w ≡ writtenOf (blockBytes t log) sheet = e ∙ ap (λ (x : List ℕ). writtenOf x sheet) b in
-    let f' : out ≡ sheetAfter (blockBytes t log) sheet = f ∙ ap (λ (x : List ℕ). sheetAfter x sheet) b in
-    (g ∙ ap (λ (x : Judged). answeredFrom t x w) p ∙ ap (answeredFrom t (judgedOf t log)) e', (f', h))
+    → (r ≡ answeredFrom t k (writtenOf (judgedBytes k) sheet)) × ((out ≡ sheetAfter (judgedBytes k) sheet) × Sound (r .table))
+answered-is t k sheet {j} {s} {w} {r} {out} p q e f g h =
+    let b : answerBytes s ≡ judgedBytes k = ap answerBytes q ∙ ap judgedBytes p in
+    let e' : w ≡ writtenOf (judgedBytes k) sheet = e ∙ ap (λ (x : List ℕ). writtenOf x sheet) b in
+    let f' : out ≡ sheetAfter (judgedBytes k) sheet = f ∙ ap (λ (x : List ℕ). sheetAfter x sheet) b in
+    (g ∙ ap (λ (x : Judged). answeredFrom t x w) p ∙ ap (answeredFrom t k) e', (f', h))
+
+-- what is answered to a block that was read is what the log that it was read from is answered
+pub read-answered : (t : Table) (log sheet : List ℕ) {b : Block} → b ≡ blockOf log
+    → (answeredFrom t (judgeBlock t b) (writtenOf (judgedBytes (judgeBlock t b)) sheet) ≡ answeredOf t log sheet) × (judgedBytes (judgeBlock t b) ≡ blockBytes t log)
+unfolding answeredOf blockBytes judgedOf
+read-answered t log sheet e =
+    (ap (λ (x : Block). answeredFrom t (judgeBlock t x) (writtenOf (judgedBytes (judgeBlock t x)) sheet)) e, ap (λ (x : Block). judgedBytes (judgeBlock t x)) e)

@@ -65,6 +65,10 @@ judgeBlock t Nothing = refusedAt t 0 1
 unfoldable pub judgedOf : Table → List ℕ → Judged
 judgedOf t log = judgeBlock t (blockOf log)
 
+-- the block that shows what was judged
+abbrev pub judgedBytes : Judged → List ℕ
+judgedBytes j = answerBytes (shownOf (j .n) (j .code) (j .table) (j .payout))
+
 -- the block that answers it
 unfoldable pub blockBytes : Table → List ℕ → List ℕ
 blockBytes t log = answerBytes (shownOf (judgedOf t log .n) (judgedOf t log .code) (judgedOf t log .table) (judgedOf t log .payout))

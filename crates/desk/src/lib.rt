@@ -11,11 +11,11 @@ ghost use mathlib.Core.Path.{_≡_};
 ghost use Prim.Native.Nat.{ℕ, _+_, _-_, _*_, _≤_, _<_, _^_};
 ghost use mathlib.Core.List.{List, [], _∷_, _++_};
 ghost use lib.ListN.{length, take, drop, getD};
-ghost use Rattle.text.specs.Sheet.{sheetAfter};
+ghost use Rattle.text.specs.Sheet.{sheetAfter, writtenOf};
 ghost use Rattle.text.specs.Block.{blockOf, restOf};
 ghost use Rattle.answers.specs.Answer.{Small};
 ghost use Rattle.table.specs.Take.{Sound};
-ghost use Rattle.desk.specs.Desk.{rowsOf, payoutShown, shownOf, judgeParsed, refusedAt, judgeBlock, judgedOf, blockBytes, answeredFrom, answeredOf, numberOfBlock, SmallPaid};
+ghost use Rattle.desk.specs.Desk.{rowsOf, payoutShown, shownOf, judgeParsed, refusedAt, judgeBlock, judgedOf, judgedBytes, blockBytes, answeredFrom, answeredOf, numberOfBlock, SmallPaid};
 
 pub mod log;
 
@@ -174,6 +174,21 @@ fn closed(t: Table, j: Judged, w: Written) -> Answered
     }
 }
 
+// The answer to a block that was read, at the front of the sheet.
+pub fn answer_block(table: Table, b: Block, sheet: &mut [u8]) -> Answered
+    requires { ⌜ Sound table × (numberOfBlock b < 10 ^ 9) ⌝ }
+    ensures answer { λ r. ⌜ r ≡ answeredFrom table (judgeBlock table b) (writtenOf (judgedBytes (judgeBlock table b)) (now (sheet .entry))) ⌝ }
+    ensures bytes { λ r. ⌜ now (sheet .exit) ≡ sheetAfter (judgedBytes (judgeBlock table b)) (now (sheet .entry)) ⌝ }
+    ensures sound { λ r. ⌜ Sound (r .table) ⌝ }
+{
+    let j = judge_block(table, b);
+    let u = j.table;
+    let paid = j.payout;
+    let s = shown_of(j.n, j.code, u, paid);
+    let w = write_answer(sheet, s);
+    closed(table, j, w)
+}
+
 // The answer to the block at the front of a log, at the front of the sheet.
 pub fn answer(table: Table, log: &[u8], sheet: &mut [u8]) -> Answered
     requires { ⌜ Sound table ⌝ }
@@ -181,12 +196,7 @@ pub fn answer(table: Table, log: &[u8], sheet: &mut [u8]) -> Answered
     ensures bytes { λ r. ⌜ now (sheet .exit) ≡ sheetAfter (blockBytes table (now (log .entry))) (now (sheet .entry)) ⌝ }
     ensures sound { λ r. ⌜ Sound (r .table) ⌝ }
 {
-    let j = judge(table, log);
-    let u = j.table;
-    let paid = j.payout;
-    let s = shown_of(j.n, j.code, u, paid);
-    let w = write_answer(sheet, s);
-    closed(table, j, w)
+    answer_block(table, text::read_block(log), sheet)
 }
 
 // What follows the block.

@@ -49,7 +49,7 @@ blocks-none zero t log e = refl
 blocks-none (suc k) t log e = rw e
 
 -- what is kept at the bytes raw is raw, cut
-kept-cap : (raw : List ℕ) → keepAll nothing raw .bytes ≡ cap 0 raw
+pub kept-cap : (raw : List ℕ) → keepAll nothing raw .bytes ≡ cap 0 raw
 kept-cap raw = kept-bytes nothing raw
 
 cap-some : (b : ℕ) (l : List ℕ) → 0 < length (cap 0 (b ∷ l))
@@ -72,7 +72,7 @@ some : (raw bs : List ℕ) (b : ℕ) → 0 < length (raw ++ (b ∷ bs))
 some raw bs b = omega (arith, length-append raw (b ∷ bs))
 
 -- the block that ends with b
-ended-block : (raw bs : List ℕ) (b : ℕ) → 5 ≤ lfs (raw ++ (b ∷ [])) → blockOf (cap 0 (raw ++ (b ∷ []))) ≡ blockOf (raw ++ (b ∷ bs))
+pub ended-block : (raw bs : List ℕ) (b : ℕ) → 5 ≤ lfs (raw ++ (b ∷ [])) → blockOf (cap 0 (raw ++ (b ∷ []))) ≡ blockOf (raw ++ (b ∷ bs))
 ended-block [] bs b h = absurd (omega (arith, one b))
   where
     one : (b : ℕ) → lfs (b ∷ []) ≤ 1
@@ -120,10 +120,10 @@ any-cuts t log = stream-is (length log) t [] log (omega arith) (omega arith)
 
 -- ---- a part of the log, cut anywhere: what `gather` does with it is what its bytes do one by one
 
-gather-whole : (k : Kept) (b : ℕ) (bs : List ℕ) → leb 5 (keepOf k b .lines) ≡ true → gatherOf 5 k (b ∷ bs) ≡ record { kept = keepOf k b; left = bs }
+pub gather-whole : (k : Kept) (b : ℕ) (bs : List ℕ) → leb 5 (keepOf k b .lines) ≡ true → gatherOf 5 k (b ∷ bs) ≡ record { kept = keepOf k b; left = bs }
 gather-whole k b bs e = rw e
 
-gather-next : (k : Kept) (b : ℕ) (bs : List ℕ) → leb 5 (keepOf k b .lines) ≡ false → gatherOf 5 k (b ∷ bs) ≡ gatherOf 5 (keepOf k b) bs
+pub gather-next : (k : Kept) (b : ℕ) (bs : List ℕ) → leb 5 (keepOf k b .lines) ≡ false → gatherOf 5 k (b ∷ bs) ≡ gatherOf 5 (keepOf k b) bs
 gather-next k b bs e = rw e
 
 stream-whole : (t : Table) (k : Kept) (b : ℕ) (bs : List ℕ) → leb 5 (keepOf k b .lines) ≡ true

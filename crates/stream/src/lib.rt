@@ -1,13 +1,16 @@
 // A log that comes in parts: the unfinished sheet or block is kept, each line cut after 33 bytes, and answered at its last LF.
 use desk::answer;
+use desk::answer_block;
 use desk::log::refuse_sheet;
 use paper::Sheet;
 use table::table::Table;
 use table::take::new_table;
+use text::read_front;
 use text::sheet::LINES;
 use text::sheet::Opening;
 use text::sheet::read_sheet;
 ghost use mathlib.Core.Path.{_≡_};
+ghost use mathlib.Core.Bool.{true, false};
 ghost use Prim.Native.Nat.{ℕ, _+_, _-_, _*_, _≤_, _<_};
 ghost use lib.ListN.{length, take, drop};
 ghost use Rattle.text.specs.Sheet.{sheetAfter, Wrote};
@@ -145,7 +148,59 @@ fn whole(opened: bool, t: Table, block: &[u8], out: &mut [u8]) -> Step
     }
 }
 
-// A part of the log: its bytes up to the end of a block, whose answer is written, or all of them.
+// A part of the log by way of the buffer: its bytes are kept up to the end of the sheet or of a block, which is answered, or all of them.
+fn feed_kept(opened: bool, t: Table, m: Mark, buf: &mut [u8], part: &[u8], out: &mut [u8]) -> Fed
+    requires { ⌜ Sound t × Room m × (m .lines < linesOf opened) × (204 ≤ length (now buf)) ⌝ }
+    ensures fed { λ r. ⌜ FedAs (record { opened = opened; shut = false; table = t; mark = m }) (now (buf .entry)) (now (part .entry)) (now (out .entry)) (now (buf .exit)) (now (out .exit)) r ⌝ }
+    ensures held { λ r. ⌜ Held (r .clerk) × (r .used ≤ length (now (part .entry))) × (0 < length (now (part .entry)) → 0 < r .used) × (r .written ≤ length (now (out .entry))) ⌝ }
+{
+    let want = lines_of(opened);
+    let g = gather(buf, m, part, want);
+    let k = g.mark;
+    let n = k.lines;
+    if n < want {
+        let d = Clerk {
+            opened: opened,
+            shut: false,
+            table: t,
+            mark: k,
+        };
+        return Fed {
+            clerk: d,
+            used: g.used,
+            written: 0,
+        };
+    }
+    let e = k.count;
+    let s = whole(opened, t, &buf[0..e], out);
+    let u = s.table;
+    let z = empty();
+    let d = Clerk {
+        opened: s.opened,
+        shut: s.shut,
+        table: u,
+        mark: z,
+    };
+    Fed {
+        clerk: d,
+        used: g.used,
+        written: s.written,
+    }
+}
+
+// Whether the sheet was read and nothing of the next block is kept.
+fn awaits_block(opened: bool, m: Mark) -> bool
+    ensures { λ r. ⌜ (r ≡ true → (opened ≡ true) × (m .lines ≡ 0) × (m .width ≡ 0)) ⌝ }
+{
+    if m.lines == 0 {
+        if m.width == 0 {
+            return opened;
+        }
+    }
+    false
+}
+
+// A part of the log: its bytes up to the end of a block, whose answer is written, or all of them. A whole block is read where it lies.
 pub fn feed(c: Clerk, buf: &mut [u8], part: &[u8], out: &mut [u8]) -> Fed
     requires { ⌜ Held c × (204 ≤ length (now buf)) ⌝ }
     ensures fed { λ r. ⌜ FedAs c (now (buf .entry)) (now (part .entry)) (now (out .entry)) (now (buf .exit)) (now (out .exit)) r ⌝ }
@@ -160,38 +215,27 @@ pub fn feed(c: Clerk, buf: &mut [u8], part: &[u8], out: &mut [u8]) -> Fed
     }
     let t = c.table;
     let m = c.mark;
-    let want = lines_of(c.opened);
-    let g = gather(buf, m, part, want);
-    let k = g.mark;
-    let n = k.lines;
-    if n < want {
-        let d = Clerk {
-            opened: c.opened,
-            shut: false,
-            table: t,
-            mark: k,
-        };
-        return Fed {
-            clerk: d,
-            used: g.used,
-            written: 0,
-        };
+    if awaits_block(c.opened, m) {
+        let f = read_front(part);
+        if f.whole {
+            let b = f.block;
+            let a = answer_block(t, b, out);
+            let u = a.table;
+            let z = empty();
+            let d = Clerk {
+                opened: true,
+                shut: false,
+                table: u,
+                mark: z,
+            };
+            return Fed {
+                clerk: d,
+                used: f.used,
+                written: a.written,
+            };
+        }
     }
-    let e = k.count;
-    let s = whole(c.opened, t, &buf[0..e], out);
-    let u = s.table;
-    let z = empty();
-    let d = Clerk {
-        opened: s.opened,
-        shut: s.shut,
-        table: u,
-        mark: z,
-    };
-    Fed {
-        clerk: d,
-        used: g.used,
-        written: s.written,
-    }
+    feed_kept(c.opened, t, m, buf, part, out)
 }
 
 // Before the first byte.

@@ -38,13 +38,6 @@ module _ (k seat a b : ℕ) where
   unfolding parsedOf
   entry-none e = rw e
 
--- a number that is at least m and is not m is at least the next
-pub past : (k m : ℕ) → m ≤ k → (k ≡ m → ⊥) → m + 1 ≤ k
-past k m h n = omega arith
-
-pub only : (k m : ℕ) → m ≤ k → k < m + 1 → k ≡ m
-only k m h n = omega arith
-
 -- ---- an entry and its numbers determine each other
 
 module _ (k seat a b : ℕ) where

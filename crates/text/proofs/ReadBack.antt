@@ -41,7 +41,7 @@ starts-is (k ∷ key) (b ∷ l) e =
     cc
 
 -- behind the key stands `=`
-key-is : (key line : List ℕ) → hasKey key line ≡ true → key ++ (61 ∷ drop (length key + 1) line) ≡ line
+pub key-is : (key line : List ℕ) → hasKey key line ≡ true → key ++ (61 ∷ drop (length key + 1) line) ≡ line
 key-is key line e =
     let p = both-true (startsWith key line) (eqb (getD line (length key) 0) 61) e in
     let q : getD line (length key) 0 ≡ 61 = eqb-true _ 61 (p .1) in

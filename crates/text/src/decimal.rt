@@ -2,8 +2,9 @@
 use crate::Number;
 ghost use mathlib.Core.Path.{_≡_};
 ghost use Prim.Native.Nat.{_≤_, _<_, _^_};
-ghost use lib.ListN.{length};
-ghost use Rattle.text.specs.Number.{numberOf, digitsFrom, digits};
+ghost use mathlib.Core.Bool.{true};
+ghost use lib.ListN.{length, take};
+ghost use Rattle.text.specs.Number.{numberOf, allDigits, valueFrom, digitsFrom, digits};
 ghost use Rattle.text.specs.Sheet.{Wrote};
 
 fn wide(b: u8) -> u32
@@ -80,4 +81,33 @@ pub fn digit_count(n: u32) -> usize
         k += 1;
     }
     k
+}
+
+// Digits at the front of bytes: how many, and their value.
+pub struct Run {
+    pub count: usize,
+    pub value: u32,
+}
+
+// The digits at the front of `part`, at most nine of them.
+pub fn digit_run(part: &[u8]) -> Run
+    ensures { λ r. ⌜ (r .count ≤ 9) × (r .count ≤ length (now (part .entry))) × (allDigits (take (r .count) (now (part .entry))) ≡ true) × (r .value ≡ valueFrom 0 (take (r .count) (now (part .entry)))) ⌝ }
+{
+    let mut v: u32 = 0;
+    let mut i: usize = 0;
+    while i < 9 {
+        if part.len() <= i {
+            return Run { count: i, value: v };
+        }
+        let b = part[i];
+        if b < 48 {
+            return Run { count: i, value: v };
+        }
+        if 57 < b {
+            return Run { count: i, value: v };
+        }
+        v = v * 10 + wide(b - 48);
+        i += 1;
+    }
+    Run { count: i, value: v }
 }

@@ -7,7 +7,7 @@ use paper::makes_entry;
 ghost use mathlib.Core.Path.{_≡_};
 ghost use mathlib.Core.Bool.{true};
 ghost use Prim.Native.Nat.{_≤_, _<_};
-ghost use lib.ListN.{length};
+ghost use lib.ListN.{length, take};
 ghost use Rattle.text.specs.Bytes.{allWithin, packOf};
 ghost use Rattle.text.specs.Block.{allLetters, kindNames, placeIn, kindOf};
 ghost use Rattle.text.specs.Entry.{entryAt, parsedOf};
@@ -49,7 +49,7 @@ fn packed(w: &[u8]) -> u64
 }
 
 // The place of a word of small letters in the table of kinds, 12 where it is none of them.
-fn kind_place(w: &[u8]) -> usize
+pub fn kind_place(w: &[u8]) -> usize
     requires { ⌜ (length (now w) ≤ 8) × (allLetters (now w) ≡ true) ⌝ }
     ensures { λ r. ⌜ r ≡ placeIn kindNames (now (w .entry)) ⌝ }
 {
@@ -133,4 +133,25 @@ pub fn entry_of(kind: u32, seat: u32, a: u32, b: u32) -> Parsed
         return Parsed::Read(entry_at(kind as usize, seat, a, b));
     }
     Parsed::OutOfRange
+}
+
+// How many small letters stand at the front of `part`, eight at most.
+pub fn letter_run(part: &[u8]) -> usize
+    ensures { λ r. ⌜ (r ≤ 8) × (r ≤ length (now (part .entry))) × (allLetters (take r (now (part .entry))) ≡ true) ⌝ }
+{
+    let mut i: usize = 0;
+    while i < 8 {
+        if part.len() <= i {
+            return i;
+        }
+        let b = part[i];
+        if b < 97 {
+            return i;
+        }
+        if 122 < b {
+            return i;
+        }
+        i += 1;
+    }
+    i
 }

@@ -2,6 +2,7 @@
 use paper::Entry;
 
 mod decimal;
+mod front;
 mod kind;
 mod line;
 mod reader;
@@ -10,6 +11,8 @@ mod writer;
 
 pub use decimal::digit_count;
 pub use decimal::put_digits;
+pub use front::Front;
+pub use front::read_front;
 pub use kind::entry_of;
 pub use line::read_key_number;
 pub use reader::read_block;

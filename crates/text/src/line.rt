@@ -51,7 +51,7 @@ pub fn after_lines(log: &[u8], k: usize) -> &[u8]
 }
 
 // Whether the line begins with the bytes of `key`.
-fn starts_with(line: &[u8], key: &[u8]) -> bool
+pub fn starts_with(line: &[u8], key: &[u8]) -> bool
     ensures { λ r. ⌜ r ≡ startsWith (now (key .entry)) (now (line .entry)) ⌝ }
 {
     let mut i = 0;

@@ -5,14 +5,8 @@ use borrow.Author.Needs.{needs}
 use Rattle.paper.proofs.block_fits.Statement.{statement}
 use Rattle.paper.proofs.block_fits.Tie as tie
 
-cast-k : tie.Need-cast-k
-cast-k c = search needs
-
-mul-row : tie.Need-mul-row
-mul-row c = search needs
-
-array-copy-out-row : tie.Need-array-copy-out-row
-array-copy-out-row c = search needs
+row-at-requires : tie.Need-row-at-requires
+row-at-requires c κs = search needs
 
 spared-requires : tie.Need-spared-requires
 spared-requires c κs = search needs
@@ -31,8 +25,9 @@ both-requires-2 c κs = search needs
 
 returns : tie.Need-returns
 returns c =
-    let s = c .before .before .before .before .before .before .before .before in
+    let s = c .before .before .before .before .before .before .before in
     row-fits (s .args .x) (s .args .sheet) (s .args .n) (omega arith)
+    (c .before .before .before .before .before .row-at .ensures)
     (c .before .before .before .before .spared .ensures)
     (c .before .before .before .ranged .ensures)
     (c .before .before .both .ensures)
@@ -40,15 +35,13 @@ returns c =
     (c .both2 .ensures)
 
 returns-2 : tie.Need-returns-2
-returns-2 c = row-missing ((c .before .before) .args .x) ((c .before .before) .args .sheet) ((c .before .before) .args .n) (omega arith)
+returns-2 c = row-missing ((c .before) .args .x) ((c .before) .args .sheet) ((c .before) .args .n) (omega arith)
 
 pub block-fits-spec : {M : Type 1} → statement M
 block-fits-spec =
     tie.close
     (tie.spec
-    cast-k
-    mul-row
-    array-copy-out-row
+    row-at-requires
     spared-requires
     ranged-requires
     both-requires

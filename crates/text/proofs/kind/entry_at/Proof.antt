@@ -1,6 +1,6 @@
 -- `entry_at` meets its contract: in each arm the kind is a numeral, at which the table of entries computes.
 use Prim.Native.Nat.{zero-le, _≤_}
-use Rattle.text.proofs.Entries.{past, only}
+use Rattle.paper.proofs.Rows.{past, only}
 use Rattle.text.proofs.kind.entry_at.Statement.{statement}
 use Rattle.text.proofs.kind.entry_at.Tie as tie
 
