@@ -11,16 +11,21 @@ lines-of-requires : tie.Need-lines-of-requires
 lines-of-requires c κs = search needs
 
 gather-requires : tie.Need-gather-requires
-gather-requires c κs = ?
+gather-requires c κs =
+    let h = c .before .before .before .before .before .pre in
+    let w = c .before .lines-of .ensures in
+    (h .1, omega (arith, h .2, w .0), w .1, h .3)
 
 same-length : tie.Need-same-length
 same-length c = search needs
 
 returns : tie.Need-returns
 returns c =
-    let s = c .before .before .before .before .before .before .before .before .before in (
-      fed-kept (record { opened = s .args .opened; shut = false; table = s .args .t; mark = s .args .m }) (s .args .buf .now) (s .args .part .now) (s .args .out .now) _ (c .before .before .before .before .gather .result .mark) (c .before .before .before .before .gather .result .used) refl (c .before .before .before .before .gather .ensures .0) (omega arith),
-      search needs,
+    let s = c .before .before .before .before .before .before .before .before .before .before in
+    let g = c .before .before .before .before .gather in
+    let w = c .before .before .before .before .before .before .lines-of .ensures in (
+      fed-kept (record { opened = s .args .opened; shut = false; table = s .args .t; mark = s .args .m }) (s .args .buf .now) (s .args .part .now) (s .args .out .now) _ (g .result .mark) (g .result .used) _ refl (w .0) (g .ensures .0) (c .if1 .taken),
+      (record { sound = s .pre .0; room = g .ensures .1 .0; lines = omega (arith, w .0, c .if1 .taken) }, g .ensures .1 .1, g .ensures .1 .2, omega arith),
     )
 
 sub-whole : tie.Need-sub-whole
@@ -46,13 +51,17 @@ same-length-3 c = search needs
 
 returns-2 : tie.Need-returns-2
 returns-2 c =
-    let s = c .before .before .before .before .before .before .before .before .before .before .before .before .before .before .before .before .before in (
-      fed-whole (record { opened = s .args .opened; shut = false; table = s .args .t; mark = s .args .m }) (s .args .buf .now) (s .args .part .now) (s .args .out .now) _ (c .before .before .before .before .before .before .before .before .before .before .before .before .gather .result .mark) (c .before .before .before .before .before .before .before .before .before .before .before .before .gather .result .used) refl (c .before .before .before .before .before .before .before .before .before .before .before .before .gather .ensures .0) (c .before .before .before .before .before .before .before .before .if1 .left) (c .empty .ensures .1, c .empty .ensures .2, c .empty .ensures .3) (c .before .before .before .before .whole .ensures .0) (c .before .before .before .before .whole .ensures .1 .0),
+    let s = c .before .before .before .before .before .before .before .before .before .before .before .before .before .before .before .before .before .before in
+    let g = c .before .before .before .before .before .before .before .before .before .before .before .before .gather in
+    let w = c .before .before .before .before .whole in
+    let e = c .empty .ensures in (
+      fed-whole (record { opened = s .args .opened; shut = false; table = s .args .t; mark = s .args .m }) (s .args .buf .now) (s .args .part .now) (s .args .out .now) _ (g .result .mark) (g .result .used) _ refl (c .before .before .before .before .before .before .before .before .before .before .before .before .before .before .lines-of .ensures .0) (g .ensures .0)
+          (c .before .before .before .before .before .before .before .before .if1 .left) (e .1, e .2, e .3) (w .ensures .0) (w .ensures .1 .0),
       (
-        record { sound = c .before .before .before .before .whole .ensures .1 .1 .0; room = c .empty .ensures .0; lines = omega (arith, c .empty .ensures .1) },
-        c .before .before .before .before .before .before .before .before .before .before .before .before .gather .ensures .1 .1,
-        c .before .before .before .before .before .before .before .before .before .before .before .before .gather .ensures .1 .2,
-        c .before .before .before .before .whole .ensures .1 .1 .1,
+        record { sound = w .ensures .1 .1 .0; room = e .0; lines = omega (arith, e .1, lines-some (w .result .opened)) },
+        g .ensures .1 .1,
+        g .ensures .1 .2,
+        w .ensures .1 .1 .1,
       ),
     )
 
