@@ -1,8 +1,8 @@
--- An unfinished block lies in its 170 bytes, and has fewer than five LFs. Assumes nothing.
+-- What the copier keeps between two bytes: an unfinished sheet or block lies in its 204 bytes, and has fewer LFs than lines are read together.
 use Prim.Native.Nat.{_<_}
-use Rattle.stream.specs.declared.Mark.{Mark}
-use Rattle.stream.specs.Stream.{Room}
+use Rattle.stream.specs.Stream.{Room, linesOf}
+use Rattle.fair_copy.specs.declared.Copier.{Copier}
 
-pub record Between (m : Mark) : Type 0 where
-  pub room : Room m
-  pub lines : m .lines < 5
+pub record Between (c : Copier) : Type 0 where
+  pub room : Room (c .mark)
+  pub lines : c .mark .lines < linesOf (c .opened)

@@ -1,2 +1,2 @@
--- What the program keeps between two parts of its input.
+-- What the program keeps between two bytes of its input.
 pub mod Kept

@@ -14,68 +14,70 @@ use text::sheet::read_sheet;
 ghost use mathlib.Core.Path.{_≡_};
 ghost use Prim.Native.Nat.{_+_, _≤_, _<_};
 ghost use lib.ListN.{length};
+ghost use Rattle.stream.specs.Stream.{Room, linesOf};
 ghost use Rattle.fair_copy.specs.Kept.{Between};
 
-// The copier between two blocks: whether the sheet was read, whether it was bad, the sheet, and how many blocks were read.
+// The copier between two bytes: whether the sheet was read, whether it was bad, the sheet, how many blocks were read, and what is kept.
 struct Copier {
     opened: bool,
     shut: bool,
     sheet: Sheet,
     count: u32,
+    mark: Mark,
 }
 
-struct Step {
-    copier: Copier,
-    written: usize,
-    noted: usize,
-}
-
-// Before the sheet is read: the sheet is a stand-in.
-fn start() -> Copier {
+// Before the first byte: the sheet is a stand-in until it is read.
+fn start() -> Copier
+    ensures { λ r. ⌜ Between r ⌝ }
+{
     let s = Sheet {
         seats: 2,
         small: 1,
         big: 1,
         rate: 0,
         cap: 0,
+        step: 1,
     };
+    let z = stream::empty();
     Copier {
         opened: false,
         shut: false,
         sheet: s,
         count: 0,
+        mark: z,
     }
 }
 
-// The lines of the sheet.
-fn open_sheet(c: Copier, lines: &[u8], copy: &mut [u8], notes: &mut [u8]) -> Step
+// What lines did: the copier without what it keeps, and how much of the copy and of the notes was written.
+struct Step {
+    opened: bool,
+    shut: bool,
+    sheet: Sheet,
+    count: u32,
+    written: usize,
+    noted: usize,
+}
+
+// The lines of the sheet: where they are bad, nothing will be copied.
+fn open_sheet(stand_in: Sheet, lines: &[u8], copy: &mut [u8], notes: &mut [u8]) -> Step
     ensures { λ r. ⌜ (r .written ≤ length (now (copy .entry))) × (r .noted ≤ length (now (notes .entry))) ⌝ }
 {
     match read_sheet(lines) {
-        Opening::Bad => {
-            let s = c.sheet;
-            let d = Copier {
-                opened: false,
-                shut: true,
-                sheet: s,
-                count: 0,
-            };
-            Step {
-                copier: d,
-                written: 0,
-                noted: refuse_sheet(notes),
-            }
-        }
+        Opening::Bad => Step {
+            opened: false,
+            shut: true,
+            sheet: stand_in,
+            count: 0,
+            written: 0,
+            noted: refuse_sheet(notes),
+        },
         Opening::Read(s) => {
-            let d = Copier {
+            let k = copy_sheet(s, copy);
+            Step {
                 opened: true,
                 shut: false,
                 sheet: s,
                 count: 0,
-            };
-            let k = copy_sheet(s, copy);
-            Step {
-                copier: d,
                 written: k.written,
                 noted: 0,
             }
@@ -83,26 +85,108 @@ fn open_sheet(c: Copier, lines: &[u8], copy: &mut [u8], notes: &mut [u8]) -> Ste
     }
 }
 
-// The lines of a sheet or of a block, whole or cut by the end of the input.
-fn take_lines(c: Copier, lines: &[u8], copy: &mut [u8], notes: &mut [u8]) -> Step
+// The lines of a block, behind so many blocks.
+fn take_block(s: Sheet, count: u32, lines: &[u8], copy: &mut [u8], notes: &mut [u8]) -> Step
     ensures { λ r. ⌜ (r .written ≤ length (now (copy .entry))) × (r .noted ≤ length (now (notes .entry))) ⌝ }
 {
-    if !c.opened {
-        return open_sheet(c, lines, copy, notes);
-    }
-    let s = c.sheet;
-    let n = next_number(c.count);
+    let n = next_number(count);
     let k = copy_block(s, lines, copy);
-    let d = Copier {
+    let noted = write_note(n, k.code, notes);
+    Step {
         opened: true,
         shut: false,
         sheet: s,
         count: n,
-    };
-    Step {
-        copier: d,
         written: k.written,
-        noted: write_note(n, k.code, notes),
+        noted,
+    }
+}
+
+// The lines of the sheet or of a block, whole or cut by the end of the input.
+fn take_lines(c: Copier, lines: &[u8], copy: &mut [u8], notes: &mut [u8]) -> Step
+    ensures { λ r. ⌜ (r .written ≤ length (now (copy .entry))) × (r .noted ≤ length (now (notes .entry))) ⌝ }
+{
+    let s = c.sheet;
+    if c.opened {
+        return take_block(s, c.count, lines, copy, notes);
+    }
+    open_sheet(s, lines, copy, notes)
+}
+
+// An unfinished block or sheet is kept.
+fn with_mark(c: Copier, m: Mark) -> Copier
+    requires { ⌜ Room m × (m .lines < linesOf (c .opened)) ⌝ }
+    ensures { λ r. ⌜ Between r ⌝ }
+{
+    let s = c.sheet;
+    Copier {
+        opened: c.opened,
+        shut: c.shut,
+        sheet: s,
+        count: c.count,
+        mark: m,
+    }
+}
+
+// Behind whole lines nothing is kept.
+fn behind(t: Step) -> Copier
+    ensures { λ r. ⌜ Between r ⌝ }
+{
+    let s = t.sheet;
+    let z = stream::empty();
+    Copier {
+        opened: t.opened,
+        shut: t.shut,
+        sheet: s,
+        count: t.count,
+        mark: z,
+    }
+}
+
+struct Fed {
+    copier: Copier,
+    used: usize,
+    written: usize,
+    noted: usize,
+}
+
+// A part of the log: its bytes up to the end of the sheet or of a block, which is copied, or all of them.
+fn feed(c: Copier, buf: &mut [u8], part: &[u8], copy: &mut [u8], notes: &mut [u8]) -> Fed
+    requires { ⌜ Between c × (204 ≤ length (now buf)) × (0 < length (now part)) ⌝ }
+    ensures kept { λ r. ⌜ Between (r .copier) ⌝ }
+    ensures used { λ r. ⌜ (r .used ≤ length (now (part .entry))) × (0 < r .used) ⌝ }
+    ensures wrote { λ r. ⌜ (r .written ≤ length (now (copy .entry))) × (r .noted ≤ length (now (notes .entry))) ⌝ }
+{
+    if c.shut {
+        return Fed {
+            copier: c,
+            used: part.len(),
+            written: 0,
+            noted: 0,
+        };
+    }
+    let m = c.mark;
+    let want = stream::lines_of(c.opened);
+    let g = stream::gather(buf, m, part, want);
+    let k = g.mark;
+    let n = k.lines;
+    if n < want {
+        let d = with_mark(c, k);
+        return Fed {
+            copier: d,
+            used: g.used,
+            written: 0,
+            noted: 0,
+        };
+    }
+    let e = k.count;
+    let t = take_lines(c, &buf[0..e], copy, notes);
+    let d = behind(t);
+    Fed {
+        copier: d,
+        used: g.used,
+        written: t.written,
+        noted: t.noted,
     }
 }
 
@@ -132,174 +216,143 @@ fn ahead(from: usize, by: usize, s: &[u8]) -> usize
     from + by
 }
 
-// A run through a part of the input: the copier, what is kept of an unfinished block, how much of the copy and of the notes is still to be written, and
-// whether what was written could be.
-struct Run {
-    copier: Copier,
-    mark: Mark,
+// How far the copy and the notes are filled, and whether what was written out could be.
+struct Filled {
     at: usize,
     said: usize,
     ok: bool,
 }
 
-// Whole lines are copied, behind what is still to be written.
-fn copy_lines(r: Run, lines: &[u8], copy: &mut [u8], notes: &mut [u8]) -> Run
-    requires { ⌜ (r .at ≤ length (now copy)) × (r .said ≤ length (now notes)) ⌝ }
-    ensures { λ q. ⌜ Between (q .mark) × (q .at ≤ length (now (copy .entry))) × (q .said ≤ length (now (notes .entry))) ⌝ }
+// Room for a block in the copy and for a line in the notes.
+fn make_room(at: usize, said: usize, copy: &[u8], notes: &[u8]) -> Filled
+    requires { ⌜ (at ≤ length (now copy)) × (said ≤ length (now notes)) ⌝ }
+    ensures { λ r. ⌜ (r .at ≤ length (now (copy .entry))) × (r .said ≤ length (now (notes .entry))) × (r .at ≤ 64000) × (r .said ≤ 64000) ⌝ }
 {
-    let at = r.at;
-    let said = r.said;
     let w = flush(STDOUT_FILENO, &copy[0..at]);
     let v = flush(STDERR_FILENO, &notes[0..said]);
-    let a = w.at;
-    let b = v.at;
-    let c = r.copier;
-    let s = take_lines(c, lines, &mut copy[a..], &mut notes[b..]);
-    let d = s.copier;
-    let z = stream::empty();
-    Run {
-        copier: d,
-        mark: z,
-        at: ahead(a, s.written, copy),
-        said: ahead(b, s.noted, notes),
+    Filled {
+        at: w.at,
+        said: v.at,
         ok: laws::both(w.ok, v.ok),
     }
 }
 
-struct Moved {
-    run: Run,
-    used: usize,
+struct Served {
+    copier: Copier,
+    from: usize,
+    at: usize,
+    said: usize,
+    ok: bool,
 }
 
 // The next block of a part, or what is left of the part.
-fn move_on(r: Run, buf: &mut [u8], part: &[u8], copy: &mut [u8], notes: &mut [u8]) -> Moved
-    requires { ⌜ Between (r .mark) × (170 ≤ length (now buf)) × (r .at ≤ length (now copy)) × (r .said ≤ length (now notes)) × (0 < length (now part)) ⌝ }
-    ensures run { λ q. ⌜ Between (q .run .mark) × (q .run .at ≤ length (now (copy .entry))) × (q .run .said ≤ length (now (notes .entry))) ⌝ }
-    ensures used { λ q. ⌜ (q .used ≤ length (now (part .entry))) × (0 < q .used) ⌝ }
+fn serve_one(
+    c: Copier,
+    buf: &mut [u8],
+    part: &[u8],
+    from: usize,
+    copy: &mut [u8],
+    at: usize,
+    notes: &mut [u8],
+    said: usize,
+) -> Served
+    requires { ⌜ Between c × (204 ≤ length (now buf)) × (from < length (now part)) × (at ≤ length (now copy)) × (said ≤ length (now notes)) ⌝ }
+    ensures { λ r. ⌜ Between (r .copier) × (from < r .from) × (r .from ≤ length (now (part .entry))) × (r .at ≤ length (now (copy .entry))) × (r .said ≤ length (now (notes .entry))) ⌝ }
 {
-    let m = r.mark;
-    let g = stream::gather(buf, m, part);
-    let k = g.mark;
-    let lines = k.lines;
-    if lines < 5 {
-        let c = r.copier;
-        let q = Run {
-            copier: c,
-            mark: k,
-            at: r.at,
-            said: r.said,
-            ok: r.ok,
-        };
-        return Moved {
-            run: q,
-            used: g.used,
-        };
-    }
-    let e = k.count;
-    let q = copy_lines(r, &buf[0..e], copy, notes);
-    Moved {
-        run: q,
-        used: g.used,
+    let w = make_room(at, said, copy, notes);
+    let a = w.at;
+    let b = w.said;
+    let f = feed(c, buf, &part[from..], &mut copy[a..], &mut notes[b..]);
+    let next = ahead(from, f.used, part);
+    let copied = ahead(a, f.written, copy);
+    let noted = ahead(b, f.noted, notes);
+    let d = f.copier;
+    Served {
+        copier: d,
+        from: next,
+        at: copied,
+        said: noted,
+        ok: w.ok,
     }
 }
 
-// Where to go on in a part: at its end once the sheet was bad or a write failed.
-fn next_place(r: Run, from: usize, used: usize, part: &[u8]) -> usize
-    requires { ⌜ (from < length (now part)) × (from + used ≤ length (now part)) × (0 < used) ⌝ }
-    ensures { λ q. ⌜ (from < q) × (q ≤ length (now (part .entry))) ⌝ }
-{
-    if laws::both(r.ok, !r.copier.shut) {
-        return from + used;
-    }
-    part.len()
-}
-
-// Writes out what is left of the copy and of the notes.
-fn write_out(r: Run, copy: &[u8], notes: &[u8]) -> bool {
-    if r.ok {
-        return laws::both(
-            io::write_all(STDOUT_FILENO, copy),
-            io::write_all(STDERR_FILENO, notes),
-        );
-    }
-    false
-}
-
-// The copier after some input, what is kept, whether a write failed, and whether to go on.
+// The copier after some input, whether a write failed, and whether to go on.
 struct Turn {
     copier: Copier,
-    mark: Mark,
     failed: bool,
     more: bool,
 }
 
+// Writes out what is left of the copy and of the notes.
+fn write_out(copy: &[u8], notes: &[u8]) -> bool {
+    let a = io::write_all(STDOUT_FILENO, copy);
+    let b = io::write_all(STDERR_FILENO, notes);
+    laws::both(a, b)
+}
+
 // Copies every block that ends in this part of the input, in one write where the copies fit.
-fn serve(c: Copier, m: Mark, buf: &mut [u8], part: &[u8]) -> Turn
-    requires { ⌜ Between m × (170 ≤ length (now buf)) ⌝ }
-    ensures { λ r. ⌜ Between (r .mark) ⌝ }
+fn serve(c: Copier, buf: &mut [u8], part: &[u8]) -> Turn
+    requires { ⌜ Between c × (204 ≤ length (now buf)) ⌝ }
+    ensures { λ r. ⌜ Between (r .copier) ⌝ }
 {
     let mut copy = io::large_buffer();
     let mut notes = io::large_buffer();
-    let mut run = Run {
-        copier: c,
-        mark: m,
-        at: 0,
-        said: 0,
-        ok: true,
-    };
+    let mut copier = c;
     let mut from: usize = 0;
+    let mut at: usize = 0;
+    let mut said: usize = 0;
     while from < part.len() {
-        let q = move_on(run, buf, &part[from..], &mut copy, &mut notes);
-        let next = q.run;
-        run = next;
-        from = next_place(next, from, q.used, part);
+        let s = serve_one(copier, buf, part, from, &mut copy, at, &mut notes, said);
+        let d = s.copier;
+        copier = d;
+        if !s.ok {
+            return Turn {
+                copier,
+                failed: true,
+                more: false,
+            };
+        }
+        from = s.from;
+        at = s.at;
+        said = s.said;
     }
-    let at = run.at;
-    let said = run.said;
-    let ok = write_out(run, &copy[0..at], &notes[0..said]);
-    let d = run.copier;
-    let k = run.mark;
+    let ok = write_out(&copy[0..at], &notes[0..said]);
     Turn {
-        copier: d,
-        mark: k,
+        copier,
         failed: !ok,
-        more: laws::both(ok, !d.shut),
+        more: laws::both(ok, !copier.shut),
     }
 }
 
 // One read, and the copies of it.
-fn read_some(c: Copier, m: Mark, buf: &mut [u8]) -> Turn
-    requires { ⌜ Between m × (170 ≤ length (now buf)) ⌝ }
-    ensures { λ r. ⌜ Between (r .mark) ⌝ }
+fn read_some(c: Copier, buf: &mut [u8]) -> Turn
+    requires { ⌜ Between c × (204 ≤ length (now buf)) ⌝ }
+    ensures { λ r. ⌜ Between (r .copier) ⌝ }
 {
     let mut input = io::large_buffer();
     let got = libc::read(STDIN_FILENO, &mut input);
     if got <= 0 {
         return Turn {
             copier: c,
-            mark: m,
             failed: false,
             more: false,
         };
     }
     let n = io::count(got, &input);
-    serve(c, m, buf, &input[..n])
+    serve(c, buf, &input[..n])
 }
 
 // Reads to the end of the input. A proved loop has to end, so it counts its turns down from a number that no run uses up.
 fn read_all(buf: &mut [u8]) -> Turn
-    requires { ⌜ 170 ≤ length (now buf) ⌝ }
-    ensures { λ r. ⌜ Between (r .mark) ⌝ }
+    requires { ⌜ 204 ≤ length (now buf) ⌝ }
+    ensures { λ r. ⌜ Between (r .copier) ⌝ }
 {
     let mut copier = start();
-    let mut mark = stream::empty();
     let mut turns = u64::MAX;
     while turns > 0 {
-        let t = read_some(copier, mark, buf);
+        let t = read_some(copier, buf);
         let d = t.copier;
-        let k = t.mark;
         copier = d;
-        mark = k;
         if !t.more {
             return t;
         }
@@ -307,21 +360,21 @@ fn read_all(buf: &mut [u8]) -> Turn
     }
     Turn {
         copier,
-        mark,
         failed: false,
         more: false,
     }
 }
 
 // The input has ended: a block that is not whole is left out, and a sheet that is not whole is bad.
-fn end(c: Copier, m: Mark, buf: &[u8])
-    requires { ⌜ Between m × (170 ≤ length (now buf)) ⌝ }
+fn end(c: Copier, buf: &[u8])
+    requires { ⌜ Between c × (204 ≤ length (now buf)) ⌝ }
 {
+    let m = c.mark;
     let e = m.count;
     if laws::both(c.opened, e == 0) {
         return;
     }
-    let mut copy = [0u8; 80];
+    let mut copy = [0u8; 100];
     let mut notes = [0u8; 40];
     let s = take_lines(c, &buf[0..e], &mut copy, &mut notes);
     let noted = s.noted;
@@ -329,11 +382,10 @@ fn end(c: Copier, m: Mark, buf: &[u8])
 }
 
 fn main() {
-    let mut buf = [0u8; 170];
+    let mut buf = [0u8; 204];
     let t = read_all(&mut buf);
     if laws::both(!t.failed, !t.copier.shut) {
         let c = t.copier;
-        let m = t.mark;
-        end(c, m, &buf);
+        end(c, &buf);
     }
 }

@@ -1,106 +1,77 @@
+use mathlib.Core.Path.{_≡_, refl}
+use Rattle.fair_copy.specs.Kept.{Between}
+use native.Mathlib.Omega.{arith}
+use lib.ListN.{length}
+use Prim.Native.Nat.{_-_, _≤_}
+use borrow.Author.Needs.{needs}
 use Rattle.fair_copy.proofs.serve.Statement.{statement}
 use Rattle.fair_copy.proofs.serve.Tie as tie
-use Rattle.fair_copy.proofs.serve.Reads as reads
-use Rattle.fair_copy.proofs.serve.Lts as lts
-use Rattle.fair_copy.proofs.move_on.Reads as move-on-reads
-use Rattle.fair_copy.proofs.next_place.Reads as next-place-reads
-use Rattle.fair_copy.proofs.write_out.Reads as write-out-reads
-use Rattle.io.proofs.large_buffer.Reads as large-buffer-reads
-use Rattle.laws.proofs.both.Reads as both-reads
 
 abbrev Inv-loop : tie.InvT-loop
-Inv-loop buf₀ part copy₀ notes₀ run₀ from₀ buf copy notes run from = ?
+Inv-loop buf₀ part copy₀ notes₀ copier₀ from₀ at₀ said₀ buf copy notes copier from at said = (length buf ≡ length buf₀) × (length copy ≡ 65536) × (length notes ≡ 65536) × Between copier × (from ≤ length part) × (at ≤ 65536) × (said ≤ 65536)
 
 abbrev μ-loop : tie.MeasureT-loop
-μ-loop buf₀ part copy₀ notes₀ run₀ from₀ buf copy notes run from = ?
+μ-loop buf₀ part copy₀ notes₀ copier₀ from₀ at₀ said₀ buf copy notes copier from at said = length part - from
 
--- src/main.rt:241:20
 large-buffer-requires : tie.Need-large-buffer-requires Inv-loop μ-loop
-large-buffer-requires c κs = ?
+large-buffer-requires c κs = search needs
 
--- src/main.rt:242:21
 large-buffer-requires-2 : tie.Need-large-buffer-requires-2 Inv-loop μ-loop
-large-buffer-requires-2 c κs = ?
+large-buffer-requires-2 c κs = search needs
 
--- src/main.rt:251:5
 loop-holds : tie.Need-loop-holds Inv-loop μ-loop
-loop-holds c = ?
+loop-holds c = (refl, search needs, search needs, (c .before .before .before .before) .pre .0, omega arith, omega arith, omega arith)
 
--- src/main.rt:252:35
-sub-move-on : tie.Need-sub-move-on Inv-loop μ-loop
-sub-move-on c = ?
+slice-aggregate-serve-one : tie.Need-slice-aggregate-serve-one Inv-loop μ-loop
+slice-aggregate-serve-one c = search needs
 
--- src/main.rt:252:35
-part-move-on-start : tie.Need-part-move-on-start Inv-loop μ-loop
-part-move-on-start c = ?
+slice-aggregate-serve-one-2 : tie.Need-slice-aggregate-serve-one-2 Inv-loop μ-loop
+slice-aggregate-serve-one-2 c = search needs
 
--- src/main.rt:252:35
-part-move-on-end : tie.Need-part-move-on-end Inv-loop μ-loop
-part-move-on-end c = ?
+serve-one-requires : tie.Need-serve-one-requires Inv-loop μ-loop
+serve-one-requires c κs = (c .before .before .before .before .loop .inv .3, omega (arith, (c .before .before .before .before .before .before .before .before .before) .pre .1, c .before .before .before .before .loop .inv .0), c .before .before .before .loop-test .taken, omega (arith, c .before .before .before .before .loop .inv .1, c .before .before .before .before .loop .inv .5), omega (arith, c .before .before .before .before .loop .inv .2, c .before .before .before .before .loop .inv .6))
 
--- src/main.rt:252:50
-slice-aggregate-move-on : tie.Need-slice-aggregate-move-on Inv-loop μ-loop
-slice-aggregate-move-on c = ?
-
--- src/main.rt:252:61
-slice-aggregate-move-on-2 : tie.Need-slice-aggregate-move-on-2 Inv-loop μ-loop
-slice-aggregate-move-on-2 c = ?
-
--- src/main.rt:252:13
-move-on-requires : tie.Need-move-on-requires Inv-loop μ-loop
-move-on-requires c κs = ?
-
--- src/main.rt:255:9
-next-place-requires : tie.Need-next-place-requires Inv-loop μ-loop
-next-place-requires c κs = ?
-
--- src/main.rt:251:5
-loop-less : tie.Need-loop-less Inv-loop μ-loop
-loop-less c = ?
-
--- src/main.rt:251:5
-loop-again : tie.Need-loop-again Inv-loop μ-loop
-loop-again c = ?
-
--- src/main.rt:259:29
-sub-write-out : tie.Need-sub-write-out Inv-loop μ-loop
-sub-write-out c = ?
-
--- src/main.rt:259:29
-part-write-out-start : tie.Need-part-write-out-start Inv-loop μ-loop
-part-write-out-start c = ?
-
--- src/main.rt:259:29
-part-write-out-end : tie.Need-part-write-out-end Inv-loop μ-loop
-part-write-out-end c = ?
-
--- src/main.rt:259:43
-sub-write-out-2 : tie.Need-sub-write-out-2 Inv-loop μ-loop
-sub-write-out-2 c = ?
-
--- src/main.rt:259:43
-part-write-out-start-2 : tie.Need-part-write-out-start-2 Inv-loop μ-loop
-part-write-out-start-2 c = ?
-
--- src/main.rt:259:43
-part-write-out-end-2 : tie.Need-part-write-out-end-2 Inv-loop μ-loop
-part-write-out-end-2 c = ?
-
--- src/main.rt:259:9
-write-out-requires : tie.Need-write-out-requires Inv-loop μ-loop
-write-out-requires c κs = ?
-
--- src/main.rt:266:15
-both-requires : tie.Need-both-requires Inv-loop μ-loop
-both-requires c κs = ?
-
--- src/main.rt:237:1
 same-length : tie.Need-same-length Inv-loop μ-loop
-same-length c = ?
+same-length c = search needs
 
--- src/main.rt:237:1
 returns : tie.Need-returns Inv-loop μ-loop
-returns c = ?
+returns c = c .before .before .before .before .before .before .before .serve-one .ensures .0
+
+loop-less : tie.Need-loop-less Inv-loop μ-loop
+loop-less c = omega (arith, c .before .before .before .before .before .before .before .serve-one .ensures .1, c .before .before .before .before .before .before .before .serve-one .ensures .2)
+
+loop-again : tie.Need-loop-again Inv-loop μ-loop
+loop-again c = (search needs, search needs, search needs, c .before .before .before .before .before .before .before .serve-one .ensures .0, c .before .before .before .before .before .before .before .serve-one .ensures .2, omega (arith, c .before .before .before .before .before .before .before .serve-one .ensures .3, c .before .before .before .before .before .before .before .before .before .before .before .before .loop .inv .1), omega (arith, c .before .before .before .before .before .before .before .serve-one .ensures .4, c .before .before .before .before .before .before .before .before .before .before .before .before .loop .inv .2))
+
+sub-write-out : tie.Need-sub-write-out Inv-loop μ-loop
+sub-write-out c = search needs
+
+part-write-out-start : tie.Need-part-write-out-start Inv-loop μ-loop
+part-write-out-start c = search needs
+
+part-write-out-end : tie.Need-part-write-out-end Inv-loop μ-loop
+part-write-out-end c = search needs
+
+sub-write-out-2 : tie.Need-sub-write-out-2 Inv-loop μ-loop
+sub-write-out-2 c = search needs
+
+part-write-out-start-2 : tie.Need-part-write-out-start-2 Inv-loop μ-loop
+part-write-out-start-2 c = search needs
+
+part-write-out-end-2 : tie.Need-part-write-out-end-2 Inv-loop μ-loop
+part-write-out-end-2 c = search needs
+
+write-out-requires : tie.Need-write-out-requires Inv-loop μ-loop
+write-out-requires c κs = search needs
+
+both-requires : tie.Need-both-requires Inv-loop μ-loop
+both-requires c κs = search needs
+
+same-length-2 : tie.Need-same-length-2 Inv-loop μ-loop
+same-length-2 c = search needs
+
+returns-2 : tie.Need-returns-2 Inv-loop μ-loop
+returns-2 c = c .before .before .before .before .before .before .before .before .loop .inv .3
 
 pub serve-spec : {M : Type 1} → statement M
 serve-spec =
@@ -111,13 +82,11 @@ serve-spec =
     large-buffer-requires
     large-buffer-requires-2
     loop-holds
-    sub-move-on
-    part-move-on-start
-    part-move-on-end
-    slice-aggregate-move-on
-    slice-aggregate-move-on-2
-    move-on-requires
-    next-place-requires
+    slice-aggregate-serve-one
+    slice-aggregate-serve-one-2
+    serve-one-requires
+    same-length
+    returns
     loop-less
     loop-again
     sub-write-out
@@ -128,5 +97,5 @@ serve-spec =
     part-write-out-end-2
     write-out-requires
     both-requires
-    same-length
-    returns)
+    same-length-2
+    returns-2)
