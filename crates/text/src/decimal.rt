@@ -53,16 +53,22 @@ pub fn number_in(part: &[u8]) -> Number
     digits_value(part)
 }
 
-// The decimal digits of n at the front of the sheet.
+// The decimal digits of n at the front of the sheet, from the highest place down. Where n is below what a one is worth
+// at a place, that place is above its first digit and is left out; the last place always has a digit. Most numbers of an
+// answer have one digit or two: for those the first place looked at is the tens.
 pub fn put_digits(sheet: &mut [u8], n: u32) -> usize
     requires { ⌜ (n < 10 ^ 9) × (length (digits n) ≤ length (now sheet)) ⌝ }
     ensures { λ r. ⌜ Wrote (digits n) (now (sheet .entry)) (now (sheet .exit)) r ⌝ }
 {
-    if n < 10 {
-        sheet[0] = (48 + n) as u8;
-        return 1;
+    let mut at: usize = 0;
+    let mut worth = if n < 100 { 10 } else { 100_000_000 };
+    while 1 < worth {
+        if worth <= n {
+            sheet[at] = (48 + n / worth % 10) as u8;
+            at += 1;
+        }
+        worth = worth / 10;
     }
-    let at = put_digits(sheet, n / 10);
     sheet[at] = (48 + n % 10) as u8;
     at + 1
 }
