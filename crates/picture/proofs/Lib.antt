@@ -5,3 +5,4 @@ pub mod Finds
 pub mod Foreign
 pub mod Steps
 pub mod Told
+pub mod Shown
