@@ -11,6 +11,7 @@ use Rattle.laws.specs.Tests.{pick}
 use Rattle.chairs.specs.Chairs.{chairAt, putAt, noChair, closeAll, closedOf, paidOf}
 pub use Rattle.laws.specs.Lists.{All}
 use Rattle.chairs.specs.declared.Chair.{Chair}
+use Rattle.chairs.proofs.Clockwise.{put-other}
 
 abbrev pub sumOver : (Chair → ℕ) → List Chair → ℕ
 sumOver g [] = 0
@@ -117,14 +118,7 @@ stack-same (c ∷ cs) (suc zero) m = refl
 stack-same (c ∷ cs) (suc (suc k)) m = stack-same cs (suc k) m
 
 stack-other : (cs : List Chair) (x y : ℕ) (d : Chair) → (x ≡ y → ⊥) → chairAt (putAt cs x d) y .stack ≡ chairAt cs y .stack
-stack-other cs zero y d h = refl
-stack-other [] (suc k) y d h = refl
-stack-other (c ∷ cs) (suc zero) zero d h = refl
-stack-other (c ∷ cs) (suc zero) (suc zero) d h = absurd (h refl)
-stack-other (c ∷ cs) (suc zero) (suc (suc j)) d h = refl
-stack-other (c ∷ cs) (suc (suc k)) zero d h = refl
-stack-other (c ∷ cs) (suc (suc k)) (suc zero) d h = refl
-stack-other (c ∷ cs) (suc (suc k)) (suc (suc j)) d h = stack-other cs (suc k) (suc j) d (λ e. h (ap suc e))
+stack-other cs x y d h = ap (λ (c : Chair). c .stack) (put-other cs x y d h)
 
 pub paid-stack : (cs : List Chair) (x y m : ℕ)
     → chairAt (putAt cs x (paidOf (chairAt cs x) m)) y .stack ≡ chairAt cs y .stack - pick (eqb x y) (min m (chairAt cs x .stack)) 0

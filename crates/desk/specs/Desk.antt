@@ -71,7 +71,7 @@ judgedBytes j = answerBytes (shownOf (j .n) (j .code) (j .table) (j .payout))
 
 -- the block that answers it
 unfoldable pub blockBytes : Table → List ℕ → List ℕ
-blockBytes t log = answerBytes (shownOf (judgedOf t log .n) (judgedOf t log .code) (judgedOf t log .table) (judgedOf t log .payout))
+blockBytes t log = judgedBytes (judgedOf t log)
 
 -- refusal 12: a block whose answer was not written is not taken
 abbrev pub answeredFrom : Table → Judged → Written → Answered

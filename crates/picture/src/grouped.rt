@@ -28,7 +28,7 @@ fn units(n: u32) -> u8
 }
 
 // A number of at most nine digits.
-pub fn grouped(n: u32) -> [u8; 11]
+pub(crate) fn grouped(n: u32) -> [u8; 11]
     ensures { λ r. ⌜ r ≡ groupedOf n ⌝ }
 {
     [
@@ -47,7 +47,7 @@ pub fn grouped(n: u32) -> [u8; 11]
 }
 
 // The column of a row's number: blank where the row has none.
-pub fn column(shown: bool, n: u32) -> [u8; 11]
+pub(crate) fn column(shown: bool, n: u32) -> [u8; 11]
     ensures { λ r. ⌜ r ≡ columnOf shown n ⌝ }
 {
     if shown {

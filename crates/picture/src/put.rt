@@ -7,7 +7,7 @@ ghost use Rattle.laws.specs.Tests.{pick};
 ghost use Rattle.picture.specs.Sheet.{Put};
 
 // These bytes, and the place behind them.
-pub fn put(out: &mut [u8], at: usize, bytes: &[u8]) -> usize
+pub(crate) fn put(out: &mut [u8], at: usize, bytes: &[u8]) -> usize
     requires { ⌜ at + length (now bytes) ≤ length (now out) ⌝ }
     ensures { λ r. ⌜ Put (now (bytes .entry)) at (now (out .entry)) (now (out .exit)) r ⌝ }
 {
@@ -15,7 +15,7 @@ pub fn put(out: &mut [u8], at: usize, bytes: &[u8]) -> usize
 }
 
 // These bytes where a test passes, else none.
-pub fn put_if(out: &mut [u8], at: usize, test: bool, bytes: &[u8]) -> usize
+pub(crate) fn put_if(out: &mut [u8], at: usize, test: bool, bytes: &[u8]) -> usize
     requires { ⌜ at + length (now bytes) ≤ length (now out) ⌝ }
     ensures { λ r. ⌜ Put (pick test (now (bytes .entry)) []) at (now (out .entry)) (now (out .exit)) r × (r ≤ at + length (now (bytes .entry))) ⌝ }
 {

@@ -94,7 +94,7 @@ fn line_at(line: &[u8], k: usize) -> Line
 }
 
 // What a line with its LF says.
-pub fn read_line(line: &[u8]) -> Line
+pub(crate) fn read_line(line: &[u8]) -> Line
     ensures { λ r. ⌜ (r ≡ answerLine (now (line .entry))) × Answering r ⌝ }
 {
     let mut k: usize = 0;

@@ -103,14 +103,14 @@ const WORDS: [Words; 13] = [
 ];
 
 // A line of this kind is a left half, whose right half comes with the next line: an entry's number, a sitting's.
-pub fn half(kind: usize) -> bool
+pub(crate) fn half(kind: usize) -> bool
     ensures { λ r. ⌜ r ≡ halfRow kind ⌝ }
 {
     either(kind == 0, kind == 7)
 }
 
 // How many pots stand in a row after a line of this kind.
-pub fn counted(pots: u32, kind: usize) -> u32
+pub(crate) fn counted(pots: u32, kind: usize) -> u32
     ensures { λ r. ⌜ (r ≡ countedOf pots kind) × (r ≤ 999999999) ⌝ }
 {
     if kind == 4 {
@@ -123,7 +123,7 @@ pub fn counted(pots: u32, kind: usize) -> u32
 }
 
 // A rule across the picture, where a test passes.
-pub fn put_rule_if(out: &mut [u8], at: usize, test: bool) -> usize
+pub(crate) fn put_rule_if(out: &mut [u8], at: usize, test: bool) -> usize
     requires { ⌜ at + 45 ≤ length (now out) ⌝ }
     ensures { λ r. ⌜ Put (pick test rule []) at (now (out .entry)) (now (out .exit)) r × (r ≤ at + 45) ⌝ }
 {
@@ -146,7 +146,7 @@ fn put_lit(out: &mut [u8], at: usize, colour: bool, ink: &[u8], bytes: &[u8]) ->
 }
 
 // The right half of a row.
-pub fn put_cell(out: &mut [u8], at: usize, colour: bool, ink: &[u8], bytes: &[u8]) -> usize
+pub(crate) fn put_cell(out: &mut [u8], at: usize, colour: bool, ink: &[u8], bytes: &[u8]) -> usize
     requires { ⌜ (length (now ink) ≤ 7) × (length (now bytes) ≡ 11) × (at + 33 ≤ length (now out)) ⌝ }
     ensures { λ r. ⌜ Put (cellOf colour (now (ink .entry)) (now (bytes .entry))) at (now (out .entry)) (now (out .exit)) r × (r ≤ at + 33) ⌝ }
 {
@@ -156,7 +156,7 @@ pub fn put_cell(out: &mut [u8], at: usize, colour: bool, ink: &[u8], bytes: &[u8
 }
 
 // The left half of a row.
-pub fn put_left(out: &mut [u8], at: usize, kind: usize, shown: bool, n: u32) -> usize
+pub(crate) fn put_left(out: &mut [u8], at: usize, kind: usize, shown: bool, n: u32) -> usize
     requires { ⌜ (kind < 11) × (at + 23 ≤ length (now out)) ⌝ }
     ensures { λ r. ⌜ Put (leftOf kind shown n) at (now (out .entry)) (now (out .exit)) r × (r ≤ at + 23) ⌝ }
 {
@@ -168,7 +168,7 @@ pub fn put_left(out: &mut [u8], at: usize, kind: usize, shown: bool, n: u32) -> 
 }
 
 // The row that gives a refusal in words.
-pub fn put_words(out: &mut [u8], at: usize, colour: bool, code: usize) -> usize
+pub(crate) fn put_words(out: &mut [u8], at: usize, colour: bool, code: usize) -> usize
     requires { ⌜ (code < 13) × (at + 56 ≤ length (now out)) ⌝ }
     ensures { λ r. ⌜ Put (wordsRow colour code) at (now (out .entry)) (now (out .exit)) r × (r ≤ at + 56) ⌝ }
 {
@@ -180,7 +180,7 @@ pub fn put_words(out: &mut [u8], at: usize, colour: bool, code: usize) -> usize
 }
 
 // A row's amount.
-pub fn put_amount(out: &mut [u8], at: usize, n: u32) -> usize
+pub(crate) fn put_amount(out: &mut [u8], at: usize, n: u32) -> usize
     requires { ⌜ at + 33 ≤ length (now out) ⌝ }
     ensures { λ r. ⌜ Put (amountOf n) at (now (out .entry)) (now (out .exit)) r × (r ≤ at + 33) ⌝ }
 {
@@ -189,7 +189,7 @@ pub fn put_amount(out: &mut [u8], at: usize, n: u32) -> usize
 }
 
 // A row of the lamp in the place of an amount.
-pub fn put_lamp_cell(out: &mut [u8], at: usize, colour: bool, seat: u32, row: u32) -> usize
+pub(crate) fn put_lamp_cell(out: &mut [u8], at: usize, colour: bool, seat: u32, row: u32) -> usize
     requires { ⌜ (row < 5) × (at + 33 ≤ length (now out)) ⌝ }
     ensures { λ r. ⌜ Put (lampCell colour seat row) at (now (out .entry)) (now (out .exit)) r × (r ≤ at + 33) ⌝ }
 {

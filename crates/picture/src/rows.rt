@@ -97,7 +97,14 @@ fn put_rest(out: &mut [u8], at: usize, colour: bool, l: Line) -> usize
 }
 
 // The picture of an answer line.
-pub fn put_answer(out: &mut [u8], at: usize, colour: bool, last: usize, pots: u32, l: Line) -> usize
+pub(crate) fn put_answer(
+    out: &mut [u8],
+    at: usize,
+    colour: bool,
+    last: usize,
+    pots: u32,
+    l: Line,
+) -> usize
     requires { ⌜ Answering l × (l .kind < 10) × (pots ≤ 999999999) × (at + 400 ≤ length (now out)) ⌝ }
     ensures { λ r. ⌜ Put (lineDrawn colour last pots (l .kind) (l .value)) at (now (out .entry)) (now (out .exit)) r × (r ≤ at + 400) ⌝ }
 {
