@@ -7,6 +7,8 @@ use logs::copy::copy_block;
 use logs::copy::copy_sheet;
 use logs::copy::next_number;
 use logs::copy::write_note;
+use output::ahead;
+use output::flush;
 use paper::Sheet;
 use stream::Mark;
 use text::sheet::Opening;
@@ -190,31 +192,8 @@ fn feed(c: Copier, buf: &mut [u8], part: &[u8], copy: &mut [u8], notes: &mut [u8
     }
 }
 
-// How much is still to be written, and whether what was written could be.
-struct Flushed {
-    at: usize,
-    ok: bool,
-}
-
-// Writes out the bytes where less than a block's room is left behind them.
-fn flush(fd: i32, bytes: &[u8]) -> Flushed
-    ensures { λ r. ⌜ (r .at ≤ length (now (bytes .entry))) × (r .at ≤ 64000) ⌝ }
-{
-    let at = bytes.len();
-    if at <= 64000 {
-        return Flushed { at, ok: true };
-    }
-    let ok = io::write_all(fd, bytes);
-    Flushed { at: 0, ok }
-}
-
-// A place of a slice that lies so far ahead.
-fn ahead(from: usize, by: usize, s: &[u8]) -> usize
-    requires { ⌜ from + by ≤ length (now s) ⌝ }
-    ensures { λ r. ⌜ (r ≡ from + by) × (r ≤ length (now (s .entry))) ⌝ }
-{
-    from + by
-}
+// Bytes are written out where less than a block's room is left behind them.
+const ENOUGH: usize = 64000;
 
 // How far the copy and the notes are filled, and whether what was written out could be.
 struct Filled {
@@ -228,8 +207,8 @@ fn make_room(at: usize, said: usize, copy: &[u8], notes: &[u8]) -> Filled
     requires { ⌜ (at ≤ length (now copy)) × (said ≤ length (now notes)) ⌝ }
     ensures { λ r. ⌜ (r .at ≤ length (now (copy .entry))) × (r .said ≤ length (now (notes .entry))) × (r .at ≤ 64000) × (r .said ≤ 64000) ⌝ }
 {
-    let w = flush(STDOUT_FILENO, &copy[0..at]);
-    let v = flush(STDERR_FILENO, &notes[0..said]);
+    let w = flush(STDOUT_FILENO, &copy[0..at], ENOUGH);
+    let v = flush(STDERR_FILENO, &notes[0..said], ENOUGH);
     Filled {
         at: w.at,
         said: v.at,

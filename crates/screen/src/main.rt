@@ -2,6 +2,7 @@
 // output is no terminal, without colour.
 use libc::STDIN_FILENO;
 use libc::STDOUT_FILENO;
+use output::flush;
 use picture::Screen;
 use picture::close;
 use picture::start;
@@ -11,23 +12,8 @@ ghost use Prim.Native.Nat.{_+_, _≤_, _<_};
 ghost use lib.ListN.{length};
 ghost use Rattle.picture.specs.Screen.{Held};
 
-// Where the next row goes, and whether what was written could be.
-struct Flushed {
-    at: usize,
-    ok: bool,
-}
-
-// Writes out the rows where less than a line's room is left behind them.
-fn flush(rows: &[u8]) -> Flushed
-    ensures { λ r. ⌜ (r .at ≤ length (now (rows .entry))) × (r .at ≤ 65000) ⌝ }
-{
-    let at = rows.len();
-    if at <= 65000 {
-        return Flushed { at, ok: true };
-    }
-    let ok = io::write_all(STDOUT_FILENO, rows);
-    Flushed { at: 0, ok }
-}
+// Rows are written out where less than a line's room is left behind them.
+const ENOUGH: usize = 65000;
 
 struct Shown {
     screen: Screen,
@@ -40,7 +26,7 @@ fn show_byte(colour: bool, s: Screen, buf: &mut [u8], b: u8, out: &mut [u8], at:
     requires { ⌜ Held s × (41 ≤ length (now buf)) × (at ≤ length (now out)) × (length (now out) ≡ 65536) ⌝ }
     ensures { λ r. ⌜ Held (r .screen) × (r .at ≤ length (now (out .entry))) ⌝ }
 {
-    let w = flush(&out[0..at]);
+    let w = flush(STDOUT_FILENO, &out[0..at], ENOUGH);
     let d = step(colour, s, buf, b, out, w.at);
     let next = d.screen;
     Shown {
