@@ -1,20 +1,23 @@
 -- The first seat clockwise, counts of seats, and another chair at a seat: for any test of a chair, over any number of chairs. Assumes nothing.
+-- ---- another chair at a seat
 use Prim.Native.Nat.{ℕ, zero, suc, _+_, _-_, _≤_, _<_}
 use mathlib.Core.Bool.{Bool, true, false, true≢false}
 use mathlib.Core.Path.{_≡_, refl, sym, ap, _∙_}
-use mathlib.Core.List.{List, [], _∷_, _++_}
-use mathlib.Core.Logic.{_⊎_, inl, inr, ⊎-elim}
+use mathlib.Core.List.{List, [], _∷_}
+use mathlib.Core.Logic.{⊎-elim}
 use native.Mathlib.Omega.{arith}
-use lib.Dec.{eqb}
-use borrow.Author.Tests.{eqb-true, eqb-false}
+use native.Mathlib.Numerals.{add-one}
+use lib.Dec.{eqb, ltb}
+use lib.ListN.{length, getD, drop, length-append, List·getD-append}
+use lib.Seq.{drop-cons, getD-append-add}
+use borrow.Author.Tests.{eqb-true, eqb-false, ltb-true, ltb-false}
 use Rattle.laws.specs.Tests.{pick, one}
 use Rattle.laws.proofs.Tests.{test}
 use Rattle.pots.proofs.Contest.{le-or-lt}
-use Rattle.chairs.specs.Chairs.{chairAt, putAt, noChair, countOf, firstOf, seatsFrom, clockwise}
+use Rattle.chairs.specs.Chairs.{chairAt, putAt, noChair, countOf, firstOf, seatsFrom, clockwise, placeOn}
 use Rattle.chairs.specs.declared.Chair.{Chair}
 use Rattle.chairs.proofs.Laws.{first-none, first-some}
 
--- ---- another chair at a seat
 pub put-other : (cs : List Chair) (x y : ℕ) (d : Chair) → (x ≡ y → ⊥) → chairAt (putAt cs x d) y ≡ chairAt cs y
 put-other cs zero y d h = refl
 put-other [] (suc k) y d h = refl
@@ -84,6 +87,44 @@ module _ (p : Chair → Bool) where
       inner : (cs : List Chair) (j : ℕ) → ((y : ℕ) → (y ≡ suc (suc j) → ⊥) → p (chairAt (c ∷ cs) y) ≡ false) → (y : ℕ) → (y ≡ suc j → ⊥) → p (chairAt cs y) ≡ false
       inner cs j h zero n = h 0 (λ e. omega arith)
       inner cs j h (suc k) n = h (suc (suc k)) (λ e. n (omega arith))
+
+-- ---- the seats clockwise, one by one
+seats-length : (a m : ℕ) → length (seatsFrom a m) ≡ m
+seats-length a zero = refl
+seats-length a (suc m) = ap suc (seats-length (suc a) m)
+
+seats-at : (a m k : ℕ) → k < m → getD (seatsFrom a m) k 0 ≡ suc (a + k)
+seats-at a zero k l = absurd (omega arith)
+seats-at a (suc m) zero l = omega arith
+seats-at a (suc m) (suc k) l = omega (arith, seats-at (suc a) m k (omega arith))
+
+pub clock-length : (n s : ℕ) → s ≤ n → length (clockwise n s) ≡ n
+clock-length n s l = omega (arith, length-append (seatsFrom s (n - s)) (seatsFrom 0 s), seats-length s (n - s), seats-length 0 s)
+
+clock-at : (n s k : ℕ) → s ≤ n → k < n → getD (clockwise n s) k 0 ≡ suc (placeOn n s k)
+clock-at n s k l m = go (ltb (s + k) n) refl
+  where
+    go : (b : Bool) → ltb (s + k) n ≡ b → getD (clockwise n s) k 0 ≡ suc (pick b (s + k) (s + k - n))
+    go true e =
+        let h = ltb-true (s + k) n e in
+        List·getD-append (seatsFrom s (n - s)) (seatsFrom 0 s) 0 k (omega (arith, seats-length s (n - s))) ∙ seats-at s (n - s) k (omega arith)
+    go false e =
+        let h = ltb-false (s + k) n e in
+        let j : k ≡ length (seatsFrom s (n - s)) + (s + k - n) = omega (arith, seats-length s (n - s)) in
+        ap (λ i. getD (clockwise n s) i 0) j
+        ∙ getD-append-add (seatsFrom s (n - s)) (seatsFrom 0 s) (s + k - n) 0
+        ∙ omega (arith, seats-at 0 s (s + k - n) (omega arith))
+
+-- the k-th of them, and those behind it
+clock-turn : (n s k : ℕ) → s ≤ n → k < n → drop k (clockwise n s) ≡ suc (placeOn n s k) ∷ drop (suc k) (clockwise n s)
+clock-turn n s k l m =
+    drop-cons (clockwise n s) k 0 (omega (arith, clock-length n s l)) ∙ ap (λ x. x ∷ drop (suc k) (clockwise n s)) (clock-at n s k l m)
+
+-- the first from the k-th on: that one, where it is as asked, else the first behind it
+pub first-turn : (p : Chair → Bool) (cs : List Chair) (n s k : ℕ) (b : Bool) → s ≤ n → k < n → p (getD cs (placeOn n s k) noChair) ≡ b
+    → firstOf p cs (drop k (clockwise n s)) ≡ pick b (suc (placeOn n s k)) (firstOf p cs (drop (k + 1) (clockwise n s)))
+first-turn p cs n s k b l m e =
+    rw add-one (ap (firstOf p cs) (clock-turn n s k l m) ∙ ap (λ d. pick d (suc (placeOn n s k)) (firstOf p cs (drop (suc k) (clockwise n s)))) e)
 
 -- ---- the first of some seats
 module _ (p : Chair → Bool) (cs : List Chair) where

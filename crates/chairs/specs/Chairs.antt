@@ -1,6 +1,7 @@
 -- Document 01, the words of "Sittings", "Opening" and "Betting" that are about one chair: dealt in, live, a live seat with chips, round total, owes;
 -- what befalls a chair; and over the chairs of a table, of any number: counts, the chair of a seat, the first seat clockwise. Assumes nothing.
-use Prim.Native.Nat.{ℕ, zero, suc, _+_, _-_, _≤_, min}
+use Prim.Native.Nat.{ℕ, zero, suc, _+_, _-_, _≤_, _<_, min}
+use mathlib.Core.Path.{_≡_}
 use mathlib.Core.Bool.{Bool, true, false, not}
 use mathlib.Core.List.{List, [], _∷_, _++_}
 use lib.ListN.{getD, set}
@@ -73,6 +74,14 @@ abbrev pub putAt : List Chair → ℕ → Chair → List Chair
 putAt cs zero c = cs
 putAt cs (suc k) c = set cs k c
 
+-- the chairs above seat n are chairs that nobody ever had; of ten chairs the first n are a table's seats
+abbrev pub Above : ℕ → List Chair → Type 0
+Above n cs = (s : ℕ) → n < s → chairAt cs s ≡ noChair
+
+pub record Seats (n : ℕ) (cs : List Chair) : Type 0 where
+  pub few : n ≤ 10
+  pub above : Above n cs
+
 -- the m seats after seat k
 abbrev pub seatsFrom : ℕ → ℕ → List ℕ
 seatsFrom k zero = []
@@ -81,6 +90,10 @@ seatsFrom k (suc m) = suc k ∷ seatsFrom (suc k) m
 -- Opening: clockwise is rising number, wrapping. The seats from the one after s on; s comes last
 abbrev pub clockwise : ℕ → ℕ → List ℕ
 clockwise n s = seatsFrom s (n - s) ++ seatsFrom 0 s
+
+-- so the k-th of them, from 0, is at this place of n
+abbrev pub placeOn : ℕ → ℕ → ℕ → ℕ
+placeOn n s k = pick (ltb (s + k) n) (s + k) (s + k - n)
 
 -- the first of some seats that is as asked, or 0
 abbrev pub firstOf : (Chair → Bool) → List Chair → List ℕ → ℕ
@@ -148,9 +161,9 @@ sweepOf Deal c = dealtOf c
 abbrev pub heldOf : Chair → ℕ → ℕ → Chair
 heldOf c a b = record { sitting = c .sitting; stack = c .stack; dealt = c .dealt; hole = record { entered = true; first = a; second = b } }
 
--- the sitting that was dealt in is still there
+-- a sitting was dealt in, and it is still there
 abbrev pub isHere : Chair → Bool
-isHere c = eqb (c .sitting) (c .dealt .sitting)
+isHere c = both (ltb 0 (c .dealt .sitting)) (eqb (c .sitting) (c .dealt .sitting))
 
 abbrev pub columnOf : What → Chair → ℕ
 columnOf col.Total c = c .dealt .total

@@ -1,22 +1,27 @@
-// The ten chairs of a table: counts, the first seat clockwise, and what is read off or befalls every chair. One loop each.
+// The chairs of a table: counts, the first seat clockwise, and what is read off or befalls every chair. One loop each, over the table's seats:
+// a chair above them is one that nobody ever had, and adds nothing.
 use crate::Chair;
 use crate::Sweep;
 use crate::What;
 use crate::Who;
 ghost use mathlib.Core.Path.{_≡_};
-ghost use Prim.Native.Nat.{ℕ, _+_, _-_, _≤_};
+ghost use Prim.Native.Nat.{ℕ, _+_, _≤_, _<_};
 ghost use lib.ListN.{getD};
 ghost use mathlib.Core.List.{map};
+ghost use Rattle.pots.specs.Heights.{maskAt};
 ghost use Rattle.chairs.specs.declared.Who.the-variants.{Live, LiveWithChips};
-ghost use Rattle.chairs.specs.Chairs.{wantOf, sweepOf, columnOf, noChair, chairAt, putAt, countOf, chipsOf, firstOf, seatsFrom, clockwise, closeAll};
+ghost use Rattle.chairs.specs.declared.What.the-variants.{Total, Live as OfLive};
+ghost use Rattle.chairs.specs.Chairs.{wantOf, sweepOf, columnOf, noChair, chairAt, putAt, countOf, chipsOf, firstOf, clockwise, closeAll, placeOn, Above, Seats};
 
 // How many chairs are among those looked for.
-pub fn count(cs: [Chair; 10], w: Who) -> u8
+pub fn count(cs: [Chair; 10], seats: u32, w: Who) -> u8
+    requires { ⌜ Seats seats cs ⌝ }
     ensures { λ r. ⌜ r ≡ countOf (wantOf w) cs ⌝ }
 {
+    let last = seats as usize;
     let mut n: u8 = 0;
     let mut i: usize = 0;
-    while i < 10 {
+    while i < last {
         let c = cs[i];
         if crate::wants(w, c) {
             n += 1;
@@ -33,13 +38,15 @@ pub struct LiveCount {
 }
 
 // Both counts in one pass, since whoever looks for an owing seat needs both.
-pub fn lives(cs: [Chair; 10]) -> LiveCount
+pub fn lives(cs: [Chair; 10], seats: u32) -> LiveCount
+    requires { ⌜ Seats seats cs ⌝ }
     ensures { λ r. ⌜ (r .hands ≡ countOf (wantOf Live) cs) × (r .stacks ≡ countOf (wantOf LiveWithChips) cs) ⌝ }
 {
+    let last = seats as usize;
     let mut hands: u32 = 0;
     let mut stacks: u32 = 0;
     let mut i: usize = 0;
-    while i < 10 {
+    while i < last {
         let c = cs[i];
         hands += laws::one(c.dealt.live);
         stacks += laws::one(crate::live_with_chips(c));
@@ -78,39 +85,41 @@ pub fn put_chair(cs: [Chair; 10], s: u32, c: Chair) -> [Chair; 10]
     next
 }
 
-// The first of the seats after lo, up to hi, that is looked for; 0 where there is none.
-fn first_in(cs: [Chair; 10], w: Who, lo: u32, hi: u32) -> u32
-    ensures { λ r. ⌜ r ≡ firstOf (wantOf w) cs (seatsFrom lo (hi - lo)) ⌝ }
+// The place that is k places on from place s, around so many seats.
+fn place_on(s: u32, k: u32, seats: u32) -> usize
+    requires { ⌜ (s ≤ seats) × (k < seats) × (seats ≤ 10) ⌝ }
+    ensures { λ r. ⌜ (r ≡ placeOn seats s k) × (r < seats) ⌝ }
 {
-    let mut i = lo;
-    while i < hi {
-        let c = chair_at(cs, i + 1);
+    let at = s + k;
+    if at < seats { at as usize } else { (at - seats) as usize }
+}
+
+// The first seat clockwise from s, which comes last, that is looked for; 0 where there is none.
+pub fn first_from(cs: [Chair; 10], seats: u32, w: Who, s: u32) -> u32
+    requires { ⌜ (s ≤ seats) × (seats ≤ 10) ⌝ }
+    ensures { λ r. ⌜ r ≡ firstOf (wantOf w) cs (clockwise seats s) ⌝ }
+{
+    let mut k: u32 = 0;
+    while k < seats {
+        let i = place_on(s, k, seats);
+        let c = cs[i];
         if crate::wants(w, c) {
-            return i + 1;
+            return i as u32 + 1;
         }
-        i += 1;
+        k += 1;
     }
     0
 }
 
-// The first seat clockwise from s, which comes last, that is looked for; 0 where there is none.
-pub fn first_from(cs: [Chair; 10], w: Who, n: u32, s: u32) -> u32
-    ensures { λ r. ⌜ r ≡ firstOf (wantOf w) cs (clockwise n s) ⌝ }
-{
-    let after = first_in(cs, w, s, n);
-    if after != 0 {
-        return after;
-    }
-    first_in(cs, w, 0, s)
-}
-
 // All chips: the stacks and what lies in the open hand.
-pub fn chips(cs: [Chair; 10]) -> u64
+pub fn chips(cs: [Chair; 10], seats: u32) -> u64
+    requires { ⌜ Seats seats cs ⌝ }
     ensures { λ r. ⌜ r ≡ chipsOf cs ⌝ }
 {
+    let last = seats as usize;
     let mut n: u64 = 0;
     let mut i: usize = 0;
-    while i < 10 {
+    while i < last {
         let c = cs[i];
         n = n + c.stack as u64 + c.dealt.total as u64;
         i += 1;
@@ -118,12 +127,15 @@ pub fn chips(cs: [Chair; 10]) -> u64
     n
 }
 
-pub fn sweep_all(cs: [Chair; 10], k: Sweep) -> [Chair; 10]
+// What befalls every chair; it leaves one that nobody ever had as it is.
+pub fn sweep_all(cs: [Chair; 10], seats: u32, k: Sweep) -> [Chair; 10]
+    requires { ⌜ Seats seats cs ⌝ }
     ensures { λ r. ⌜ r ≡ map (sweepOf k) cs ⌝ }
 {
+    let last = seats as usize;
     let mut ds = cs;
     let mut i: usize = 0;
-    while i < 10 {
+    while i < last {
         let c = ds[i];
         let d = crate::swept(k, c);
         ds[i] = d;
@@ -132,26 +144,53 @@ pub fn sweep_all(cs: [Chair; 10], k: Sweep) -> [Chair; 10]
     ds
 }
 
-pub fn column(cs: [Chair; 10], k: What) -> [u32; 10]
+// A number read off every chair, from the last seat to the first.
+pub fn column(cs: [Chair; 10], seats: u32, k: What) -> [u32; 10]
+    requires { ⌜ Seats seats cs ⌝ }
     ensures { λ r. ⌜ r ≡ map (columnOf k) cs ⌝ }
 {
     let mut a = [0u32; 10];
-    let mut i: usize = 0;
-    while i < 10 {
+    let mut i = seats as usize;
+    while 0 < i {
+        i -= 1;
         let c = cs[i];
         a[i] = crate::reading(k, c);
-        i += 1;
     }
     a
 }
 
-pub fn close_all(cs: [Chair; 10], paid: [u32; 10]) -> [Chair; 10]
-    requires { ⌜ ((i : ℕ) → getD cs i noChair .stack + getD paid i 0 ≤ 4000000000) ⌝ }
+// What a clerk finds the pots from: what each sitting dealt in has put in, and which hands are live, as a mask.
+pub struct PutIn {
+    pub totals: [u32; 10],
+    pub live: u16,
+}
+
+// Both in one pass, since whoever looks for the pots needs both.
+pub fn put_in(cs: [Chair; 10], seats: u32) -> PutIn
+    requires { ⌜ Seats seats cs ⌝ }
+    ensures { λ r. ⌜ (r .totals ≡ map (columnOf Total) cs) × (r .live ≡ maskAt (map (columnOf OfLive) cs) 1) ⌝ }
+{
+    let mut totals = [0u32; 10];
+    let mut live: u16 = 0;
+    let mut i = seats as usize;
+    while 0 < i {
+        i -= 1;
+        let c = cs[i];
+        totals[i] = c.dealt.total;
+        live = crate::bit(c.dealt.live) + 2 * live;
+    }
+    PutIn { totals, live }
+}
+
+// The hand is closed at every chair; nothing is paid above the seats.
+pub fn close_all(cs: [Chair; 10], seats: u32, paid: [u32; 10]) -> [Chair; 10]
+    requires { ⌜ Seats seats cs × ((i : ℕ) → seats ≤ i → getD paid i 0 ≡ 0) × ((i : ℕ) → getD cs i noChair .stack + getD paid i 0 ≤ 4000000000) ⌝ }
     ensures { λ r. ⌜ r ≡ closeAll cs paid ⌝ }
 {
+    let last = seats as usize;
     let mut ds = cs;
     let mut i: usize = 0;
-    while i < 10 {
+    while i < last {
         let c = ds[i];
         let d = crate::closed(c, paid[i]);
         ds[i] = d;

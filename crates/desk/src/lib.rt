@@ -154,27 +154,7 @@ pub struct Answered {
     pub written: usize,
 }
 
-// A block whose answer was not written is not taken: code 12.
-fn closed(t: Table, j: Judged, w: Written) -> Answered
-    requires { ⌜ Sound t × Sound (j .table) ⌝ }
-    ensures { λ r. ⌜ (r ≡ answeredFrom t j w) × Sound (r .table) ⌝ }
-{
-    let Written::Bytes(k) = w else {
-        return Answered {
-            code: 12,
-            table: t,
-            written: 0,
-        };
-    };
-    let u = j.table;
-    Answered {
-        code: j.code,
-        table: u,
-        written: k,
-    }
-}
-
-// The answer to a block that was read, at the front of the sheet.
+// The answer to a block that was read, at the front of the sheet. A block whose answer was not written is not taken: code 12.
 pub fn answer_block(table: Table, b: Block, sheet: &mut [u8]) -> Answered
     requires { ⌜ Sound table × (numberOfBlock b < 10 ^ 9) ⌝ }
     ensures answer { λ r. ⌜ r ≡ answeredFrom table (judgeBlock table b) (writtenOf (judgedBytes (judgeBlock table b)) (now (sheet .entry))) ⌝ }
@@ -186,7 +166,18 @@ pub fn answer_block(table: Table, b: Block, sheet: &mut [u8]) -> Answered
     let paid = j.payout;
     let s = shown_of(j.n, j.code, u, paid);
     let w = write_answer(sheet, s);
-    closed(table, j, w)
+    let Written::Bytes(k) = w else {
+        return Answered {
+            code: 12,
+            table,
+            written: 0,
+        };
+    };
+    Answered {
+        code: j.code,
+        table: u,
+        written: k,
+    }
 }
 
 // The answer to the block at the front of a log, at the front of the sheet.

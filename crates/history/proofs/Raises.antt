@@ -1,5 +1,6 @@
 -- No. 2: whether a seat in turn may raise is what the taken entries tell. A seat that may only call or fold by the paper's sentence gets 7 for every wager.
 -- The table keeps one mark, `spent`: where it is set and the seat is in turn, a short lift came since. Assumes nothing.
+-- the table's marks of a seat are what the entries tell
 use Prim.Native.Nat.{ℕ, zero, suc, _+_}
 use mathlib.Core.Bool.{Bool, true, false, not, true≢false, false≢true}
 use mathlib.Core.Path.{_≡_, refl, sym, ap, subst, _∙_}
@@ -30,12 +31,11 @@ use Rattle.table.specs.Take.{kindCode, codeOf, appliedTo, nextOf}
 use Rattle.table.specs.declared.table.Table.{Table}
 use Rattle.table.proofs.Codes.{turn-live, check-live, call-live, wager-live}
 use Rattle.table.proofs.Sounds.{passed}
-use Rattle.table.proofs.Standing.{standing-fresh}
+use Rattle.table.proofs.Standing.{cleared-fresh}
 use Rattle.history.specs.History.{run, AllTaken}
 use Rattle.history.specs.Raises.{Since, noneYet, sinceWager, sinceBy, sinceOf, onlyCallOrFold}
 use Rattle.history.proofs.Reached.{reached-standing}
 
--- the table's marks of a seat are what the entries tell
 record Reads (c : Chair) (s : Since) : Type 0 where
   spent : c .dealt .spent ≡ s .acted
   why : c .dealt .spent ≡ true → c .dealt .acted ≡ false → s .short ≡ true
@@ -157,7 +157,7 @@ agrees-applied t Void f q h = h
 
 reads : (sheet : Sheet) (es : List Entry) → AllTaken sheet es → Agrees (run sheet es .chairs) (sinceOf sheet es)
 unfolding run sinceOf nextOf Agrees
-reads sheet [] a = λ x. reads-fresh _ (ap (λ (d : Dealt). d .spent) (all-at Cleared (run sheet [] .chairs) x refl (standing-fresh sheet .cleared refl)))
+reads sheet [] a = λ x. reads-fresh _ (ap (λ (d : Dealt). d .spent) (all-at Cleared (run sheet [] .chairs) x refl (cleared-fresh sheet)))
 reads sheet (e ∷ es) a =
     let t = run sheet es in
     let n = length es + 1 in

@@ -1,23 +1,22 @@
 -- Stacks and totals together change only by `sit`, by `leave`, and by a settle's fee and unclaimed chips: `chips-change`. Assumes nothing.
+-- ---- chairs
 use Prim.Native.Nat.{ℕ, zero, suc, _+_, _-_, _≤_, _<_}
 use mathlib.Core.Bool.{Bool, true, false}
 use mathlib.Core.Path.{_≡_, refl, sym, ap, _∙_}
 use mathlib.Core.List.{List, [], _∷_, map}
 use native.Mathlib.Omega.{arith}
-use lib.Dec.{eqb, leb}
+use lib.Dec.{leb}
 use lib.ListN.{length}
 use borrow.Author.Tests.{eq-eqb}
-use Rattle.laws.specs.Tests.{both, pick}
+use Rattle.laws.specs.Tests.{pick}
 use Rattle.laws.specs.Lists.{All, sumOf}
 use Rattle.laws.proofs.Tests.{both-true}
 use Rattle.paper.specs.Paper.{between, isSeat, inKind}
 use Rattle.paper.proofs.Codes.{between-in}
 use Rattle.paper.specs.declared.Entry.{Entry}
 use Rattle.paper.specs.declared.Entry.the-variants.{Sit, Leave, Hand, Hole, Fold, Check, Call, Wager, Board, Dead, Settle, Void}
-use Rattle.pots.specs.Runs.{potsOf}
-use Rattle.pots.specs.Heights.{returnedOf}
-use Rattle.pots.proofs.Hands.{none-lost, map-length, plus-length, won-length, paid-and-unclaimed}
-use Rattle.pots.proofs.Masks.{live-length}
+use Rattle.pots.proofs.Hands.{none-lost, map-length, paid-and-unclaimed}
+use Rattle.table.proofs.Closing.{paid-length}
 use Rattle.chairs.specs.Chairs.{chipsOf, chairAt, putAt, roundOf, paidOf, actedOf, foldedOf, againOf, roundedOf, dealtOf, seatedOf, heldOf, closeAll, columnOf}
 use Rattle.chairs.specs.declared.Chair.{Chair}
 use Rattle.chairs.specs.declared.Dealt.{Dealt}
@@ -39,7 +38,6 @@ use Rattle.table.proofs.Codes.{sit-empty, hand-closed}
 use Rattle.table.proofs.Sounds.{passed}
 use Rattle.chairs.specs.declared.What.the-variants as what
 
--- ---- chairs
 chips-same : (cs : List Chair) (x : ℕ) (d : Chair) → d .stack + d .dealt .total ≡ chairAt cs x .stack + chairAt cs x .dealt .total → chipsOf (putAt cs x d) ≡ chipsOf cs
 chips-same cs zero d e = refl
 chips-same [] (suc k) d e = refl
@@ -76,14 +74,6 @@ settle-all t h =
     let l = map-length (scoreOf (t .board)) (t .chairs) ∙ sym (map-length (columnOf what.Total) (t .chairs)) in
     let n = none-lost (totalsOf t) (livesOf t) (scoresOf t) (commissionOf t) (t .play .puck) l (omega (arith, sheet-rate (t .sheet) (h .sheet))) in
     omega (arith, n, paid-and-unclaimed (dueNow t) (hereOf t))
-
-paid-length : (t : Table) → length (payoutNow t .paid) ≡ length (t .chairs)
-unfolding payoutNow
-paid-length t =
-    live-length (dueNow t) (hereOf t)
-    ∙ plus-length _ (map (returnedOf (totalsOf t) (livesOf t)) (totalsOf t))
-    ∙ won-length (scoresOf t) (commissionOf t) (t .play .puck) (t .sheet .cap) (potsOf (totalsOf t) (livesOf t))
-    ∙ map-length (scoreOf (t .board)) (t .chairs)
 
 -- ---- entries
 seat-there : (t : Table) (x : ℕ) → Sound t → Standing t → isSeat (t .sheet) x ≡ true → (0 < x) × (x ≤ length (t .chairs))

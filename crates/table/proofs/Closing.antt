@@ -1,11 +1,12 @@
 -- What an entry leaves of the chairs' number, and what a settle leaves of `ChairOk`: nothing is paid where nobody sits. Assumes nothing.
-use Prim.Native.Nat.{ℕ, zero, suc, _+_, _-_, _≤_, _<_}
+use Prim.Native.Nat.{ℕ, zero, suc, _+_, _≤_, _<_}
 use mathlib.Core.Bool.{Bool, true, false, false≢true}
 use mathlib.Core.Path.{_≡_, refl, sym, ap, _∙_}
 use mathlib.Core.List.{List, [], _∷_, map}
+use mathlib.Core.Logic.{⊎-elim}
 use native.Mathlib.Omega.{arith}
 use lib.Dec.{eqb, leb}
-use lib.ListN.{length, getD, length-set}
+use lib.ListN.{length, getD, length-set, List·getD-eq-default}
 use borrow.Author.Tests.{eqb-true, eqb-false, ne-eqb}
 use Rattle.laws.specs.Tests.{pick, one}
 use Rattle.laws.specs.Lists.{All}
@@ -13,9 +14,12 @@ use Rattle.paper.specs.declared.Entry.{Entry}
 use Rattle.paper.specs.declared.Entry.the-variants.{Sit, Leave, Hand, Hole, Fold, Check, Call, Wager, Board, Dead, Settle, Void}
 use Rattle.chairs.specs.Chairs.{putAt, noChair, dealtOf, roundedOf, againOf, closedOf, closeAll, columnOf}
 use Rattle.chairs.specs.declared.Chair.{Chair}
-use Rattle.pots.specs.Heights.{has}
-use Rattle.pots.proofs.Contest.{has-none}
-use Rattle.pots.proofs.Hands.{map-length}
+use Rattle.chairs.proofs.Laws.{not-here}
+use Rattle.pots.specs.Heights.{has, returnedOf}
+use Rattle.pots.specs.Runs.{potsOf}
+use Rattle.pots.proofs.Masks.{live-length}
+use Rattle.pots.proofs.Contest.{has-none, le-or-lt}
+use Rattle.pots.proofs.Hands.{map-length, plus-length, won-length}
 use Rattle.pots.proofs.Bounds.{bitAt, live-at, mask-bit, reach, reach-zero, due-at-most}
 use Rattle.table.specs.State.{withCard}
 use Rattle.table.specs.Betting.{afterAct, isFullLift, foldedTo, checkedTo, calledTo, wageredTo, deadTo, newRound}
@@ -24,7 +28,7 @@ use Rattle.table.specs.Opening.{nextDealtIn, openedTo, postedTo}
 use Rattle.table.specs.Dealing.{heldTo, boardedTo}
 use Rattle.table.specs.Settle.{settledTo, payoutNow, totalsOf, livesOf, hereOf, scoreOf, scoresOf, commissionOf, dueNow}
 use Rattle.table.specs.Take.{appliedTo}
-use Rattle.table.specs.Standing.{ChairOk}
+use Rattle.table.specs.Standing.{ChairOk, Standing}
 use Rattle.table.specs.declared.table.Table.{Table}
 use Rattle.table.proofs.ChairsOk.{ok-at}
 use Rattle.chairs.specs.declared.What.the-variants as what
@@ -91,7 +95,7 @@ paid-none t i a n k l e = live-at (dueNow t) (hereOf t) i ∙ go (eqb (c .dealt 
         let d = due-reach t i n k l in
         nil (eqb (bitAt (hereOf t) i) 1) (getD (dueNow t) i 0) (omega (arith, ap (reach (totalsOf t)) z, reach-zero (totalsOf t)))
     go false q =
-        let away : eqb (getD (t .chairs) i noChair .sitting) (getD (t .chairs) i noChair .dealt .sitting) ≡ false = ne-eqb _ _ (λ z. eqb-false _ 0 q (sym z ∙ e)) in
+        let away = not-here (getD (t .chairs) i noChair) (λ z. eqb-false _ 0 q (sym z ∙ e)) in
         let h : getD (map (columnOf what.Here) (t .chairs)) i 0 ≡ 0 = col-at (columnOf what.Here) (t .chairs) i (omega arith) ∙ ap one away in
         let z : bitAt (hereOf t) i ≡ 0 = mask-bit (map (columnOf what.Here) (t .chairs)) 1 i (omega arith) ∙ ap (λ v. has v 1) h ∙ has-none 0 1 (omega arith) in
         ap (λ b. pick b (getD (dueNow t) i 0) 0) (ne-eqb (bitAt (hereOf t) i) 1 (λ y. omega arith))
@@ -106,3 +110,19 @@ ok-close (c ∷ cs) (p ∷ ps) a h = (one-closed c p (a .0) (h 0 (omega arith)),
   where
     one-closed : (c : Chair) (p : ℕ) → ChairOk c → (c .sitting ≡ 0 → p ≡ 0) → ChairOk (closedOf c p)
     one-closed c p o z = record { start = omega arith; none = λ e. refl; dead = λ e. refl; here = λ l. absurd (false≢true l); empty = λ e. omega (arith, o .empty e, z e) }
+
+pub paid-length : (t : Table) → length (payoutNow t .paid) ≡ length (t .chairs)
+unfolding payoutNow
+paid-length t =
+    live-length (dueNow t) (hereOf t)
+    ∙ plus-length _ (map (returnedOf (totalsOf t) (livesOf t)) (totalsOf t))
+    ∙ won-length (scoresOf t) (commissionOf t) (t .play .puck) (t .sheet .cap) (potsOf (totalsOf t) (livesOf t))
+    ∙ map-length (scoreOf (t .board)) (t .chairs)
+
+-- nothing is paid above the seats
+pub paid-above : (t : Table) → Standing t → (i : ℕ) → t .sheet .seats ≤ i → getD (payoutNow t .paid) i 0 ≡ 0
+paid-above t h i l =
+    ⊎-elim
+    (λ (a : 10 ≤ i). List·getD-eq-default (payoutNow t .paid) 0 (omega (arith, paid-length t, h .size)))
+    (λ (a : i < 10). paid-none t i (h .chairs) (h .size) (omega (arith, h .puck, h .seated .few)) a (ap (λ (c : Chair). c .sitting) (h .seated .above (suc i) (omega arith))))
+    (le-or-lt 10 i)

@@ -1,12 +1,13 @@
 -- What `Standing` says in the paper's words: the turn is 0 exactly when nobody owes, else it is an owing seat; a live hand's sitter sits there; chairs above
 -- `seats` are empty; the big blind is another seat than the puck, and is dealt in. Assumes nothing.
-use Prim.Native.Nat.{ℕ, zero, suc, _+_, _≤_, _<_}
-use mathlib.Core.Bool.{Bool, true, false, not, true≢false}
+-- the turn is 0 exactly when nobody owes
+use Prim.Native.Nat.{ℕ, zero, suc, _≤_, _<_}
+use mathlib.Core.Bool.{true, false, not, true≢false}
 use mathlib.Core.Path.{_≡_, refl, sym, ap, _∙_}
 use mathlib.Core.Logic.{⊎-elim}
 use native.Mathlib.Omega.{arith}
 use lib.Dec.{eqb, ltb}
-use borrow.Author.Tests.{eqb-true, eqb-false, eq-eqb, not-false}
+use borrow.Author.Tests.{eqb-true, eqb-false, not-false}
 use Rattle.laws.specs.Tests.{both, either}
 use Rattle.laws.proofs.Tests.{both-true, test}
 use Rattle.paper.specs.Paper.{when, isSeat}
@@ -25,7 +26,6 @@ use Rattle.table.proofs.ChairsOk.{ok-at}
 use Rattle.table.proofs.Codes.{hand-closed}
 use Rattle.table.proofs.InTurn.{nobody, somebody}
 
--- the turn is 0 exactly when nobody owes
 pub no-turn-nobody : (t : Table) → Standing t → t .play .turn ≡ 0 → nobodyOwes t ≡ true
 no-turn-nobody t h z =
     ⊎-elim (λ e. e) (λ (e : nobodyOwes t ≡ false). let n = eqb-false (firstOwing t 0) 0 e in absurd (true≢false (sym (somebody t 0 n) ∙ h .turn .none z (firstOwing t 0)))) (test (nobodyOwes t))
@@ -33,7 +33,7 @@ no-turn-nobody t h z =
 pub nobody-no-turn : (t : Table) → Standing t → nobodyOwes t ≡ true → t .play .turn ≡ 0
 nobody-no-turn t h e =
     ⊎-elim (λ (q : eqb (t .play .turn) 0 ≡ true). eqb-true (t .play .turn) 0 q)
-    (λ (q : eqb (t .play .turn) 0 ≡ false). absurd (true≢false (sym (h .turn .some (eqb-false (t .play .turn) 0 q)) ∙ nobody t 0 (h .above) (eqb-true (firstOwing t 0) 0 e) (t .play .turn))))
+    (λ (q : eqb (t .play .turn) 0 ≡ false). absurd (true≢false (sym (h .turn .some (eqb-false (t .play .turn) 0 q)) ∙ nobody t 0 (h .seated .above) (eqb-true (firstOwing t 0) 0 e) (t .play .turn))))
     (test (eqb (t .play .turn) 0))
 
 pub turn-none : (t : Table) → Standing t → eqb (t .play .turn) 0 ≡ nobodyOwes t
@@ -53,7 +53,7 @@ live-sits t h s l = ok-at (t .chairs) s (h .chairs) .here l
 
 -- chairs above `seats` are empty
 pub above-empty : (t : Table) → Standing t → (s : ℕ) → t .sheet .seats < s → seatOf t s ≡ noChair
-above-empty t h s l = h .above s l
+above-empty t h s l = h .seated .above s l
 
 -- the puck seat is dealt in
 pub puck-dealt-in : (t : Table) (p : ℕ) → handCode t p ≡ 0 → isDealtIn (seatOf t p) ≡ true
@@ -77,7 +77,7 @@ others-none t p h e zero n = refl
 others-none t p h e (suc k) n =
     ⊎-elim
     (λ (a : suc k ≤ t .sheet .seats). clock-last (wantOf Chips) (t .chairs) (t .sheet .seats) p (suc k) e (omega arith) a n)
-    (λ (a : t .sheet .seats < suc k). ap (λ (c : Chair). wantOf Chips c) (h .above (suc k) a))
+    (λ (a : t .sheet .seats < suc k). ap (λ (c : Chair). wantOf Chips c) (h .seated .above (suc k) a))
     (le-or-lt (suc k) (t .sheet .seats))
 
 pub big-blind-other : (t : Table) (p : ℕ) → Standing t → handCode t p ≡ 0 → nextDealtIn t p ≡ p → ⊥

@@ -1,13 +1,14 @@
 -- `Standing` holds of a fresh table, and every entry, taken or refused, keeps it: the chairs' records, the chairs above `seats`, no record without a hand,
 -- and the turn. Assumes nothing.
-use Prim.Native.Nat.{ℕ, zero, suc, _+_, _-_, _≤_, _<_}
+-- ---- every chair
+use Prim.Native.Nat.{ℕ, zero, suc, _+_, _-_, _≤_}
 use mathlib.Core.Bool.{Bool, true, false, not, true≢false}
 use mathlib.Core.Path.{_≡_, refl, sym, ap, ap₂, _∙_}
 use mathlib.Core.List.{List, [], _∷_, map}
 use mathlib.Core.Logic.{⊎-elim}
 use native.Mathlib.Omega.{arith}
 use lib.Dec.{eqb, leb, ltb}
-use lib.ListN.{length, getD, replicate, List·getD-eq-default}
+use lib.ListN.{getD, replicate}
 use borrow.Author.Tests.{eqb-true}
 use Rattle.laws.specs.Tests.{both, pick}
 use Rattle.laws.specs.Lists.{All}
@@ -17,32 +18,31 @@ use Rattle.paper.proofs.Codes.{between-in}
 use Rattle.paper.specs.declared.Sheet.{Sheet}
 use Rattle.paper.specs.declared.Entry.{Entry}
 use Rattle.paper.specs.declared.Entry.the-variants.{Sit, Leave, Hand, Hole, Fold, Check, Call, Wager, Board, Dead, Settle, Void}
-use Rattle.chairs.specs.Chairs.{noChair, noDealt, chairAt, putAt, wantOf, isLiveWithChips, roundOf, paidOf, actedOf, foldedOf, againOf, roundedOf, dealtOf, seatedOf, heldOf, closedOf, closeAll}
+use Rattle.chairs.specs.Chairs.{Above, noChair, chairAt, putAt, wantOf, roundOf, paidOf, actedOf, foldedOf, againOf, roundedOf, dealtOf, seatedOf, heldOf, closedOf, closeAll}
 use Rattle.chairs.specs.declared.Chair.{Chair}
 use Rattle.chairs.specs.declared.Dealt.{Dealt}
 use Rattle.chairs.specs.declared.Who.the-variants.{Chips}
-use Rattle.chairs.proofs.Over.{all-at, all-put, all-map, map-at}
-use Rattle.chairs.proofs.Clockwise.{put-other}
-use Rattle.pots.proofs.Contest.{le-or-lt}
-use Rattle.pots.proofs.Hands.{map-length}
+use Rattle.chairs.specs.declared.Sweep.the-variants.{Deal}
+use Rattle.chairs.proofs.Over.{all-at, all-put, all-map}
+use Rattle.chairs.proofs.Above.{above-put, above-map, seats-put, seats-sweep}
 use Rattle.table.specs.State.{seatOf, withChair, withChairs, withMark, withCard, withTaken}
-use Rattle.table.specs.Betting.{liveHands, onlyWithChips, owes, firstOwing, afterAct, foldedTo, checkedTo, calledTo, wageredTo, deadTo, newRound, isFullLift, liftAfter}
+use Rattle.table.specs.Betting.{liveHands, onlyWithChips, owes, afterAct, foldedTo, checkedTo, calledTo, wageredTo, deadTo, newRound, isFullLift, liftAfter}
 use Rattle.table.specs.Sittings.{satTo, leftTo}
 use Rattle.table.specs.Opening.{nextDealtIn, postedTo, blindsPosted, withHand, openedTo}
 use Rattle.table.specs.Dealing.{heldTo, boardedTo}
 use Rattle.table.specs.Settle.{settledTo, payoutNow}
 use Rattle.table.specs.Take.{Sound, kindCode, codeOf, appliedTo, nextOf, freshTable}
-use Rattle.table.specs.Standing.{ChairOk, Cleared, InTurn, Standing}
+use Rattle.table.specs.Standing.{ChairOk, Cleared, InTurn, Seated, Standing}
 use Rattle.table.specs.declared.table.Table.{Table}
 use Rattle.table.proofs.ChairsOk.{no-ok, ok-at, ok-sit, ok-leave, ok-hold, ok-acts, ok-fold, ok-round, ok-pays, live-some, empty-dead, deal-fresh, Fresh, fresh-ok, fresh-post}
 use Rattle.table.proofs.Codes.{turn-live, check-live, call-live, wager-live, dead-live, sit-empty, leave-dead, hole-open, board-open}
-use Rattle.table.proofs.Closing.{size-applied, ok-close, paid-none}
+use Rattle.table.proofs.Closing.{size-applied, ok-close, paid-none, paid-above}
 use Rattle.table.proofs.Turns.{clockwise-most, marks}
 use Rattle.table.proofs.Numbers.{numbered-applied, none-numbered}
 use Rattle.table.proofs.InTurn.{not-live, from-first, same-turn, one-chair, dead-turn}
+use Rattle.table.proofs.Laws.{sheet-seats}
 use Rattle.table.proofs.Sounds.{passed, sound-applied}
 
--- ---- every chair
 chairs-board : (t : Table) (k : ℕ) → All ChairOk (t .chairs) → All ChairOk (boardedTo t k .chairs)
 unfolding boardedTo newRound
 chairs-board t k h = go (leb 3 (t .board .count + 1))
@@ -77,15 +77,6 @@ chairs-applied t Settle w h q =
 chairs-applied t Void w h q = absurd (omega arith)
 
 -- ---- the chairs above `seats`
-abbrev Above : ℕ → List Chair → Type 0
-Above n cs = (s : ℕ) → n < s → chairAt cs s ≡ noChair
-
-above-put : (n : ℕ) (cs : List Chair) (x : ℕ) (d : Chair) → x ≤ n → Above n cs → Above n (putAt cs x d)
-above-put n cs x d l h s k = put-other cs x s d (λ e. omega arith) ∙ h s k
-
-above-map : (f : Chair → Chair) → f noChair ≡ noChair → (n : ℕ) (cs : List Chair) → Above n cs → Above n (map f cs)
-above-map f e n cs h s k = map-at f cs s e ∙ ap f (h s k) ∙ e
-
 close-none : (cs : List Chair) (ps : List ℕ) (i : ℕ) → getD cs i noChair ≡ noChair → getD ps i 0 ≡ 0 → getD (closeAll cs ps) i noChair ≡ noChair
 close-none [] ps i e z = refl
 close-none (c ∷ cs) [] zero e z = ap (λ (d : Chair). closedOf d 0) e
@@ -93,19 +84,9 @@ close-none (c ∷ cs) [] (suc i) e z = close-none cs [] i e refl
 close-none (c ∷ cs) (p ∷ ps) zero e z = ap₂ closedOf e z
 close-none (c ∷ cs) (p ∷ ps) (suc i) e z = close-none cs ps i e z
 
-close-size : (cs : List Chair) (ps : List ℕ) → length (closeAll cs ps) ≡ length cs
-close-size [] ps = refl
-close-size (c ∷ cs) [] = ap suc (close-size cs [])
-close-size (c ∷ cs) (p ∷ ps) = ap suc (close-size cs ps)
-
-above-close : (t : Table) → Sound t → Standing t → Above (t .sheet .seats) (closeAll (t .chairs) (payoutNow t .paid))
-above-close t w h zero k = refl
-above-close t w h (suc i) k =
-    let ps = payoutNow t .paid in
-    ⊎-elim
-    (λ (a : 10 ≤ i). List·getD-eq-default (closeAll (t .chairs) ps) noChair (omega (arith, close-size (t .chairs) ps, h .size)))
-    (λ (a : i < 10). close-none (t .chairs) ps i (h .above (suc i) k) (paid-none t i (h .chairs) (h .size) (w .payable .puck) a (ap (λ (c : Chair). c .sitting) (h .above (suc i) k))))
-    (le-or-lt 10 i)
+above-close : (t : Table) → Standing t → Above (t .sheet .seats) (closeAll (t .chairs) (payoutNow t .paid))
+above-close t h zero k = refl
+above-close t h (suc i) k = close-none (t .chairs) (payoutNow t .paid) i (h .seated .above (suc i) k) (paid-above t h i (omega arith))
 
 above-board : (t : Table) (k : ℕ) → Above (t .sheet .seats) (t .chairs) → Above (t .sheet .seats) (boardedTo t k .chairs)
 unfolding boardedTo newRound
@@ -115,7 +96,7 @@ above-board t k h = go (leb 3 (t .board .count + 1))
     go true = above-map roundedOf refl (t .sheet .seats) (t .chairs) h
     go false = h
 
-seat-within : (sheet : Sheet) (x : ℕ) → isSeat sheet x ≡ true → x ≤ sheet .seats
+pub seat-within : (sheet : Sheet) (x : ℕ) → isSeat sheet x ≡ true → x ≤ sheet .seats
 unfolding isSeat
 seat-within sheet x r = between-in 1 (sheet .seats) x r .1
 
@@ -123,23 +104,34 @@ pub next-within : (t : Table) (p : ℕ) → p ≤ t .sheet .seats → nextDealtI
 unfolding nextDealtIn
 next-within t p l = clockwise-most (wantOf Chips) (t .chairs) (t .sheet .seats) p (t .sheet .seats) (omega arith) l
 
+-- the table once the blinds are posted
+posted-seated : (t : Table) (x a : ℕ) → Seated t → x ≤ t .sheet .seats → Seated (postedTo t x a)
+unfolding postedTo
+posted-seated t x a h l = seats-put (t .sheet .seats) (t .chairs) x _ l h
+
+pub blinds-seated : (t : Table) (s : ℕ) → Seated t → s ≤ t .sheet .seats → Seated (withHand (blindsPosted t s) s)
+unfolding postedTo
+blinds-seated t s h l =
+    let d = withChairs t (map dealtOf (t .chairs)) in
+    posted-seated (postedTo d s (t .sheet .small)) (nextDealtIn t s) (t .sheet .big) (posted-seated d s (t .sheet .small) (seats-sweep Deal (t .sheet .seats) (t .chairs) h) l) (next-within t s l)
+
 above-applied : (t : Table) (e : Entry) → Sound t → Standing t → inKind (t .sheet) e ≡ true → Above (t .sheet .seats) (appliedTo t e .chairs)
 unfolding satTo leftTo openedTo postedTo heldTo foldedTo checkedTo calledTo wageredTo deadTo settledTo afterAct
-above-applied t (Sit x a) w h r = above-put (t .sheet .seats) (t .chairs) x _ (seat-within (t .sheet) x (both-true (isSeat (t .sheet) x) (between 1 1000000 a) r .0)) (h .above)
-above-applied t (Leave x) w h r = above-put (t .sheet .seats) (t .chairs) x _ (seat-within (t .sheet) x r) (h .above)
+above-applied t (Sit x a) w h r = above-put (t .sheet .seats) (t .chairs) x _ (seat-within (t .sheet) x (both-true (isSeat (t .sheet) x) (between 1 1000000 a) r .0)) (h .seated .above)
+above-applied t (Leave x) w h r = above-put (t .sheet .seats) (t .chairs) x _ (seat-within (t .sheet) x r) (h .seated .above)
 above-applied t (Hand p) w h r =
     let l = seat-within (t .sheet) p r in
-    above-put (t .sheet .seats) _ (nextDealtIn t p) _ (next-within t p l) (above-put (t .sheet .seats) _ p _ l (above-map dealtOf refl (t .sheet .seats) (t .chairs) (h .above)))
-above-applied t (Hole x a b) w h r = above-put (t .sheet .seats) (t .chairs) x _ (seat-within (t .sheet) x (both-true (isSeat (t .sheet) x) (both (isCard a) (isCard b)) r .0)) (h .above)
-above-applied t (Fold x) w h r = above-put (t .sheet .seats) (t .chairs) x _ (seat-within (t .sheet) x r) (h .above)
-above-applied t (Check x) w h r = above-put (t .sheet .seats) (t .chairs) x _ (seat-within (t .sheet) x r) (h .above)
-above-applied t (Call x) w h r = above-put (t .sheet .seats) (t .chairs) x _ (seat-within (t .sheet) x r) (h .above)
+    above-put (t .sheet .seats) _ (nextDealtIn t p) _ (next-within t p l) (above-put (t .sheet .seats) _ p _ l (above-map dealtOf refl (t .sheet .seats) (t .chairs) (h .seated .above)))
+above-applied t (Hole x a b) w h r = above-put (t .sheet .seats) (t .chairs) x _ (seat-within (t .sheet) x (both-true (isSeat (t .sheet) x) (both (isCard a) (isCard b)) r .0)) (h .seated .above)
+above-applied t (Fold x) w h r = above-put (t .sheet .seats) (t .chairs) x _ (seat-within (t .sheet) x r) (h .seated .above)
+above-applied t (Check x) w h r = above-put (t .sheet .seats) (t .chairs) x _ (seat-within (t .sheet) x r) (h .seated .above)
+above-applied t (Call x) w h r = above-put (t .sheet .seats) (t .chairs) x _ (seat-within (t .sheet) x r) (h .seated .above)
 above-applied t (Wager x a) w h r =
-    above-put (t .sheet .seats) _ x _ (seat-within (t .sheet) x (both-true (isSeat (t .sheet) x) (between 1 100000000 a) r .0)) (above-map (againOf (isFullLift t a)) refl (t .sheet .seats) (t .chairs) (h .above))
-above-applied t (Board k) w h r = above-board t k (h .above)
-above-applied t (Dead x) w h r = above-put (t .sheet .seats) (t .chairs) x _ (seat-within (t .sheet) x r) (h .above)
-above-applied t Settle w h r = above-close t w h
-above-applied t Void w h r = h .above
+    above-put (t .sheet .seats) _ x _ (seat-within (t .sheet) x (both-true (isSeat (t .sheet) x) (between 1 100000000 a) r .0)) (above-map (againOf (isFullLift t a)) refl (t .sheet .seats) (t .chairs) (h .seated .above))
+above-applied t (Board k) w h r = above-board t k (h .seated .above)
+above-applied t (Dead x) w h r = above-put (t .sheet .seats) (t .chairs) x _ (seat-within (t .sheet) x r) (h .seated .above)
+above-applied t Settle w h r = above-close t h
+above-applied t Void w h r = h .seated .above
 
 -- ---- without a hand there is no hand record
 live-closed : (t : Table) → Standing t → t .play .opened ≡ false → (x : ℕ) → seatOf t x .dealt .live ≡ false
@@ -192,7 +184,7 @@ turn-board t k h = go (leb 3 (t .board .count + 1))
     go : (b : Bool) → InTurn (pick b (newRound (withCard t k)) (withCard t k))
     go true =
         let u = withMark (withChairs (withCard t k) (map roundedOf (t .chairs))) 0 (t .sheet .big) in
-        from-first u (t .play .puck - 1) (above-map roundedOf refl (t .sheet .seats) (t .chairs) (h .above))
+        from-first u (t .play .puck - 1) (above-map roundedOf refl (t .sheet .seats) (t .chairs) (h .seated .above))
     go false = same-turn t (withCard t k) refl (λ x. refl) (h .turn)
 
 turn-settle : (t : Table) → InTurn (settledTo t)
@@ -216,7 +208,7 @@ turn-applied t (Wager x a) w h r q =
     let u = withMark (withChairs t (map (againOf (isFullLift t a)) (t .chairs))) a (liftAfter t a) in
     from-first (withChair u x (actedOf (paidOf (seatOf t x) (a - roundOf (seatOf t x))))) x (above-applied t (Wager x a) w h r)
 turn-applied t (Board k) w h r q = turn-board t k h
-turn-applied t (Dead x) w h r q = dead-turn t x (above-put (t .sheet .seats) (t .chairs) x _ (seat-within (t .sheet) x r) (h .above)) (h .turn)
+turn-applied t (Dead x) w h r q = dead-turn t x (above-put (t .sheet .seats) (t .chairs) x _ (seat-within (t .sheet) x r) (h .seated .above)) (h .turn)
 turn-applied t Settle w h r q = turn-settle t
 turn-applied t Void w h r q = absurd (omega arith)
 
@@ -245,12 +237,37 @@ sheet-applied t (Dead x) = refl
 sheet-applied t Settle = refl
 sheet-applied t Void = refl
 
+-- the puck moves with a hand alone, to a seat
+puck-board : (t : Table) (k : ℕ) → boardedTo t k .play .puck ≡ t .play .puck
+unfolding boardedTo newRound
+puck-board t k = go (leb 3 (t .board .count + 1))
+  where
+    go : (b : Bool) → pick b (newRound (withCard t k)) (withCard t k) .play .puck ≡ t .play .puck
+    go true = refl
+    go false = refl
+
+puck-applied : (t : Table) (e : Entry) → Standing t → inKind (t .sheet) e ≡ true → appliedTo t e .play .puck ≤ t .sheet .seats
+unfolding satTo leftTo openedTo postedTo heldTo foldedTo checkedTo calledTo wageredTo deadTo settledTo afterAct
+puck-applied t (Sit x a) h r = h .puck
+puck-applied t (Leave x) h r = h .puck
+puck-applied t (Hand p) h r = seat-within (t .sheet) p r
+puck-applied t (Hole x a b) h r = h .puck
+puck-applied t (Fold x) h r = h .puck
+puck-applied t (Check x) h r = h .puck
+puck-applied t (Call x) h r = h .puck
+puck-applied t (Wager x a) h r = h .puck
+puck-applied t (Board k) h r = rw (puck-board t k) (h .puck)
+puck-applied t (Dead x) h r = h .puck
+puck-applied t Settle h r = h .puck
+puck-applied t Void h r = h .puck
+
 standing-applied : (t : Table) (e : Entry) → Sound t → Standing t → inKind (t .sheet) e ≡ true → kindCode t e ≡ 0 → Standing (appliedTo t e)
 standing-applied t e w h r q =
     record {
       size = size-applied t e ∙ h .size;
       chairs = chairs-applied t e w h q;
-      above = λ s l. above-applied t e w h r s (rw (sheet-applied t e) at l);
+      seated = record { few = rw (sheet-applied t e) (h .seated .few); above = λ s l. above-applied t e w h r s (rw (sheet-applied t e) at l) };
+      puck = rw (sheet-applied t e) (puck-applied t e h r);
       cleared = cleared-applied t e h q;
       turn = turn-applied t e w h r q;
     }
@@ -258,7 +275,7 @@ standing-applied t e w h r q =
 -- the count of entries taken is no part of it
 counted : (t : Table) (n : ℕ) → Standing t → Standing (withTaken t n)
 unfolding owes liveHands onlyWithChips
-counted t n h = record { size = h .size; chairs = h .chairs; above = h .above; cleared = h .cleared; turn = record { none = h .turn .none; some = h .turn .some } }
+counted t n h = record { size = h .size; chairs = h .chairs; seated = h .seated; puck = h .puck; cleared = h .cleared; turn = record { none = h .turn .none; some = h .turn .some } }
 
 -- every entry, taken or refused, keeps it
 pub standing-next : (t : Table) (n : ℕ) (e : Entry) → Sound t → Standing t → Standing (nextOf t n e)
@@ -283,13 +300,17 @@ all-none : (P : Chair → Type 0) → P noChair → (n : ℕ) → All P (replica
 all-none P p zero = tt
 all-none P p (suc n) = (p, all-none P p n)
 
-pub standing-fresh : (sheet : Sheet) → Standing (freshTable sheet)
-standing-fresh sheet =
+pub cleared-fresh : (sheet : Sheet) → All Cleared (freshTable sheet .chairs)
+cleared-fresh sheet = all-none Cleared refl 10
+
+pub standing-fresh : (sheet : Sheet) → isSheet sheet ≡ true → Standing (freshTable sheet)
+standing-fresh sheet h =
     record {
       size = refl;
       chairs = all-none ChairOk no-ok 10;
-      above = λ s l. none-at 10 s;
-      cleared = λ o. all-none Cleared refl 10;
+      seated = record { few = sheet-seats sheet h; above = λ s l. none-at 10 s };
+      puck = omega arith;
+      cleared = λ o. cleared-fresh sheet;
       turn = record {
         none = λ z x. not-live (freshTable sheet) (chairAt (replicate 10 noChair) x) (ap (λ (c : Chair). c .dealt .live) (none-at 10 x));
         some = λ z. absurd (z refl);
@@ -322,5 +343,5 @@ sound-fresh sheet h =
       mark = omega arith;
       turn = omega arith;
       numbered = none-numbered 0 10;
-      standing = standing-fresh sheet;
+      standing = standing-fresh sheet h;
     }

@@ -1,11 +1,11 @@
 -- How chairs, records and turn hang together; part of `Sound`. proofs/Standing.antt shows that a fresh table has it and that every entry, taken or
 -- refused, keeps it. Assumes nothing.
-use Prim.Native.Nat.{ℕ, _≤_, _<_}
+use Prim.Native.Nat.{ℕ, _≤_}
 use mathlib.Core.Bool.{true, false}
 use mathlib.Core.Path.{_≡_}
 use lib.ListN.{length}
 use Rattle.laws.specs.Lists.{All}
-use Rattle.chairs.specs.Chairs.{noChair, noDealt}
+use Rattle.chairs.specs.Chairs.{noDealt, Seats}
 use Rattle.chairs.specs.declared.Chair.{Chair}
 use Rattle.table.specs.State.{seatOf}
 use Rattle.table.specs.Betting.{owes}
@@ -28,11 +28,16 @@ pub record InTurn (t : Table) : Type 0 where
 abbrev pub Cleared : Chair → Type 0
 Cleared c = c .dealt ≡ noDealt
 
+-- the table's seats are ten at most, and the chairs above them are chairs that nobody ever had
+abbrev pub Seated : Table → Type 0
+Seated t = Seats (t .sheet .seats) (t .chairs)
+
 pub record Standing (t : Table) : Type 0 where
   pub size : length (t .chairs) ≡ 10
   pub chairs : All ChairOk (t .chairs)
-  -- chairs above `seats` are empty
-  pub above : (s : ℕ) → t .sheet .seats < s → seatOf t s ≡ noChair
+  pub seated : Seated t
+  -- the puck is at a seat, or there was no hand yet
+  pub puck : t .play .puck ≤ t .sheet .seats
   -- without a hand there is no hand record
   pub cleared : t .play .opened ≡ false → All Cleared (t .chairs)
   pub turn : InTurn t

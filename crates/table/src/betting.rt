@@ -13,7 +13,7 @@ ghost use Prim.Native.Nat.{_+_, _≤_};
 ghost use lib.Dec.{leb};
 ghost use Rattle.chairs.specs.Chairs.{chipsOf};
 ghost use Rattle.table.specs.Betting.{liveHands, firstOwing, nobodyOwes, turnCode, afterAct, foldedTo, checkCode, checkedTo, callCode, calledTo, mayRaise, isWager, wagerCode, isFullLift, liftAfter, wageredTo, deadCode, turnAfter, deadTo, newRound};
-ghost use Rattle.table.specs.Standing.{Standing};
+ghost use Rattle.table.specs.Standing.{Standing, Seated};
 
 // The codes that stop an act out of its moment, at a seat that is not live, or out of turn.
 pub(crate) fn turn_code(t: Table, s: u32) -> u8
@@ -48,6 +48,7 @@ pub(crate) fn call_code(t: Table, s: u32) -> u8
 }
 
 pub(crate) fn folded(t: Table, s: u32) -> Table
+    requires { ⌜ Seated t × (s ≤ t .sheet .seats) ⌝ }
     ensures { λ r. ⌜ r ≡ foldedTo t s ⌝ }
 {
     let c = chairs::folded(table::seat_of(t, s));
@@ -55,6 +56,7 @@ pub(crate) fn folded(t: Table, s: u32) -> Table
 }
 
 pub(crate) fn checked(t: Table, s: u32) -> Table
+    requires { ⌜ Seated t × (s ≤ t .sheet .seats) ⌝ }
     ensures { λ r. ⌜ r ≡ checkedTo t s ⌝ }
 {
     let c = chairs::acting(table::seat_of(t, s));
@@ -63,7 +65,7 @@ pub(crate) fn checked(t: Table, s: u32) -> Table
 
 // The seat pays the difference or its whole stack.
 pub(crate) fn called(t: Table, s: u32) -> Table
-    requires { ⌜ chipsOf (t .chairs) ≤ 100000000 ⌝ }
+    requires { ⌜ (chipsOf (t .chairs) ≤ 100000000) × Seated t × (s ≤ t .sheet .seats) ⌝ }
     ensures { λ r. ⌜ r ≡ calledTo t s ⌝ }
 {
     let c = table::seat_of(t, s);
@@ -123,7 +125,7 @@ fn lift_after(t: Table, a: u32) -> u32
 
 // The mark becomes a, and every other live seat with chips owes again; a short lift leaves a spent right to raise spent.
 pub(crate) fn wagered(t: Table, s: u32, a: u32) -> Table
-    requires { ⌜ chipsOf (t .chairs) ≤ 100000000 ⌝ }
+    requires { ⌜ (chipsOf (t .chairs) ≤ 100000000) × Seated t × (s ≤ t .sheet .seats) ⌝ }
     ensures { λ r. ⌜ r ≡ wageredTo t s a ⌝ }
 {
     let c = table::seat_of(t, s);
@@ -131,13 +133,14 @@ pub(crate) fn wagered(t: Table, s: u32, a: u32) -> Table
     let d = chairs::acting(chairs::paid(c, put));
     let cs = t.chairs;
     let full = is_full_lift(t, a);
-    let ds = chairs::seats::sweep_all(cs, Sweep::Again { full });
+    let ds = chairs::seats::sweep_all(cs, t.sheet.seats, Sweep::Again { full });
     let u = table::with_mark(table::with_chairs(t, ds), a, lift_after(t, a));
     after_act(u, s, d)
 }
 
 // The seat is live, in a hand with two live or more.
 pub(crate) fn dead_code(t: Table, s: u32) -> u8
+    requires { ⌜ Standing t ⌝ }
     ensures { λ r. ⌜ r ≡ deadCode t s ⌝ }
 {
     let c = table::seat_of(t, s);
@@ -149,6 +152,7 @@ pub(crate) fn dead_code(t: Table, s: u32) -> u8
 
 // The turn after a hand was killed: on from the seat in turn; else kept, or ended where nobody owes.
 fn turn_after(t: Table, u: Table, s: u32) -> u32
+    requires { ⌜ Seated u × (s ≤ u .sheet .seats) ⌝ }
     ensures { λ r. ⌜ r ≡ turnAfter t u s ⌝ }
 {
     let now = t.play.turn;
@@ -159,6 +163,7 @@ fn turn_after(t: Table, u: Table, s: u32) -> u32
 
 // As a fold, in or out of turn.
 pub(crate) fn killed(t: Table, s: u32) -> Table
+    requires { ⌜ Seated t × (s ≤ t .sheet .seats) ⌝ }
     ensures { λ r. ⌜ r ≡ deadTo t s ⌝ }
 {
     let c = chairs::folded(table::seat_of(t, s));
@@ -169,10 +174,11 @@ pub(crate) fn killed(t: Table, s: u32) -> Table
 
 // A new round: round totals and mark 0, lift big, nobody has acted; the first turn is from the puck seat on.
 pub(crate) fn new_round(t: Table) -> Table
+    requires { ⌜ Seated t × (t .play .puck ≤ t .sheet .seats) ⌝ }
     ensures { λ r. ⌜ r ≡ newRound t ⌝ }
 {
     let cs = t.chairs;
-    let ds = chairs::seats::sweep_all(cs, Sweep::Round);
+    let ds = chairs::seats::sweep_all(cs, t.sheet.seats, Sweep::Round);
     let big = t.sheet.big;
     let puck = t.play.puck;
     let u = table::with_mark(table::with_chairs(t, ds), 0, big);
@@ -182,18 +188,20 @@ pub(crate) fn new_round(t: Table) -> Table
 
 // How many hands are live.
 pub(crate) fn lives(t: Table) -> u32
+    requires { ⌜ Standing t ⌝ }
     ensures { λ r. ⌜ r ≡ liveHands t ⌝ }
 {
     let cs = t.chairs;
-    chairs::seats::lives(cs).hands
+    chairs::seats::lives(cs, t.sheet.seats).hands
 }
 
 // The first owing seat clockwise from s, which comes last; 0 where nobody owes.
 pub(crate) fn first_owing(t: Table, s: u32) -> u32
+    requires { ⌜ Seated t × (s ≤ t .sheet .seats) ⌝ }
     ensures { λ r. ⌜ r ≡ firstOwing t s ⌝ }
 {
     let cs = t.chairs;
-    let k = chairs::seats::lives(cs);
+    let k = chairs::seats::lives(cs, t.sheet.seats);
     if k.hands < 2 {
         return 0;
     }
@@ -201,8 +209,7 @@ pub(crate) fn first_owing(t: Table, s: u32) -> u32
         mark: t.play.mark,
         alone: k.stacks <= 1,
     };
-    let n = t.sheet.seats;
-    chairs::seats::first_from(cs, w, n, s)
+    chairs::seats::first_from(cs, t.sheet.seats, w, s)
 }
 
 // Whether nobody owes: then, and only then, it is nobody's turn.
@@ -215,6 +222,7 @@ pub(crate) fn nobody_owes(t: Table) -> bool
 
 // The seat s has acted, and its chair is now c: the turn goes on to the first owing seat clockwise.
 fn after_act(t: Table, s: u32, c: Chair) -> Table
+    requires { ⌜ Seated t × (s ≤ t .sheet .seats) ⌝ }
     ensures { λ r. ⌜ r ≡ afterAct t s c ⌝ }
 {
     let u = table::with_chair(t, s, c);

@@ -10,10 +10,11 @@ ghost use mathlib.Core.Path.{_≡_};
 ghost use Prim.Native.Nat.{_≤_, _<_};
 ghost use lib.ListN.{take};
 ghost use Rattle.table.specs.Dealing.{hasCard, inThisHand, holeCode, heldTo, boardCode, boardedTo};
-ghost use Rattle.table.specs.Standing.{Standing};
+ghost use Rattle.table.specs.Standing.{Standing, Seated};
 
 // The seat is live and has no cards yet, and the cards are two new ones.
 pub(crate) fn hole_code(t: Table, s: u32, a: u32, b: u32) -> u8
+    requires { ⌜ Standing t ⌝ }
     ensures { λ r. ⌜ r ≡ holeCode t s a b ⌝ }
 {
     let c = table::seat_of(t, s);
@@ -53,7 +54,7 @@ pub(crate) fn board_code(t: Table, k: u32) -> u8
 }
 
 pub(crate) fn boarded(t: Table, k: u32) -> Table
-    requires { ⌜ (t .board .count < 5) × (k ≤ 51) ⌝ }
+    requires { ⌜ (t .board .count < 5) × (k ≤ 51) × Seated t × (t .play .puck ≤ t .sheet .seats) ⌝ }
     ensures { λ r. ⌜ r ≡ boardedTo t k ⌝ }
 {
     let u = table::with_card(t, k);
@@ -81,11 +82,12 @@ fn on_board(board: [u8; 5], n: u8, card: u32) -> bool
 
 // Whether a card lies on the board or was entered for a hand.
 fn used(t: Table, card: u32) -> bool
+    requires { ⌜ Standing t ⌝ }
     ensures { λ r. ⌜ r ≡ inThisHand t card ⌝ }
 {
     let cs = t.chairs;
     let bs = t.board.cards;
     let lies = on_board(bs, t.board.count, card);
-    let held = chairs::seats::count(cs, Who::Holding(card)) != 0;
+    let held = chairs::seats::count(cs, t.sheet.seats, Who::Holding(card)) != 0;
     laws::either(lies, held)
 }

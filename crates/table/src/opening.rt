@@ -13,9 +13,11 @@ ghost use mathlib.Core.Path.{_≡_};
 ghost use Prim.Native.Nat.{_≤_};
 ghost use Rattle.chairs.specs.Chairs.{chipsOf};
 ghost use Rattle.table.specs.Opening.{nextDealtIn, isPuck, handCode, postedTo, withHand, openedTo};
+ghost use Rattle.table.specs.Standing.{Standing, Seated};
 
 // Whether the seat may have the puck.
 fn may_puck(t: Table, s: u32) -> bool
+    requires { ⌜ Standing t ⌝ }
     ensures { λ r. ⌜ r ≡ isPuck t s ⌝ }
 {
     let c = table::seat_of(t, s);
@@ -26,10 +28,11 @@ fn may_puck(t: Table, s: u32) -> bool
 
 // No hand, and two seats or more hold chips; then the puck seat.
 pub(crate) fn hand_code(t: Table, s: u32) -> u8
+    requires { ⌜ Standing t ⌝ }
     ensures { λ r. ⌜ r ≡ handCode t s ⌝ }
 {
     let cs = t.chairs;
-    let few = chairs::seats::count(cs, Who::Chips) < 2;
+    let few = chairs::seats::count(cs, t.sheet.seats, Who::Chips) < 2;
     let ok = may_puck(t, s);
     or_else(when(either(t.play.opened, few), 4), when(!ok, 5))
 }
@@ -45,12 +48,12 @@ fn posted(t: Table, s: u32, a: u32) -> Table
 
 // A hand opens: the puck sitter posts small, the next dealt-in seat big; first turn to the first owing seat after the big blind.
 pub(crate) fn opened(t: Table, s: u32) -> Table
-    requires { ⌜ chipsOf (t .chairs) ≤ 100000000 ⌝ }
+    requires { ⌜ (chipsOf (t .chairs) ≤ 100000000) × Seated t × (s ≤ t .sheet .seats) ⌝ }
     ensures { λ r. ⌜ r ≡ openedTo t s ⌝ }
 {
     let next = next_dealt_in(t, s);
     let cs = t.chairs;
-    let ds = chairs::seats::sweep_all(cs, Sweep::Deal);
+    let ds = chairs::seats::sweep_all(cs, t.sheet.seats, Sweep::Deal);
     let dealt = table::with_chairs(t, ds);
     let small = posted(dealt, s, t.sheet.small);
     let big = posted(small, next, t.sheet.big);
@@ -77,9 +80,9 @@ fn with_hand(t: Table, s: u32) -> Table
 
 // The first dealt-in seat clockwise after s; 0 where there is none.
 fn next_dealt_in(t: Table, s: u32) -> u32
+    requires { ⌜ Seated t × (s ≤ t .sheet .seats) ⌝ }
     ensures { λ r. ⌜ r ≡ nextDealtIn t s ⌝ }
 {
     let cs = t.chairs;
-    let n = t.sheet.seats;
-    chairs::seats::first_from(cs, Who::Chips, n, s)
+    chairs::seats::first_from(cs, t.sheet.seats, Who::Chips, s)
 }

@@ -8,6 +8,7 @@ use crate::table::Table;
 use chairs::Chair;
 use chairs::What;
 use chairs::Who;
+use chairs::seats::PutIn;
 use laws::both;
 use laws::either;
 use paper::or_else;
@@ -39,32 +40,26 @@ pub(crate) fn settle_code(t: Table) -> u8
     let none = betting::nobody_owes(t);
     let five = t.board.count == 5;
     let now = both(t.play.opened, either(live == 1, both(none, five)));
-    let bare = chairs::seats::count(cs, Who::Bare) != 0;
+    let bare = chairs::seats::count(cs, t.sheet.seats, Who::Bare) != 0;
     or_else(when(!now, 4), when(both(2 <= live, bare), 10))
 }
 
-// What each sitting dealt in has put in.
-fn totals(t: Table) -> [u32; 10]
-    ensures { λ r. ⌜ r ≡ totalsOf t ⌝ }
+// What each sitting dealt in has put in, and which hands are live.
+fn put_in(t: Table) -> PutIn
+    requires { ⌜ Standing t ⌝ }
+    ensures { λ r. ⌜ (r .totals ≡ totalsOf t) × (r .live ≡ livesOf t) ⌝ }
 {
     let cs = t.chairs;
-    chairs::seats::column(cs, What::Total)
-}
-
-// The live ones, as a mask of dealt-in seats.
-fn live_seats(t: Table) -> u16
-    ensures { λ r. ⌜ r ≡ livesOf t ⌝ }
-{
-    let cs = t.chairs;
-    pots::mask_at(chairs::seats::column(cs, What::Live), 1)
+    chairs::seats::put_in(cs, t.sheet.seats)
 }
 
 // Those that are still there.
 fn here_seats(t: Table) -> u16
+    requires { ⌜ Standing t ⌝ }
     ensures { λ r. ⌜ r ≡ hereOf t ⌝ }
 {
     let cs = t.chairs;
-    pots::mask_at(chairs::seats::column(cs, What::Here), 1)
+    pots::mask_at(chairs::seats::column(cs, t.sheet.seats, What::Here), 1)
 }
 
 // The number of the best hand of the seven cards.
@@ -113,14 +108,16 @@ fn commission(t: Table) -> Commission
 
 // What a settle pays.
 fn payout(t: Table) -> Payout
-    requires { ⌜ Payable t ⌝ }
+    requires { ⌜ Payable t × Standing t ⌝ }
     ensures { λ r. ⌜ r ≡ payoutNow t ⌝ }
 {
     let cs = t.chairs;
     let b = t.board;
     let sc = scores(b, cs);
     let puck = t.play.puck as usize;
-    let s = pots::hand::settle_hand(totals(t), live_seats(t), sc, commission(t), puck);
+    let put = put_in(t);
+    let totals = put.totals;
+    let s = pots::hand::settle_hand(totals, put.live, sc, commission(t), puck);
     let due = s.due;
     let p = pots::hand::pay_out(due, here_seats(t));
     let paid = p.paid;
@@ -128,7 +125,7 @@ fn payout(t: Table) -> Payout
         settled: true,
         fee: s.fee,
         paid,
-        sittings: chairs::seats::column(cs, What::Sitting),
+        sittings: chairs::seats::column(cs, t.sheet.seats, What::Sitting),
         unclaimed: p.unclaimed,
     }
 }
@@ -148,7 +145,7 @@ fn closed_play(p: Play) -> Play
 
 // The hand is closed, and what is paid is added to the stacks.
 fn shut(t: Table, p: Payout) -> Table
-    requires { ⌜ Payable t × (p ≡ payoutNow t) ⌝ }
+    requires { ⌜ Payable t × Standing t × (p ≡ payoutNow t) ⌝ }
     ensures { λ r. ⌜ r ≡ settledTo t ⌝ }
 {
     let cs = t.chairs;
@@ -157,7 +154,7 @@ fn shut(t: Table, p: Payout) -> Table
     let play = t.play;
     let after = closed_play(play);
     let board = table::no_board();
-    let ds = chairs::seats::close_all(cs, paid);
+    let ds = chairs::seats::close_all(cs, t.sheet.seats, paid);
     Table {
         sheet: sheet,
         taken: t.taken,
@@ -170,7 +167,7 @@ fn shut(t: Table, p: Payout) -> Table
 
 // A settle: the table after it, and what it pays.
 pub(crate) fn settled(t: Table) -> Done
-    requires { ⌜ Payable t ⌝ }
+    requires { ⌜ Payable t × Standing t ⌝ }
     ensures { λ r. ⌜ (r .table ≡ settledTo t) × (r .payout ≡ payoutNow t) ⌝ }
 {
     let p = payout(t);
@@ -206,8 +203,10 @@ pub fn no_payout() -> Payout
 
 // The pots of the open hand, from the lowest, and the sum of returned heights.
 pub fn stands_now(t: Table) -> Stands
-    requires { ⌜ chipsOf (t .chairs) ≤ 100000000 ⌝ }
+    requires { ⌜ (chipsOf (t .chairs) ≤ 100000000) × Standing t ⌝ }
     ensures { λ r. ⌜ (r .pots .n ≡ length (potsNow t)) × (r .pots .list ≡ padded 9 (potsNow t)) × (r .pots .n ≤ 9) × (r .back ≡ backNow t) ⌝ }
 {
-    pots::stand(totals(t), live_seats(t))
+    let put = put_in(t);
+    let totals = put.totals;
+    pots::stand(totals, put.live)
 }

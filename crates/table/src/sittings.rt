@@ -8,6 +8,7 @@ ghost use mathlib.Core.Path.{_≡_};
 ghost use Prim.Native.Nat.{_+_, _<_};
 ghost use lib.Dec.{ltb};
 ghost use Rattle.table.specs.Sittings.{sitCode, satTo, leaveCode, leftTo};
+ghost use Rattle.table.specs.Standing.{Standing};
 
 // Whether chips and a more are above 100,000,000.
 fn too_many(all: u64, a: u32) -> bool
@@ -22,12 +23,13 @@ fn too_many(all: u64, a: u32) -> bool
 
 // A seat must be empty, and the chips not too many.
 pub(crate) fn sit_code(t: Table, s: u32, a: u32) -> u8
+    requires { ⌜ Standing t ⌝ }
     ensures { λ r. ⌜ r ≡ sitCode t s a ⌝ }
 {
     let c = table::seat_of(t, s);
     let cs = t.chairs;
     let taken = c.sitting != 0;
-    let over = too_many(chairs::seats::chips(cs), a);
+    let over = too_many(chairs::seats::chips(cs, t.sheet.seats), a);
     or_else(when(taken, 5), when(over, 9))
 }
 

@@ -2,17 +2,18 @@ use borrow.Author.Needs.{needs}
 use Prim.Native.Nat.{_-_, _+_, _*_, _≤_}
 use mathlib.Core.Path.{_≡_, ap}
 use native.Mathlib.Omega.{arith}
-use lib.ListN.{length, drop, drop-of-length-le}
+use lib.ListN.{length, drop}
 use Rattle.chairs.specs.Chairs.{chipsOf}
 use Rattle.chairs.proofs.Laws.{sum-step}
+use Rattle.chairs.proofs.Above.{above-chips}
 use Rattle.chairs.proofs.seats.chips.Statement.{statement}
 use Rattle.chairs.proofs.seats.chips.Tie as tie
 
 abbrev Inv-loop : tie.InvT-loop
-Inv-loop cs n₀ i₀ n i = (i ≤ 10) × (n ≤ i * 8589934590) × (n + chipsOf (drop i cs) ≡ chipsOf cs)
+Inv-loop seats cs last n₀ i₀ n i = (last ≡ seats) × (i ≤ last) × (n ≤ i * 8589934590) × (n + chipsOf (drop i cs) ≡ chipsOf cs)
 
 abbrev μ-loop : tie.MeasureT-loop
-μ-loop cs n₀ i₀ n i = 10 - i
+μ-loop seats cs last n₀ i₀ n i = last - i
 
 loop-holds : tie.Need-loop-holds Inv-loop μ-loop
 loop-holds c = search needs
@@ -50,8 +51,8 @@ loop-again c =
 returns : tie.Need-returns Inv-loop μ-loop
 returns c =
     let cs = c .before .before .args .t1 in
-    let len : length cs ≡ 10 = search needs in
-    omega (arith, ap chipsOf (drop-of-length-le cs {i = c .before .loop .i} (omega arith)))
+    let e : c .before .loop .i ≡ c .before .before .args .seats = omega arith in
+    omega (arith, ap (λ k. chipsOf (drop k cs)) e, above-chips _ cs (c .before .before .pre .above))
 
 pub chips-spec : {M : Type 1} → statement M
 chips-spec =

@@ -6,16 +6,17 @@ use native.Mathlib.Omega.{arith}
 use native.Mathlib.Numerals.{add-one}
 use lib.ListN.{length, set, getD}
 use Rattle.chairs.specs.Chairs.{noChair, closedOf}
-use Rattle.chairs.proofs.Laws.{closeTo, close-at, close-step, close-done}
+use Rattle.chairs.proofs.Laws.{closeTo, close-at, close-step}
+use Rattle.chairs.proofs.Above.{above-close}
 use Rattle.chairs.specs.declared.Chair.{Chair}
 use Rattle.chairs.proofs.seats.close_all.Statement.{statement}
 use Rattle.chairs.proofs.seats.close_all.Tie as tie
 
 abbrev Inv-loop : tie.InvT-loop
-Inv-loop paid ds₀ i₀ ds i = (i ≤ 10) × (ds ≡ closeTo i ds₀ paid)
+Inv-loop seats paid last ds₀ i₀ ds i = (last ≡ seats) × (i ≤ last) × (ds ≡ closeTo i ds₀ paid)
 
 abbrev μ-loop : tie.MeasureT-loop
-μ-loop paid ds₀ i₀ ds i = 10 - i
+μ-loop seats paid last ds₀ i₀ ds i = last - i
 
 loop-holds : tie.Need-loop-holds Inv-loop μ-loop
 loop-holds c = search needs
@@ -36,9 +37,9 @@ closed-requires : tie.Need-closed-requires Inv-loop μ-loop
 closed-requires c κs =
     let i = c .before .before .loop .i in
     let cs = c .before .before .before .args .cs in
-    let ps = c .before .before .before .args .t2 in
-    let e = ap (λ (l : List Chair). getD l i noChair .stack) (c .before .before .loop .inv .1) ∙ ap (λ (d : Chair). d .stack) (close-at i cs ps) in
-    omega (arith, e, c .before .before .before .pre i)
+    let ps = c .before .before .before .args .t3 in
+    let e = ap (λ (l : List Chair). getD l i noChair .stack) (c .before .before .loop .inv .2) ∙ ap (λ (d : Chair). d .stack) (close-at i cs ps) in
+    omega (arith, e, c .before .before .before .pre .2 i)
 
 mul-ds : tie.Need-mul-ds Inv-loop μ-loop
 mul-ds c = search needs
@@ -55,25 +56,25 @@ loop-less c = search needs
 loop-again : tie.Need-loop-again Inv-loop μ-loop
 loop-again c =
     let cs = c .before .before .before .before .args .cs in
-    let ps = c .before .before .before .before .args .t2 in
+    let ps = c .before .before .before .before .args .t3 in
     let i = c .before .before .before .loop .i in
     let ds = c .before .before .before .loop .ds in
     let lc : length cs ≡ 10 = search needs in
     let lp : length ps ≡ 10 = search needs in
-    let at = ap (λ (l : List Chair). getD l i noChair) (c .before .before .before .loop .inv .1) ∙ close-at i cs ps in (
+    let at = ap (λ (l : List Chair). getD l i noChair) (c .before .before .before .loop .inv .2) ∙ close-at i cs ps in (
+      omega arith,
       omega arith,
       rw add-one (
           ap (λ (d : Chair). set ds i d) (c .closed .ensures ∙ ap (λ (d : Chair). closedOf d (getD ps i 0)) at)
-          ∙ ap (λ (l : List Chair). set l i (closedOf (getD cs i noChair) (getD ps i 0))) (c .before .before .before .loop .inv .1)
+          ∙ ap (λ (l : List Chair). set l i (closedOf (getD cs i noChair) (getD ps i 0))) (c .before .before .before .loop .inv .2)
           ∙ close-step i cs ps (omega arith) (omega arith)),
     )
 
 returns : tie.Need-returns Inv-loop μ-loop
 returns c =
     let cs = c .before .before .args .cs in
-    let lc : length cs ≡ 10 = search needs in
-    let e : c .before .loop .i ≡ length cs = omega arith in
-    c .before .loop .inv .1 ∙ rw e (close-done cs (c .before .before .args .t2))
+    let e : c .before .loop .i ≡ c .before .before .args .seats = omega arith in
+    c .before .loop .inv .2 ∙ rw e (above-close _ cs (c .before .before .args .t3) (c .before .before .pre .0 .above) (c .before .before .pre .1))
 
 pub close-all-spec : {M : Type 1} → statement M
 close-all-spec =

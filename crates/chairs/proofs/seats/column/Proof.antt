@@ -1,22 +1,29 @@
+-- The invariant: the places from i on are read, and those before it are 0.
 use borrow.Author.Needs.{needs}
-use Prim.Native.Nat.{_+_, _-_, _≤_}
-use mathlib.Core.Path.{_≡_, ap, _∙_, refl, sym}
-use mathlib.Core.List.{_∷_, _++_, map}
+use Prim.Native.Nat.{suc, _-_, _≤_}
+use mathlib.Core.Path.{_≡_, sym, ap, _∙_}
 use native.Mathlib.Omega.{arith}
-use lib.ListN.{length, drop, take, length-set}
-use Rattle.laws.proofs.Places.{front-turn, front-done}
+use lib.ListN.{length, getD, set, replicate}
 use Rattle.chairs.specs.Chairs.{noChair, columnOf}
+use Rattle.chairs.proofs.Above.{column-none, readFrom, read-start, read-turn}
 use Rattle.chairs.proofs.seats.column.Statement.{statement}
 use Rattle.chairs.proofs.seats.column.Tie as tie
 
 abbrev Inv-loop : tie.InvT-loop
-Inv-loop k cs a₀ i₀ a i = (i ≤ 10) × (length a ≡ 10) × (take i a ++ map (columnOf k) (drop i cs) ≡ map (columnOf k) cs)
+Inv-loop seats k cs a₀ i₀ a i = (i ≤ seats) × (a ≡ readFrom (columnOf k) i cs)
 
 abbrev μ-loop : tie.MeasureT-loop
-μ-loop k cs a₀ i₀ a i = 10 - i
+μ-loop seats k cs a₀ i₀ a i = i
 
 loop-holds : tie.Need-loop-holds Inv-loop μ-loop
-loop-holds c = search needs
+loop-holds c =
+    let cs = c .args .t1 in
+    let k = c .args .k in
+    let len : length cs ≡ 10 = search needs in
+    (omega arith, ap (λ m. replicate m 0) (sym len) ∙ read-start (columnOf k) (column-none k) _ cs (omega (arith, c .pre .few)) (c .pre .above))
+
+sub-i : tie.Need-sub-i Inv-loop μ-loop
+sub-i c = search needs
 
 mul-c : tie.Need-mul-c Inv-loop μ-loop
 mul-c c = search needs
@@ -33,32 +40,26 @@ mul-a c = search needs
 array-write-a : tie.Need-array-write-a Inv-loop μ-loop
 array-write-a c = search needs
 
-add-i : tie.Need-add-i Inv-loop μ-loop
-add-i c = search needs
-
 loop-less : tie.Need-loop-less Inv-loop μ-loop
 loop-less c = search needs
 
 loop-again : tie.Need-loop-again Inv-loop μ-loop
 loop-again c =
-    let k = c .before .before .before .before .args .k in
+    let f = columnOf (c .before .before .before .before .args .k) in
     let cs = c .before .before .before .before .args .t1 in
     let i = c .before .before .before .loop .i in
-    let a = c .before .before .before .loop .a in
-    let lc : length cs ≡ 10 = search needs in
-    let la = c .before .before .before .loop .inv .1 in (
+    let len : length cs ≡ 10 = search needs in
+    let e : i ≡ suc (i - 1) = omega arith in (
       omega arith,
-      length-set a i _ ∙ la,
-      front-turn (map (columnOf k)) (map (columnOf k)) noChair a (map (columnOf k) cs) cs i _ (omega arith) (omega arith)
-          (ap (λ y. y ∷ map (columnOf k) (drop (i + 1) cs)) (sym (c .reading .ensures))) (c .before .before .before .loop .inv .2),
+      ap (λ x. set (c .before .before .before .loop .a) (i - 1) x) (c .reading .ensures)
+          ∙ ap (λ l. set l (i - 1) (f (getD cs (i - 1) noChair))) (c .before .before .before .loop .inv .1 ∙ ap (λ j. readFrom f j cs) e)
+          ∙ read-turn f (i - 1) cs (omega arith),
     )
 
 returns : tie.Need-returns Inv-loop μ-loop
 returns c =
-    let k = c .before .before .args .k in
-    let cs = c .before .before .args .t1 in
-    let lc : length cs ≡ 10 = search needs in
-    front-done (map (columnOf k)) (c .before .loop .a) (map (columnOf k) cs) cs (c .before .loop .i) (omega arith) (omega arith) refl (c .before .loop .inv .2)
+    let e : c .before .loop .i ≡ 0 = omega arith in
+    c .before .loop .inv .1 ∙ ap (λ j. readFrom (columnOf (c .before .before .args .k)) j (c .before .before .args .t1)) e
 
 pub column-spec : {M : Type 1} → statement M
 column-spec =
@@ -67,12 +68,12 @@ column-spec =
     Inv-loop
     μ-loop
     loop-holds
+    sub-i
     mul-c
     array-copy-out-c
     reading-requires
     mul-a
     array-write-a
-    add-i
     loop-less
     loop-again
     returns)

@@ -1,20 +1,21 @@
 -- The invariant: what is counted so far and what the rest counts make the whole count.
 use mathlib.Core.Path.{ap, sym, _∙_, _≡_}
-use lib.ListN.{drop-of-length-le, length, drop}
+use lib.ListN.{length, drop}
 use mathlib.Core.Logic.{⊎-elim}
 use borrow.Author.Needs.{needs}
 use Prim.Native.Nat.{_≤_, _+_, _-_}
 use native.Mathlib.Omega.{arith}
 use Rattle.chairs.specs.Chairs.{wantOf, countOf, noChair}
 use Rattle.chairs.proofs.Laws.{count-step}
+use Rattle.chairs.proofs.Above.{want-none, above-count}
 use Rattle.chairs.proofs.seats.count.Statement.{statement}
 use Rattle.chairs.proofs.seats.count.Tie as tie
 
 abbrev Inv-loop : tie.InvT-loop
-Inv-loop w cs n₀ i₀ n i = (i ≤ 10) × (n ≤ i) × (n + countOf (wantOf w) (drop i cs) ≡ countOf (wantOf w) cs)
+Inv-loop seats w cs last n₀ i₀ n i = (last ≡ seats) × (i ≤ last) × (n ≤ i) × (n + countOf (wantOf w) (drop i cs) ≡ countOf (wantOf w) cs)
 
 abbrev μ-loop : tie.MeasureT-loop
-μ-loop w cs n₀ i₀ n i = 10 - i
+μ-loop seats w cs last n₀ i₀ n i = last - i
 
 loop-holds : tie.Need-loop-holds Inv-loop μ-loop
 loop-holds c = search needs
@@ -53,8 +54,9 @@ loop-again c =
 returns : tie.Need-returns Inv-loop μ-loop
 returns c =
     let cs = c .before .before .args .t1 in
-    let len : length cs ≡ 10 = search needs in
-    omega (arith, ap (countOf (wantOf (c .before .before .args .w))) (drop-of-length-le cs {i = c .before .loop .i} (omega arith)))
+    let p = wantOf (c .before .before .args .w) in
+    let e : c .before .loop .i ≡ c .before .before .args .seats = omega arith in
+    omega (arith, ap (λ k. countOf p (drop k cs)) e, above-count p (want-none (c .before .before .args .w)) _ cs (c .before .before .pre .above))
 
 pub count-spec : {M : Type 1} → statement M
 count-spec =

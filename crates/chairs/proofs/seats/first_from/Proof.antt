@@ -1,30 +1,93 @@
-use Rattle.chairs.specs.Chairs.{wantOf}
-use native.Mathlib.Nat.{sub-zero}
-use Prim.Native.Nat.{_-_}
-use Rattle.chairs.proofs.Laws.{first-none, first-some}
-use mathlib.Core.Path.{sym, _∙_}
+-- The invariant: none of the first k seats clockwise is looked for, so that the first among those behind them is the first of all.
 use borrow.Author.Needs.{needs}
+use Prim.Native.Nat.{_-_, _≤_}
+use mathlib.Core.Bool.{true, false}
+use mathlib.Core.Path.{_≡_, refl, sym, ap, _∙_}
+use native.Mathlib.Omega.{arith}
+use lib.ListN.{getD, drop, drop-of-length-le}
+use Rattle.chairs.specs.Chairs.{wantOf, firstOf, clockwise, placeOn, noChair}
+use Rattle.chairs.proofs.Clockwise.{clock-length, first-turn}
 use Rattle.chairs.proofs.seats.first_from.Statement.{statement}
 use Rattle.chairs.proofs.seats.first_from.Tie as tie
 
-first-in-requires : tie.Need-first-in-requires
-first-in-requires c κs = search needs
+abbrev Inv-loop : tie.InvT-loop
+Inv-loop seats w s cs k₀ k = (k ≤ seats) × (firstOf (wantOf w) cs (drop k (clockwise seats s)) ≡ firstOf (wantOf w) cs (clockwise seats s))
 
-returns : tie.Need-returns
+abbrev μ-loop : tie.MeasureT-loop
+μ-loop seats w s cs k₀ k = seats - k
+
+loop-holds : tie.Need-loop-holds Inv-loop μ-loop
+loop-holds c = (omega arith, refl)
+
+place-on-requires : tie.Need-place-on-requires Inv-loop μ-loop
+place-on-requires c κs = search needs
+
+mul-c : tie.Need-mul-c Inv-loop μ-loop
+mul-c c = search needs
+
+array-copy-out-c : tie.Need-array-copy-out-c Inv-loop μ-loop
+array-copy-out-c c = search needs
+
+wants-requires : tie.Need-wants-requires Inv-loop μ-loop
+wants-requires c κs = search needs
+
+cast-result : tie.Need-cast-result Inv-loop μ-loop
+cast-result c = search needs
+
+add-result : tie.Need-add-result Inv-loop μ-loop
+add-result c = search needs
+
+returns : tie.Need-returns Inv-loop μ-loop
 returns c =
-    let e = c .before .first-in .ensures in
-    e ∙ sym (first-some (wantOf (c .before .before .args .w)) (c .before .before .args .cs) (c .before .before .args .s) (c .before .before .args .n - c .before .before .args .s) _ (rw e at (c .if1 .taken)))
+    let w = wantOf (c .before .before .before .before .before .before .args .w) in
+    let cs = c .before .before .before .before .before .before .args .t1 in
+    let n = c .before .before .before .before .before .before .args .seats in
+    let s = c .before .before .before .before .before .before .args .s in
+    let k = c .before .before .before .before .before .loop .k in
+    let at = c .before .before .before .place-on .ensures .0 in
+    let e : w (getD cs (placeOn n s k) noChair) ≡ true = ap (λ j. w (getD cs j noChair)) (sym at) ∙ sym (c .before .wants .ensures) ∙ c .if1 .taken in
+    omega (arith, at, c .before .before .before .before .before .loop .inv .1, first-turn w cs n s k true (search needs) (search needs) e)
 
-first-in-requires-2 : tie.Need-first-in-requires-2
-first-in-requires-2 c κs = search needs
+add-k : tie.Need-add-k Inv-loop μ-loop
+add-k c = search needs
 
-returns-2 : tie.Need-returns-2
+loop-less : tie.Need-loop-less Inv-loop μ-loop
+loop-less c = search needs
+
+loop-again : tie.Need-loop-again Inv-loop μ-loop
+loop-again c =
+    let w = wantOf (c .before .before .before .before .before .before .args .w) in
+    let cs = c .before .before .before .before .before .before .args .t1 in
+    let n = c .before .before .before .before .before .before .args .seats in
+    let s = c .before .before .before .before .before .before .args .s in
+    let k = c .before .before .before .before .before .loop .k in
+    let at = c .before .before .before .place-on .ensures .0 in
+    let e : w (getD cs (placeOn n s k) noChair) ≡ false = ap (λ j. w (getD cs j noChair)) (sym at) ∙ sym (c .before .wants .ensures) ∙ c .if1 .left in
+    (search needs, sym (first-turn w cs n s k false (search needs) (search needs) e) ∙ c .before .before .before .before .before .loop .inv .1)
+
+returns-2 : tie.Need-returns-2 Inv-loop μ-loop
 returns-2 c =
-    let w = wantOf (c .before .before .before .args .w) in
-    let cs = c .before .before .before .args .cs in
-    let s = c .before .before .before .args .s in
-    (rw sub-zero at (c .first-in2 .ensures))
-    ∙ sym (first-none w cs s (c .before .before .before .args .n - s) _ (sym (c .before .before .first-in .ensures) ∙ c .before .if1 .left))
+    let n = c .before .before .args .seats in
+    let s = c .before .before .args .s in
+    let l : s ≤ n = search needs in
+    let none = drop-of-length-le (clockwise n s) {i = c .before .loop .k} (omega (arith, clock-length n s l)) in
+    sym (ap (firstOf (wantOf (c .before .before .args .w)) (c .before .before .args .t1)) none) ∙ c .before .loop .inv .1
 
 pub first-from-spec : {M : Type 1} → statement M
-first-from-spec = tie.close (tie.spec first-in-requires returns first-in-requires-2 returns-2)
+first-from-spec =
+    tie.close
+    (tie.spec
+    Inv-loop
+    μ-loop
+    loop-holds
+    place-on-requires
+    mul-c
+    array-copy-out-c
+    wants-requires
+    cast-result
+    add-result
+    returns
+    add-k
+    loop-less
+    loop-again
+    returns-2)

@@ -1,6 +1,6 @@
 -- The invariant: what is counted so far and what the rest counts make both whole counts.
-use mathlib.Core.Path.{ap, _∙_, _≡_}
-use lib.ListN.{drop-of-length-le, length, drop, getD}
+use mathlib.Core.Path.{refl, ap, _∙_, _≡_}
+use lib.ListN.{length, drop, getD}
 use borrow.Author.Needs.{needs}
 use Prim.Native.Nat.{_≤_, _+_, _-_}
 use native.Mathlib.Omega.{arith}
@@ -9,16 +9,17 @@ use Rattle.laws.proofs.Often.{one-small}
 use Rattle.chairs.specs.Chairs.{wantOf, countOf, noChair}
 use Rattle.chairs.specs.declared.Who.the-variants.{Live, LiveWithChips}
 use Rattle.chairs.proofs.Laws.{count-step}
+use Rattle.chairs.proofs.Above.{above-count}
 use Rattle.chairs.proofs.seats.lives.Statement.{statement}
 use Rattle.chairs.proofs.seats.lives.Tie as tie
 
 abbrev Inv-loop : tie.InvT-loop
-Inv-loop cs hands₀ stacks₀ i₀ hands stacks i =
-    (i ≤ 10) × (hands ≤ i) × (stacks ≤ i) × (hands + countOf (wantOf Live) (drop i cs) ≡ countOf (wantOf Live) cs)
+Inv-loop seats cs last hands₀ stacks₀ i₀ hands stacks i =
+    (last ≡ seats) × (i ≤ last) × (hands ≤ i) × (stacks ≤ i) × (hands + countOf (wantOf Live) (drop i cs) ≡ countOf (wantOf Live) cs)
     × (stacks + countOf (wantOf LiveWithChips) (drop i cs) ≡ countOf (wantOf LiveWithChips) cs)
 
 abbrev μ-loop : tie.MeasureT-loop
-μ-loop cs hands₀ stacks₀ i₀ hands stacks i = 10 - i
+μ-loop seats cs last hands₀ stacks₀ i₀ hands stacks i = last - i
 
 loop-holds : tie.Need-loop-holds Inv-loop μ-loop
 loop-holds c = search needs
@@ -61,14 +62,16 @@ loop-again c =
     let k : c .one2 .result ≡ one r = c .one2 .ensures ∙ ap one (c .before .live-with-chips .ensures) in
     let a = count-step (wantOf Live) cs i noChair (omega arith) in
     let b = count-step (wantOf LiveWithChips) cs i noChair (omega arith) in
-    (omega arith, omega (arith, h, one-small l), omega (arith, k, one-small r), omega (arith, h, a), omega (arith, k, b))
+    (omega arith, omega arith, omega (arith, h, one-small l), omega (arith, k, one-small r), omega (arith, h, a), omega (arith, k, b))
 
 returns : tie.Need-returns Inv-loop μ-loop
 returns c =
     let cs = c .before .before .args .t1 in
-    let len : length cs ≡ 10 = search needs in
-    let none = drop-of-length-le cs {i = c .before .loop .i} (omega arith) in
-    (omega (arith, ap (countOf (wantOf Live)) none), omega (arith, ap (countOf (wantOf LiveWithChips)) none))
+    let h = c .before .before .pre .above in
+    let e : c .before .loop .i ≡ c .before .before .args .seats = omega arith in (
+      omega (arith, ap (λ k. countOf (wantOf Live) (drop k cs)) e, above-count (wantOf Live) refl _ cs h),
+      omega (arith, ap (λ k. countOf (wantOf LiveWithChips) (drop k cs)) e, above-count (wantOf LiveWithChips) refl _ cs h),
+    )
 
 pub lives-spec : {M : Type 1} → statement M
 lives-spec =

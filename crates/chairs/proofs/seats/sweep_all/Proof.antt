@@ -6,16 +6,17 @@ use native.Mathlib.Omega.{arith}
 use native.Mathlib.Numerals.{add-one}
 use lib.ListN.{length, set, getD}
 use Rattle.chairs.specs.Chairs.{sweepOf, noChair}
-use Rattle.chairs.proofs.Laws.{sweepTo, sweep-step, sweep-all}
+use Rattle.chairs.proofs.Laws.{sweepTo, sweep-step}
+use Rattle.chairs.proofs.Above.{sweep-none, above-sweep}
 use Rattle.chairs.specs.declared.Chair.{Chair}
 use Rattle.chairs.proofs.seats.sweep_all.Statement.{statement}
 use Rattle.chairs.proofs.seats.sweep_all.Tie as tie
 
 abbrev Inv-loop : tie.InvT-loop
-Inv-loop k ds₀ i₀ ds i = (i ≤ 10) × (ds ≡ sweepTo (sweepOf k) i ds₀)
+Inv-loop seats k last ds₀ i₀ ds i = (last ≡ seats) × (i ≤ last) × (ds ≡ sweepTo (sweepOf k) i ds₀)
 
 abbrev μ-loop : tie.MeasureT-loop
-μ-loop k ds₀ i₀ ds i = 10 - i
+μ-loop seats k last ds₀ i₀ ds i = last - i
 
 loop-holds : tie.Need-loop-holds Inv-loop μ-loop
 loop-holds c = search needs
@@ -48,19 +49,19 @@ loop-again c =
     let i = c .before .before .before .loop .i in
     let len : length cs ≡ 10 = search needs in (
       omega arith,
+      omega arith,
       rw add-one (
           ap (λ (d : Chair). set (c .before .before .before .loop .ds) i d) (c .swept .ensures)
-          ∙ ap (λ (l : List Chair). set l i (f (getD l i noChair))) (c .before .before .before .loop .inv .1)
+          ∙ ap (λ (l : List Chair). set l i (f (getD l i noChair))) (c .before .before .before .loop .inv .2)
           ∙ sweep-step f i cs (omega arith)),
     )
 
 returns : tie.Need-returns Inv-loop μ-loop
 returns c =
-    let f = sweepOf (c .before .before .args .k) in
+    let k = c .before .before .args .k in
     let cs = c .before .before .args .cs in
-    let len : length cs ≡ 10 = search needs in
-    let e : c .before .loop .i ≡ length cs = omega arith in
-    c .before .loop .inv .1 ∙ rw e (sweep-all f cs)
+    let e : c .before .loop .i ≡ c .before .before .args .seats = omega arith in
+    c .before .loop .inv .2 ∙ rw e (above-sweep (sweepOf k) (sweep-none k) _ cs (c .before .before .pre .above))
 
 pub sweep-all-spec : {M : Type 1} → statement M
 sweep-all-spec =

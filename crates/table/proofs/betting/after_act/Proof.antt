@@ -1,4 +1,5 @@
 use Rattle.table.specs.Betting.{afterAct}
+use Rattle.chairs.proofs.Above.{seats-put}
 use borrow.Author.Needs.{needs}
 use Rattle.table.proofs.betting.after_act.Statement.{statement}
 use Rattle.table.proofs.betting.after_act.Tie as tie
@@ -7,7 +8,9 @@ with-chair-requires : tie.Need-with-chair-requires
 with-chair-requires c κs = search needs
 
 first-owing-requires : tie.Need-first-owing-requires
-first-owing-requires c κs = search needs
+first-owing-requires c κs =
+    let t = c .before .args .t in
+    rw (c .with-chair .ensures) (seats-put (t .sheet .seats) (t .chairs) (c .before .args .s) _ (c .before .pre .1) (c .before .pre .0), c .before .pre .1)
 
 with-turn-requires : tie.Need-with-turn-requires
 with-turn-requires c κs = search needs

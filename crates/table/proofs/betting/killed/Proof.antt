@@ -1,4 +1,5 @@
 use Rattle.table.specs.Betting.{deadTo}
+use Rattle.chairs.proofs.Above.{seats-put}
 use borrow.Author.Needs.{needs}
 use Rattle.table.proofs.betting.killed.Statement.{statement}
 use Rattle.table.proofs.betting.killed.Tie as tie
@@ -13,7 +14,10 @@ with-chair-requires : tie.Need-with-chair-requires
 with-chair-requires c κs = search needs
 
 turn-after-requires : tie.Need-turn-after-requires
-turn-after-requires c κs = search needs
+turn-after-requires c κs =
+    let t = c .before .before .before .args .t in
+    let h = c .before .before .before .pre in
+    rw (c .with-chair .ensures) (seats-put (t .sheet .seats) (t .chairs) (c .before .before .before .args .s) _ (h .1) (h .0), h .1)
 
 with-turn-requires : tie.Need-with-turn-requires
 with-turn-requires c κs = search needs

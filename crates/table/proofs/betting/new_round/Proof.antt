@@ -1,4 +1,7 @@
 use Rattle.table.specs.Betting.{newRound}
+use native.Mathlib.Omega.{arith}
+use Rattle.chairs.specs.declared.Sweep.the-variants.{Round}
+use Rattle.chairs.proofs.Above.{seats-sweep}
 use borrow.Author.Needs.{needs}
 use Rattle.table.proofs.betting.new_round.Statement.{statement}
 use Rattle.table.proofs.betting.new_round.Tie as tie
@@ -16,7 +19,11 @@ short-of-requires : tie.Need-short-of-requires
 short-of-requires c κs = search needs
 
 first-owing-requires : tie.Need-first-owing-requires
-first-owing-requires c κs = search needs
+first-owing-requires c κs =
+    let h = c .before .before .before .before .before .pre in
+    let t = c .before .before .before .before .before .args .t in
+    rw (c .short-of .ensures, c .before .with-mark .ensures, c .before .before .with-chairs .ensures, c .before .before .before .sweep-all .ensures)
+    (seats-sweep Round (t .sheet .seats) (t .chairs) (h .0), omega (arith, h .1))
 
 with-turn-requires : tie.Need-with-turn-requires
 with-turn-requires c κs = search needs

@@ -4,6 +4,8 @@ use Rattle.chairs.specs.declared.Chair.{Chair}
 use native.Mathlib.Omega.{arith}
 use mathlib.Core.Path.{ap}
 use Rattle.table.specs.Betting.{wageredTo}
+use Rattle.chairs.specs.declared.Sweep.the-variants.{Again}
+use Rattle.chairs.proofs.Above.{seats-sweep}
 use borrow.Author.Needs.{needs}
 use Rattle.table.proofs.betting.wagered.Statement.{statement}
 use Rattle.table.proofs.betting.wagered.Tie as tie
@@ -43,7 +45,10 @@ with-mark-requires : tie.Need-with-mark-requires
 with-mark-requires c κs = search needs
 
 after-act-requires : tie.Need-after-act-requires
-after-act-requires c κs = search needs
+after-act-requires c κs =
+    let h = c .before .before .before .before .before .before .before .before .before .before .before .pre in
+    let t = c .before .before .before .before .before .before .before .before .before .before .before .args .t in
+    rw (c .with-mark .ensures, c .before .before .with-chairs .ensures, c .before .before .before .sweep-all .ensures) (seats-sweep (Again (c .before .before .before .before .is-full-lift .result)) (t .sheet .seats) (t .chairs) (h .1), h .2)
 
 returns : tie.Need-returns
 unfolding wageredTo

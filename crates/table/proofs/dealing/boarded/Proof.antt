@@ -10,7 +10,7 @@ with-card-requires : tie.Need-with-card-requires
 with-card-requires c κs = search needs
 
 new-round-requires : tie.Need-new-round-requires
-new-round-requires c κs = search needs
+new-round-requires c κs = rw (c .before .with-card .ensures) (c .before .before .pre .2, c .before .before .pre .3)
 
 returns : tie.Need-returns
 unfolding boardedTo

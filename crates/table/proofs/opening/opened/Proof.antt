@@ -2,9 +2,10 @@ use Prim.Native.Nat.{_≤_}
 use Rattle.chairs.proofs.Laws.{chips-sweep}
 use Rattle.table.proofs.Laws.{chips-posted}
 use Rattle.chairs.specs.declared.Sweep.the-variants.{Deal}
-use Rattle.table.specs.Opening.{openedTo}
+use Rattle.table.specs.Opening.{openedTo, postedTo}
 use Rattle.chairs.specs.Chairs.{chipsOf}
 use native.Mathlib.Omega.{arith}
+use Rattle.table.proofs.Standing.{blinds-seated, next-within}
 use borrow.Author.Needs.{needs}
 use Rattle.table.proofs.opening.opened.Statement.{statement}
 use Rattle.table.proofs.opening.opened.Tie as tie
@@ -30,7 +31,13 @@ with-hand-requires : tie.Need-with-hand-requires
 with-hand-requires c κs = search needs
 
 first-owing-requires : tie.Need-first-owing-requires
-first-owing-requires c κs = search needs
+unfolding postedTo
+first-owing-requires c κs =
+    let t = c .before .before .before .before .before .before .before .args .t in
+    let s = c .before .before .before .before .before .before .before .args .s in
+    let h = c .before .before .before .before .before .before .before .pre in
+    rw (c .with-hand .ensures, c .before .posted2 .ensures, c .before .before .posted .ensures, c .before .before .before .with-chairs .ensures, c .before .before .before .before .sweep-all .ensures, c .before .before .before .before .before .before .next-dealt-in .ensures)
+    (blinds-seated t s (h .1) (h .2), next-within t s (h .2))
 
 with-turn-requires : tie.Need-with-turn-requires
 with-turn-requires c κs = search needs
