@@ -1,15 +1,15 @@
 -- Empty places above the table's seats change nothing of a hand: the pots, what goes back, the commission and what each sitting is due are those of the seats alone.
 -- So the code's ten places do for any table of two to ten seats. For any number of seats and of places above them.
 -- Assumes nothing.
-use Prim.Native.Nat.{ℕ, zero, suc, _+_, _-_, _*_, _/_, _%_, _^_, _≤_, _<_, max, zero-le}
+use Prim.Native.Nat.{ℕ, zero, suc, _+_, _-_, _*_, _/_, _%_, _^_, _≤_, _<_, max}
 use mathlib.Core.Path.{_≡_, refl, sym, ap, ap₂, _∙_, subst}
 use mathlib.Core.Bool.{Bool, true, false}
 use mathlib.Core.List.{List, [], _∷_, _++_, map, map-append}
 use native.Mathlib.Nat.{zero-add, suc-add}
 use native.Mathlib.Omega.{arith}
 use lib.Dec.{leb, eqb}
-use lib.ListN.{length, replicate, length-append, length-replicate}
-use Rattle.laws.specs.Lists.{maxOf, sumOf, All}
+use lib.ListN.{length, replicate, length-append}
+use Rattle.laws.specs.Lists.{maxOf, All}
 use Rattle.laws.specs.Tests.{pick, both}
 use Rattle.laws.specs.Bits.{ones}
 use Rattle.laws.proofs.Bits.{half-below, ones-wide}
@@ -22,6 +22,7 @@ use Rattle.pots.specs.Settle.{feeOf, sole, sharesOf}
 use Rattle.pots.specs.Hand.{rated, bestOf, winnersOf, plus, wonOf, feeOfHand, dueOf}
 use Rattle.pots.proofs.Chips.{has-none, over-same, chips-append}
 use Rattle.pots.proofs.Masks.{live-length, mask-lt, pick-nil}
+use Rattle.pots.proofs.PotRuns.{pots-all}
 use Rattle.pots.proofs.Winners.{top-one}
 use Rattle.pots.proofs.Hands.{shares-length, won-length, Manned, manned, pots-manned}
 use Rattle.pots.proofs.Wrap.{live-none, shares-wrap}
@@ -99,32 +100,9 @@ returned-zeros ts live zero = refl
 returned-zeros ts live (suc k) = ap (λ l. 0 ∷ l) (returned-zeros ts live k)
 
 -- ---- the contenders of each pot are among the seats
-join-all : (P : ℕ → Type 0) (c i : ℕ) (ps : List Pot) → P i → All (λ (p : Pot). P (p .who)) ps → All (λ (p : Pot). P (p .who)) (join c i ps)
-unfolding join
-join-all P c i [] p a = (p, a)
-join-all P c i (q ∷ ps) p a = go (eqb i (q .who))
-  where
-    go : (b : Bool) → All (λ (p : Pot). P (p .who)) (pick b (pot (c + q .amount) i ∷ ps) (pot c i ∷ q ∷ ps))
-    go true = (p, a .1)
-    go false = (p, a)
-
-runs-all : (P : ℕ → Type 0) (f key : ℕ → ℕ) (h n : ℕ) → ((j : ℕ) → P (key j)) → All (λ (p : Pot). P (p .who)) (runs f key h n)
-unfolding runs
-runs-all P f key h zero a = tt
-runs-all P f key h (suc n) a = join-all P (f (suc h)) (key (suc h)) (runs f key (suc h) n) (a (suc h)) (runs-all P f key (suc h) n a)
-
-keyed-all : (P : ℕ → Type 0) (ps : List Pot) → All (λ (p : Pot). P (p .who)) ps → All (λ (p : Pot). P (p .who)) (keyed ps)
-unfolding keyed
-keyed-all P [] a = tt
-keyed-all P (p ∷ ps) a = go (eqb (p .who) 0) (keyed-all P ps (a .1))
-  where
-    go : (b : Bool) → All (λ (q : Pot). P (q .who)) (keyed ps) → All (λ (q : Pot). P (q .who)) (pick b (keyed ps) (p ∷ keyed ps))
-    go true r = r
-    go false r = (a .0, r)
-
 pots-within : (ts : List ℕ) (live : ℕ) → All (λ (p : Pot). p .who < 2 ^ length ts) (potsOf ts live)
-unfolding potsOf contest contenders
-pots-within ts live = keyed-all (λ m. m < 2 ^ length ts) _ (runs-all (λ m. m < 2 ^ length ts) (chipsAt ts) (contest ts live) 0 (maxOf ts) within)
+unfolding contest contenders
+pots-within ts live = pots-all (λ m. m < 2 ^ length ts) ts live (λ j p. within j)
   where
     within : (j : ℕ) → contest ts live j < 2 ^ length ts
     within j = go (contested ts live j)

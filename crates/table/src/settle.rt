@@ -18,9 +18,11 @@ use pots::Stands;
 ghost use mathlib.Core.Path.{_≡_};
 ghost use mathlib.Core.List.{map};
 ghost use Prim.Native.Nat.{_+_, _-_, _≤_, _<_};
-ghost use lib.ListN.{length};
+ghost use lib.ListN.{length, replicate};
 ghost use Rattle.chairs.specs.Chairs.{chipsOf, closeAll};
+ghost use Rattle.laws.specs.Tests.{pick};
 ghost use Rattle.pots.specs.Runs.{padded};
+ghost use Rattle.pots.specs.Settle.{sole};
 ghost use Rattle.table.specs.Settle.{Payable, settleCode, totalsOf, livesOf, hereOf, handScore, scoreOf, potsNow, backNow, commissionOf, payoutNow, settledTo, closedPlay, noPayout};
 ghost use Rattle.table.specs.Standing.{Standing};
 
@@ -94,6 +96,16 @@ fn scores(b: Board, cs: [Chair; 10]) -> [u32; 10]
     a
 }
 
+// The scores that a settle goes by: where one hand alone is live it needs no cards, and no hand is looked at.
+fn scores_needed(b: Board, cs: [Chair; 10], live: u16) -> [u32; 10]
+    ensures { λ r. ⌜ r ≡ pick (sole 10 live) (replicate 10 0) (map (scoreOf b) cs) ⌝ }
+{
+    if pots::hand::sole(live) {
+        return [0u32; 10];
+    }
+    scores(b, cs)
+}
+
 // What the commission of the open hand goes by.
 fn commission(t: Table) -> Commission
     ensures { λ r. ⌜ r ≡ commissionOf t ⌝ }
@@ -113,9 +125,9 @@ fn payout(t: Table) -> Payout
 {
     let cs = t.chairs;
     let b = t.board;
-    let sc = scores(b, cs);
-    let puck = t.play.puck as usize;
     let put = put_in(t);
+    let sc = scores_needed(b, cs, put.live);
+    let puck = t.play.puck as usize;
     let totals = put.totals;
     let s = pots::hand::settle_hand(totals, put.live, sc, commission(t), puck);
     let due = s.due;

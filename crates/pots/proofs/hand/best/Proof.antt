@@ -4,7 +4,6 @@ use mathlib.Core.Path.{ap, _∙_}
 use borrow.Author.Needs.{needs}
 use Rattle.pots.specs.Heights.{liveOf, maskAt}
 use Rattle.laws.specs.Lists.{maxOf}
-use Rattle.pots.specs.Hand.{bestOf}
 use Rattle.pots.proofs.hand.best.Statement.{statement}
 use Rattle.pots.proofs.hand.best.Tie as tie
 
