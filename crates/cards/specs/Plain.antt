@@ -69,7 +69,7 @@ handAt n q =
 -- for each pattern, with seven cards of it as letters: the class of the best five, and where they stand
 abbrev pub rows : List ℕ
 rows =
-      row 8 0 1 2 3 4  -- abcdefg
+    row 8 0 1 2 3 4  -- abcdefg
     ∷ row 7 0 1 2 3 4  -- aabcdef
     ∷ row 7 1 2 0 3 4  -- abbcdef
     ∷ row 5 0 1 2 3 4  -- aaabcde

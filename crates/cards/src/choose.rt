@@ -1,11 +1,11 @@
 // Document 01, "Hand order": the best of the choices of five. The chosen cards and the best hand so far are one number each, which the search
 // hands on without copying arrays at every step.
 use crate::Hand;
-use crate::value;
 use crate::plain::fallen_seven;
 use crate::plain::hand_by_table;
 use crate::plain::is_plain;
 use crate::plain::ranks_of_seven;
+use crate::value;
 ghost use mathlib.Core.Path.{_≡_};
 ghost use mathlib.Core.List.{_++_};
 ghost use Prim.Native.Nat.{_-_, _/_, _%_, _≤_};

@@ -24,7 +24,7 @@ hand-by-table-requires : tie.Need-hand-by-table-requires
 hand-by-table-requires c κs = search needs
 
 returns-2 : tie.Need-returns-2
-returns-2 c = 
+returns-2 c =
     found-plain (c .before .before .before .before .before .before .before .args .cards .now) (c .before .before .before .before .before .if1 .left) (c .before .before .before .before .fallen-seven .result) (c .before .before .before .ranks-of-seven .result)
     (c .before .before .before .before .fallen-seven .ensures) (c .before .before .before .ranks-of-seven .ensures) (c .hand-by-table .result)
     (sym (c .before .before .is-plain .ensures) ∙ c .before .if2 .taken) (c .hand-by-table .ensures)
