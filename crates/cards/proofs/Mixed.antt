@@ -43,7 +43,7 @@ module _ (rs ss : List ℕ) (s : SameNumbers rs ss) where
   same-holdings : holdings rs ≡ holdings ss
   same-holdings = same-counts (ordered rs) ∙ ap (map (λ r. count r ss)) same-ordered
 
-all-count : (x : ℕ) (l : List ℕ) → allAre x l ≡ true → count x l ≡ length l
+pub all-count : (x : ℕ) (l : List ℕ) → allAre x l ≡ true → count x l ≡ length l
 all-count x [] h = refl
 all-count x (y ∷ l) h =
     let p = both-true (eqb x y) (allAre x l) h in

@@ -21,11 +21,11 @@ use Rattle.cards.proofs.Only.{best-only}
 use Rattle.cards.proofs.Mixed.{value-same}
 
 -- c is of l: no number is more often in it
-abbrev Within : List ℕ → List ℕ → Type 0
+abbrev pub Within : List ℕ → List ℕ → Type 0
 Within c l = (x : ℕ) → count x c ≤ count x l
 
 -- a choice of k of l is of l, and has k
-choice-within : (k : ℕ) (l c : List ℕ) → List·Memᴰ c (choices k l) → Within c l × (length c ≡ k)
+pub choice-within : (k : ℕ) (l c : List ℕ) → List·Memᴰ c (choices k l) → Within c l × (length c ≡ k)
 unfolding choices
 choice-within zero l c i = let e = List·Memᴰ·eq-of-singleton i in (λ x. omega (arith, ap (count x) e), ap length e)
 choice-within (suc k) [] c i = absurd (List·Memᴰ·not-nil i)

@@ -1,6 +1,10 @@
 // Document 01, "Hand order": the best of the choices of five. The chosen cards and the best hand so far are one number each, which the search
 // hands on without copying arrays at every step.
 use crate::Hand;
+use crate::plain::fallen_seven;
+use crate::plain::hand_by_table;
+use crate::plain::is_plain;
+use crate::plain::ranks_of_seven;
 use crate::value;
 ghost use mathlib.Core.Path.{_≡_};
 ghost use mathlib.Core.List.{_++_};
@@ -99,12 +103,27 @@ fn best(cards: &[u8], at: usize, chosen: u64, have: usize, so_far: u64) -> u64
     best(cards, at + 1, chosen, have, with)
 }
 
-// The best hand of five among the cards, of any number of them; of fewer than five, no hand.
-pub fn best_hand(cards: &[u8]) -> Hand
+// By the search among all choices.
+fn best_of_choices(cards: &[u8]) -> Hand
     ensures { λ r. ⌜ r ≡ bestOf places (now (cards .entry)) ⌝ }
 {
     if cards.len() < 5 {
         return hand_in(0);
     }
     hand_in(best(cards, 0, 0, 0, 0))
+}
+
+// The best hand of five among the cards, of any number of them; of fewer than five, no hand.
+pub fn best_hand(cards: &[u8]) -> Hand
+    ensures { λ r. ⌜ r ≡ bestOf places (now (cards .entry)) ⌝ }
+{
+    if cards.len() != 7 {
+        return best_of_choices(cards);
+    }
+    let fallen = fallen_seven(cards);
+    let ranks = ranks_of_seven(fallen);
+    if is_plain(fallen, ranks) {
+        return hand_by_table(ranks);
+    }
+    best_of_choices(cards)
 }

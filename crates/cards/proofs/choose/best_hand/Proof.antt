@@ -1,24 +1,50 @@
 -- `cards::choose::best_hand` meets its contract. Assumes nothing.
-use mathlib.Core.Path.{_∙_}
-use native.Mathlib.Omega.{arith}
-use Rattle.cards.proofs.Searched.{found-none, found-best}
+use mathlib.Core.Path.{sym, _∙_}
+use Rattle.cards.proofs.Seven.{found-plain}
+use borrow.Author.Needs.{needs}
 use Rattle.cards.proofs.choose.best_hand.Statement.{statement}
 use Rattle.cards.proofs.choose.best_hand.Tie as tie
 
-hand-in-requires : tie.Need-hand-in-requires
-hand-in-requires c κs = omega arith
+best-of-choices-requires : tie.Need-best-of-choices-requires
+best-of-choices-requires c κs = search needs
 
 returns : tie.Need-returns
-returns c = found-none _ _ (c .before .if1 .taken) (c .hand-in .ensures)
+returns c = search needs
 
-best-requires : tie.Need-best-requires
-best-requires c κs = omega arith
+fallen-seven-requires : tie.Need-fallen-seven-requires
+fallen-seven-requires c κs = search needs
 
-hand-in-requires-2 : tie.Need-hand-in-requires-2
-hand-in-requires-2 c κs = c .best .ensures .1
+ranks-of-seven-requires : tie.Need-ranks-of-seven-requires
+ranks-of-seven-requires c κs = search needs
+
+is-plain-requires : tie.Need-is-plain-requires
+is-plain-requires c κs = search needs
+
+hand-by-table-requires : tie.Need-hand-by-table-requires
+hand-by-table-requires c κs = search needs
 
 returns-2 : tie.Need-returns-2
-returns-2 c = found-best _ _ (c .hand-in2 .ensures ∙ c .before .best .ensures .0)
+returns-2 c =
+    found-plain (c .before .before .before .before .before .before .before .args .cards .now) (c .before .before .before .before .before .if1 .left) (c .before .before .before .before .fallen-seven .result) (c .before .before .before .ranks-of-seven .result)
+    (c .before .before .before .before .fallen-seven .ensures) (c .before .before .before .ranks-of-seven .ensures) (c .hand-by-table .result)
+    (sym (c .before .before .is-plain .ensures) ∙ c .before .if2 .taken) (c .hand-by-table .ensures)
+
+best-of-choices-requires-2 : tie.Need-best-of-choices-requires-2
+best-of-choices-requires-2 c κs = search needs
+
+returns-3 : tie.Need-returns-3
+returns-3 c = search needs
 
 pub best-hand-spec : {M : Type 1} → statement M
-best-hand-spec = tie.close (tie.spec hand-in-requires returns best-requires hand-in-requires-2 returns-2)
+best-hand-spec =
+    tie.close
+    (tie.spec
+    best-of-choices-requires
+    returns
+    fallen-seven-requires
+    ranks-of-seven-requires
+    is-plain-requires
+    hand-by-table-requires
+    returns-2
+    best-of-choices-requires-2
+    returns-3)
