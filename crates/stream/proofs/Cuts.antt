@@ -30,11 +30,11 @@ use Rattle.stream.proofs.Lines.{ended, cap, lfs, keepAll, keep-append, 
 
 -- ---- what is answered depends on the block alone
 
-judged-same : (t : Table) (x y : List ℕ) → blockOf x ≡ blockOf y → judgedOf t x ≡ judgedOf t y
+pub judged-same : (t : Table) (x y : List ℕ) → blockOf x ≡ blockOf y → judgedOf t x ≡ judgedOf t y
 unfolding judgedOf
 judged-same t x y e = ap (judgeBlock t) e
 
-bytes-same : (t : Table) (x y : List ℕ) → blockOf x ≡ blockOf y → blockBytes t x ≡ blockBytes t y
+pub bytes-same : (t : Table) (x y : List ℕ) → blockOf x ≡ blockOf y → blockBytes t x ≡ blockBytes t y
 unfolding blockBytes
 bytes-same t x y e = ap (λ (j : Judged). answerBytes (shownOf (j .n) (j .code) (j .table) (j .payout))) (judged-same t x y e)
 

@@ -1,32 +1,27 @@
--- A block that lies whole in a part is answered there as it would be once it was kept. For any bytes. Assumes nothing.
+-- Whole blocks that are answered where they lie get the answers of the stream. For any part, whatever comes next, and any room. Assumes nothing.
 use mathlib.Core.Path.{_≡_, refl, sym, ap, subst, _∙_}
-use mathlib.Core.List.{List, [], _∷_, _++_, append-nil}
-use mathlib.Core.Bool.{Bool, true, false, true≢false}
+use mathlib.Core.List.{List, [], _∷_, _++_, append-assoc, append-nil}
+use mathlib.Core.Bool.{Bool, true, true≢false}
 use mathlib.Core.Logic.{⊎-elim}
-use Prim.Native.Nat.{ℕ, _+_, _-_, _*_, _≤_, _<_}
+use Prim.Native.Nat.{ℕ, zero, suc, _+_, _-_, _≤_, _<_}
 use native.Mathlib.Omega.{arith}
 use lib.ListN.{length, drop, length-append}
 use lib.Seq.{drop-append-add}
 use lib.Dec.{eqb, ltb, leb}
 use borrow.Author.Tests.{leb-true, leb-false}
 use Rattle.laws.specs.Tests.{pick}
-use Rattle.laws.proofs.Tests.{test}
+use Rattle.laws.proofs.Tests.{test, both-true}
 use Rattle.text.specs.Line.{lineLen}
 use Rattle.text.specs.Block.{afterLines, restOf, blockOf}
-use Rattle.text.specs.Front.{blockEnded, frontOf}
-use Rattle.text.specs.declared.front.Front.{Front}
-use Rattle.text.specs.Sheet.{sheetAfter, writtenOf}
-use Rattle.text.specs.TableSheet.{sheetOf}
-use Rattle.desk.specs.declared.Answered.{Answered}
-use Rattle.desk.specs.Desk.{judgeBlock, judgedBytes, blockBytes, answeredFrom, answeredOf}
-use Rattle.desk.proofs.Laws.{read-answered}
-use Rattle.stream.specs.declared.Clerk.{Clerk}
-use Rattle.stream.specs.declared.Mark.{Mark}
-use Rattle.stream.specs.declared.Fed.{Fed}
-use Rattle.stream.specs.Stream.{Kept, nothing, keepOf, Gathered, linesOf, gatherOf, stateOf, stepFrom, stepOf, stepBytes, openingBytes, answeredStep, FedAs}
+use Rattle.text.specs.Front.{blockEnded}
+use Rattle.table.specs.declared.table.Table.{Table}
+use Rattle.desk.specs.declared.Judged.{Judged}
+use Rattle.desk.specs.Desk.{judgedOf, blockBytes}
+use Rattle.stream.specs.Stream.{Kept, nothing, keepOf, Gathered, gatherOf, streamFrom}
+use Rattle.stream.specs.InPlace.{InPlace, answersFront, inPlaceFrom, inPlaceOf, ranOf}
 use Rattle.stream.proofs.Lines.{ended, lfs, keepAll, keep-append, lfs-lf, lfs-on, kept-lines, ended-is, snoc, lfs-append, lines-lfs, lines-none, lines-last}
-use Rattle.stream.proofs.Steps.{answered-room}
-use Rattle.stream.proofs.Cuts.{kept-cap, ended-block, gather-whole, gather-next}
+use Rattle.stream.proofs.Cuts.{judged-same, bytes-same, kept-cap, ended-block, gather-whole, gather-next, part-ends}
+use Rattle.stream.proofs.Runs.{left-drop, from-none, from-more}
 
 -- ---- a log whose fifth line is ended has five LFs
 
@@ -48,15 +43,10 @@ five-lfs l e = ⊎-elim
 
 -- five lines were gathered, the rest is left, and what was gathered reads as the log does
 abbrev Ends : List ℕ → Gathered → Type 0
-Ends log g = (5 ≤ g .kept .lines) × (drop (length log - length (restOf log)) log ≡ g .left) × (blockOf (g .kept .bytes) ≡ blockOf log)
+Ends log g = (5 ≤ g .kept .lines) × (g .left ≡ restOf log) × (blockOf (g .kept .bytes) ≡ blockOf log)
 
 last-lf : (raw : List ℕ) (b : ℕ) → lfs raw < 5 → 5 ≤ lfs (raw ++ (b ∷ [])) → eqb b 10 ≡ true
 last-lf raw b h five = ⊎-elim (λ e. e) (λ e. absurd (omega (arith, lfs-append raw (b ∷ []), lfs-on b [] e))) (test (eqb b 10))
-
-left-is : (raw bs : List ℕ) (b : ℕ) → restOf (raw ++ (b ∷ bs)) ≡ bs → drop (length (raw ++ (b ∷ bs)) - length (restOf (raw ++ (b ∷ bs)))) (raw ++ (b ∷ bs)) ≡ bs
-left-is raw bs b r =
-    let n : length (raw ++ (b ∷ bs)) - length (restOf (raw ++ (b ∷ bs))) ≡ length raw + 1 = omega (arith, ap length r, length-append raw (b ∷ bs)) in
-    ap (λ (i : ℕ). drop i (raw ++ (b ∷ bs))) n ∙ drop-append-add raw (b ∷ bs) 1
 
 pub gathers : (raw bs : List ℕ) → lfs raw < 5 → 5 ≤ lfs (raw ++ bs) → Ends (raw ++ bs) (gatherOf 5 (keepAll nothing raw) bs)
 unfolding restOf
@@ -74,7 +64,7 @@ gathers raw (b ∷ bs) h p =
     let four : lfs raw ≡ 4 = omega (arith, lfs-append raw (b ∷ []), lfs-lf b [] lf) in
     let rest : restOf log ≡ bs = lines-last 4 b raw bs lf four in
     let blk : blockOf (keepOf k b .bytes) ≡ blockOf log = ap (λ (x : Kept). blockOf (x .bytes)) (sym one) ∙ ap blockOf (kept-cap more) ∙ ended-block raw bs b five in
-    subst (Ends log) (sym (gather-whole k b bs e)) (omega (arith, n), left-is raw bs b rest, blk))
+    subst (Ends log) (sym (gather-whole k b bs e)) (omega (arith, n), sym rest, blk))
     (λ e.
     let few : lfs more < 5 = omega (arith, n, leb-false 5 (keepOf k b .lines) e) in
     let same : more ++ bs ≡ log = snoc raw bs b in
@@ -82,51 +72,41 @@ gathers raw (b ∷ bs) h p =
     subst (Ends log) (sym (gather-next k b bs e)) (subst (λ (x : Kept). Ends log (gatherOf 5 x bs)) one (subst (λ (x : List ℕ). Ends x (gatherOf 5 (keepAll nothing more) bs)) same r)))
     (test (leb 5 (keepOf k b .lines)))
 
-state-none : (m : Mark) (buf : List ℕ) → m .count ≡ 0 → m .lines ≡ 0 → m .width ≡ 0 → stateOf m buf ≡ nothing
-state-none m buf e f g = rw (e, f, g)
+-- ---- the stream answers them so
 
--- ---- feeding a part at whose front a whole block lies, with nothing kept
+-- one block
+front-stream : (t : Table) (part more : List ℕ) → blockEnded part ≡ true
+    → streamFrom t nothing (part ++ more) ≡ blockBytes t part ++ streamFrom (judgedOf t part .table) nothing (restOf part ++ more)
+front-stream t part more f =
+    let g : Gathered = gatherOf 5 nothing part in
+    let e : Ends part g = gathers [] part (omega arith) (five-lfs part f) in
+    part-ends t nothing part more (omega arith) (e .0)
+    ∙ ap (λ (x : List ℕ). x ++ streamFrom (judgedOf t (g .kept .bytes) .table) nothing (g .left ++ more)) (bytes-same t (g .kept .bytes) part (e .2))
+    ∙ ap (λ (x : Judged). blockBytes t part ++ streamFrom (x .table) nothing (g .left ++ more)) (judged-same t (g .kept .bytes) part (e .2))
+    ∙ ap (λ (x : List ℕ). blockBytes t part ++ streamFrom (judgedOf t part .table) nothing (x ++ more)) (e .1)
 
-module _ (c : Clerk) (buf part out : List ℕ) (m : c .mark .count ≤ c .mark .lines * 34 + c .mark .width) (o : c .opened ≡ true) (s : c .shut ≡ false)
-    (l : c .mark .lines ≡ 0) (w : c .mark .width ≡ 0) (f : blockEnded part ≡ true) where
-  kept-none : stateOf (c .mark) buf ≡ nothing
-  kept-none = state-none (c .mark) buf (omega arith) l w
+-- what is answered in place, and then the stream's answers to what is left and what comes next
+abbrev Streams : Table → List ℕ → List ℕ → InPlace → Type 0
+Streams t part more p = streamFrom t nothing (part ++ more) ≡ p .bytes ++ streamFrom (p .table) nothing (p .left ++ more)
 
-  ends : Ends part (gatherOf 5 (stateOf (c .mark) buf) part)
-  ends = subst (λ (x : Kept). Ends part (gatherOf 5 x part)) (sym kept-none) (gathers [] part (omega arith) (five-lfs part f))
+streams-from : (k : ℕ) (t : Table) (part more : List ℕ) (room : ℕ) → Streams t part more (inPlaceFrom k t part room)
+streams-from zero t part more room = refl
+streams-from (suc k) t part more room = ⊎-elim
+    (λ e.
+    let bs : List ℕ = blockBytes t part in
+    let p : InPlace = inPlaceFrom k (judgedOf t part .table) (restOf part) (room - length bs) in
+    let f = both-true (blockEnded part) (leb (length bs) room) e in
+    subst (Streams t part more) (sym (from-more k t part room e))
+    (front-stream t part more (f .0)
+    ∙ ap (λ (x : List ℕ). bs ++ x) (streams-from k (judgedOf t part .table) (restOf part) more (room - length bs))
+    ∙ sym (append-assoc bs (p .bytes) (streamFrom (p .table) nothing (p .left ++ more)))))
+    (λ e. subst (Streams t part more) (sym (from-none (suc k) t part room e)) refl)
+    (test (answersFront t part room))
 
-  pub fed-in-place : {z : Mark} {r : Front} {a : Answered} {out2 : List ℕ} → r ≡ frontOf part → (z .lines ≡ 0) × (z .count ≡ 0) × (z .width ≡ 0)
-      → a ≡ answeredFrom (c .table) (judgeBlock (c .table) (r .block)) (writtenOf (judgedBytes (judgeBlock (c .table) (r .block))) out)
-      → out2 ≡ sheetAfter (judgedBytes (judgeBlock (c .table) (r .block))) out
-      → FedAs c buf part out buf out2 (record { clerk = record { opened = true; shut = false; table = a .table; mark = z }; used = r .used; written = a .written })
-  unfolding stepOf stepBytes
-  fed-in-place {z} {r} {a} {out2} e y p q =
-      let g : Gathered = gatherOf 5 (stateOf (c .mark) buf) part in
-      let b : r .block ≡ blockOf (g .kept .bytes) = ap (λ (x : Front). x .block) e ∙ sym (ends .2) in
-      let k = read-answered (c .table) (g .kept .bytes) out b in
-      let five : linesOf (c .opened) ≡ 5 = ap linesOf o in
-      record {
-        shut = λ v. absurd (true≢false (sym v ∙ s));
-        left = λ v. rw five (ap (λ (x : Front). drop (x .used) part) e ∙ ends .1);
-        kept = λ v u. absurd (omega (arith, ends .0, rw five at u));
-        whole = λ v u. rw five (
-          state-none z buf (y .1) (y .0) (y .2),
-          ap answeredStep (p ∙ k .0)
-              ∙ sym (ap (λ (x : Bool). pick x (answeredStep (answeredOf (c .table) (g .kept .bytes) out)) (stepFrom (sheetOf (g .kept .bytes)) (c .table) out)) o),
-          q
-              ∙ ap (λ (x : List ℕ). sheetAfter x out) (k .1)
-              ∙ sym (ap (λ (x : Bool). sheetAfter (pick x (blockBytes (c .table) (g .kept .bytes)) (openingBytes (sheetOf (g .kept .bytes)))) out) o),
-        );
-      }
-
-  pub room-in-place : {r : Front} {a : Answered} → r ≡ frontOf part
-      → a ≡ answeredFrom (c .table) (judgeBlock (c .table) (r .block)) (writtenOf (judgedBytes (judgeBlock (c .table) (r .block))) out) → a .written ≤ length out
-  room-in-place {r} {a} e p =
-      let k : a ≡ answeredOf (c .table) part out = p ∙ read-answered (c .table) part out (ap (λ (x : Front). x .block) e) .0 in
-      omega (arith, ap (λ (x : Answered). x .written) k, answered-room (c .table) part out)
-
--- a clerk that is not shut, part by part
-pub fed-parts : (c : Clerk) {buf part out buf2 out2 : List ℕ} {r : Fed} → c .shut ≡ false
-    → FedAs (record { opened = c .opened; shut = false; table = c .table; mark = c .mark }) buf part out buf2 out2 r → FedAs c buf part out buf2 out2 r
-fed-parts c {buf} {part} {out} {buf2} {out2} {r} e f =
-    subst (λ (b : Bool). FedAs (record { opened = c .opened; shut = b; table = c .table; mark = c .mark }) buf part out buf2 out2 r) (sym e) f
+-- for any part, whatever comes next, and any room
+pub in-place-streams : (t : Table) (part more : List ℕ) (room : ℕ) → streamFrom t nothing (part ++ more)
+    ≡ inPlaceOf t part room .bytes ++ streamFrom (inPlaceOf t part room .table) nothing (drop (ranOf (inPlaceOf t part room) part .used) part ++ more)
+unfolding inPlaceOf
+in-place-streams t part more room =
+    streams-from (length part) t part more room
+    ∙ ap (λ (x : List ℕ). inPlaceOf t part room .bytes ++ streamFrom (inPlaceOf t part room .table) nothing (x ++ more)) (sym (left-drop t part room))

@@ -100,7 +100,7 @@ startOf = record {
   mark = record { count = 0; lines = 0; width = 0 };
 }
 
--- what feeding a part does: a clerk whose sheet was bad does nothing more; else the part's bytes are kept up to the last LF of the sheet or of a block,
+-- what feeding a part by way of the buffer does: a clerk whose sheet was bad does nothing more; else the part's bytes are kept up to the last LF of the sheet or of a block,
 -- and then these lines are answered and nothing is kept
 pub record FedAs (c : Clerk) (buf part out buf2 out2 : List ℕ) (r : Fed) : Type 0 where
   pub shut : c .shut ≡ true → (r .clerk ≡ c) × (r .written ≡ 0) × (out2 ≡ out)

@@ -13,11 +13,12 @@ ghost use mathlib.Core.Path.{_≡_};
 ghost use mathlib.Core.Bool.{true, false};
 ghost use Prim.Native.Nat.{ℕ, _+_, _-_, _*_, _≤_, _<_};
 ghost use lib.ListN.{length, take, drop};
-ghost use Rattle.text.specs.Sheet.{sheetAfter, Wrote};
+ghost use Rattle.text.specs.Sheet.{over, sheetAfter, Wrote};
 ghost use Rattle.text.specs.TableSheet.{sheetLines};
 ghost use Rattle.desk.specs.Log.{fitting};
 ghost use Rattle.table.specs.Take.{Sound};
 ghost use Rattle.stream.specs.Stream.{linesOf, stateOf, keepOf, gatherOf, Room, Held, FedAs, startOf, stepOf, stepBytes, closeBytes};
+ghost use Rattle.stream.specs.InPlace.{inPlaceOf, ranOf, awaitsBlock, FedEither};
 
 // How much is kept: its bytes, its LFs, and the bytes of the line that is not ended.
 pub struct Mark {
@@ -188,9 +189,44 @@ fn feed_kept(opened: bool, t: Table, m: Mark, buf: &mut [u8], part: &[u8], out: 
     }
 }
 
+// What was answered where it lies: the table after it, the bytes used up and the bytes written.
+pub struct Ran {
+    pub table: Table,
+    pub used: usize,
+    pub written: usize,
+}
+
+// The whole blocks at the front of a part, each answered where it lies, up to one whose answer has no room.
+pub fn in_place(t: Table, part: &[u8], out: &mut [u8]) -> Ran
+    requires { ⌜ Sound t ⌝ }
+    ensures ran { λ r. ⌜ r ≡ ranOf (inPlaceOf t (now (part .entry)) (length (now (out .entry)))) (now (part .entry)) ⌝ }
+    ensures bytes { λ r. ⌜ now (out .exit) ≡ over (inPlaceOf t (now (part .entry)) (length (now (out .entry))) .bytes) (now (out .entry)) ⌝ }
+    ensures sound { λ r. ⌜ Sound (r .table) × (r .used ≤ length (now (part .entry))) × (r .written ≤ length (now (out .entry))) ⌝ }
+{
+    let mut table = t;
+    let mut used: usize = 0;
+    let mut at: usize = 0;
+    while used < part.len() {
+        let f = read_front(&part[used..]);
+        if !f.whole {
+            return Ran { table, used, written: at };
+        }
+        let b = f.block;
+        let a = answer_block(table, b, &mut out[at..]);
+        if a.code == 12 {
+            return Ran { table, used, written: at };
+        }
+        let u = a.table;
+        table = u;
+        at += a.written;
+        used += f.used;
+    }
+    Ran { table, used, written: at }
+}
+
 // Whether the sheet was read and nothing of the next block is kept.
 fn awaits_block(opened: bool, m: Mark) -> bool
-    ensures { λ r. ⌜ (r ≡ true → (opened ≡ true) × (m .lines ≡ 0) × (m .width ≡ 0)) ⌝ }
+    ensures { λ r. ⌜ r ≡ awaitsBlock opened m ⌝ }
 {
     if m.lines == 0 {
         if m.width == 0 {
@@ -200,10 +236,36 @@ fn awaits_block(opened: bool, m: Mark) -> bool
     false
 }
 
-// A part of the log: its bytes up to the end of a block, whose answer is written, or all of them. A whole block is read where it lies.
+// A part of the log where a block is awaited: the whole blocks at its front where they lie; where there is none, by way of the buffer.
+fn feed_awaiting(t: Table, m: Mark, buf: &mut [u8], part: &[u8], out: &mut [u8]) -> Fed
+    requires { ⌜ Sound t × Room m × (awaitsBlock true m ≡ true) × (204 ≤ length (now buf)) ⌝ }
+    ensures fed { λ r. ⌜ FedEither (record { opened = true; shut = false; table = t; mark = m }) (now (buf .entry)) (now (part .entry)) (now (out .entry)) (now (buf .exit)) (now (out .exit)) r ⌝ }
+    ensures held { λ r. ⌜ Held (r .clerk) × (r .used ≤ length (now (part .entry))) × (0 < length (now (part .entry)) → 0 < r .used) × (r .written ≤ length (now (out .entry))) ⌝ }
+{
+    let a = in_place(t, part, out);
+    if a.used == 0 {
+        return feed_kept(true, t, m, buf, part, out);
+    }
+    let u = a.table;
+    let z = empty();
+    let d = Clerk {
+        opened: true,
+        shut: false,
+        table: u,
+        mark: z,
+    };
+    Fed {
+        clerk: d,
+        used: a.used,
+        written: a.written,
+    }
+}
+
+// A part of the log: where a block is awaited, the whole blocks at its front, answered where they lie; else its bytes up to the end of the
+// sheet or of a block, which is answered, or all of them.
 pub fn feed(c: Clerk, buf: &mut [u8], part: &[u8], out: &mut [u8]) -> Fed
     requires { ⌜ Held c × (204 ≤ length (now buf)) ⌝ }
-    ensures fed { λ r. ⌜ FedAs c (now (buf .entry)) (now (part .entry)) (now (out .entry)) (now (buf .exit)) (now (out .exit)) r ⌝ }
+    ensures fed { λ r. ⌜ FedEither c (now (buf .entry)) (now (part .entry)) (now (out .entry)) (now (buf .exit)) (now (out .exit)) r ⌝ }
     ensures held { λ r. ⌜ Held (r .clerk) × (r .used ≤ length (now (part .entry))) × (0 < length (now (part .entry)) → 0 < r .used) × (r .written ≤ length (now (out .entry))) ⌝ }
 {
     if c.shut {
@@ -216,24 +278,7 @@ pub fn feed(c: Clerk, buf: &mut [u8], part: &[u8], out: &mut [u8]) -> Fed
     let t = c.table;
     let m = c.mark;
     if awaits_block(c.opened, m) {
-        let f = read_front(part);
-        if f.whole {
-            let b = f.block;
-            let a = answer_block(t, b, out);
-            let u = a.table;
-            let z = empty();
-            let d = Clerk {
-                opened: true,
-                shut: false,
-                table: u,
-                mark: z,
-            };
-            return Fed {
-                clerk: d,
-                used: f.used,
-                written: a.written,
-            };
-        }
+        return feed_awaiting(t, m, buf, part, out);
     }
     feed_kept(c.opened, t, m, buf, part, out)
 }
