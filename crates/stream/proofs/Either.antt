@@ -20,13 +20,14 @@ use Rattle.stream.specs.Stream.{FedAs}
 use Rattle.stream.specs.InPlace.{InPlace, answersFront, inPlaceOf, ranOf, awaitsBlock, goesInPlace, fedOf, FedEither}
 use Rattle.stream.proofs.Runs.{place-none, uses-some, uses-none}
 
--- a clerk that awaits a block has read the sheet and keeps no line
-pub awaits-is : (opened : Bool) (m : Mark) → awaitsBlock opened m ≡ true → (opened ≡ true) × (m .lines ≡ 0)
+-- a clerk that awaits a block has read the sheet and keeps nothing
+pub awaits-is : (opened : Bool) (m : Mark) → awaitsBlock opened m ≡ true → (opened ≡ true) × (m .lines ≡ 0) × (m .width ≡ 0)
 awaits-is opened m h =
     let l = both-true (eqb (m .lines) 0) (both (eqb (m .width) 0) opened) h in
-    (both-true (eqb (m .width) 0) opened (l .1) .1, eqb-true (m .lines) 0 (l .0))
+    let w = both-true (eqb (m .width) 0) opened (l .1) in
+    (w .1, eqb-true (m .lines) 0 (l .0), eqb-true (m .width) 0 (w .0))
 
-goes-when : (c : Clerk) (part : List ℕ) (room : ℕ) → goesInPlace c part room ≡ true
+pub goes-when : (c : Clerk) (part : List ℕ) (room : ℕ) → goesInPlace c part room ≡ true
     → (c .shut ≡ false) × (awaitsBlock (c .opened) (c .mark) ≡ true) × (answersFront (c .table) part room ≡ true)
 goes-when c part room h = go (c .shut) (awaitsBlock (c .opened) (c .mark)) h
   where
