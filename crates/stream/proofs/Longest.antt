@@ -1,10 +1,11 @@
 -- No answer of a sound table is longer than 562 bytes, so a sheet with so much room takes the answer to any block. Assumes nothing.
+-- ---- at most ten rows and nine pots are shown
 use mathlib.Core.Path.{_≡_, ap, _∙_}
 use mathlib.Core.List.{List, [], _∷_}
 use mathlib.Core.Bool.{Bool, true, false}
 use Prim.Native.Nat.{ℕ, _≤_}
 use native.Mathlib.Omega.{arith}
-use lib.ListN.{length, length-append}
+use lib.ListN.{length}
 use lib.Dec.{eqb}
 use borrow.Author.Tests.{le-leb}
 use Rattle.laws.specs.Tests.{pick, both}
@@ -25,27 +26,11 @@ use Rattle.table.specs.declared.table.Table.{Table}
 use Rattle.table.specs.Settle.{totalsOf, livesOf, potsNow, payoutNow, noPayout}
 use Rattle.table.specs.Take.{Sound, codeOf, nextOf, payoutOf, payoutBy}
 use Rattle.table.proofs.Standing.{standing-next}
-use Rattle.answers.specs.declared.Payout.{Payout}
-use Rattle.answers.specs.declared.Shown.{Shown}
-use Rattle.answers.specs.Answer.{keyFee, keyUnclaimed, rowBytes, payoutBytes, tableBytes, answerBytes}
-use Rattle.answers.proofs.Blocks.{joined-most, row-most, line-most, payout-count, table-most}
+use Rattle.answers.proofs.Blocks.{answer-most}
 use Rattle.desk.specs.declared.Judged.{Judged}
 use Rattle.desk.specs.Desk.{rowsOf, shownOf, judgeParsed, judgeBlock, judgedOf, judgedBytes, blockBytes}
 use Rattle.stream.specs.InPlace.{answersFront}
 use Rattle.chairs.specs.declared.What.the-variants as what
-
--- ---- by what is shown: at most nine pots and ten rows
-
-payout-within : (p : Payout) → length (p .rows) ≤ 10 → length (payoutBytes p) ≤ 364
-payout-within p h = omega (arith, payout-count p, line-most keyFee (p .fee), joined-most rowBytes 33 row-most (p .rows), line-most keyUnclaimed (p .unclaimed))
-
-shown-within : (s : Shown) → s .pots .n ≤ 9 → length (s .payout .rows) ≤ 10 → length (answerBytes s) ≤ 562
-unfolding answerBytes
-shown-within s h k = omega (arith, length-append (tableBytes s) (pick (s .settled) (payoutBytes (s .payout)) []), table-most s h, go (s .settled))
-  where
-    go : (b : Bool) → length (pick b (payoutBytes (s .payout)) []) ≤ 364
-    go true = payout-within (s .payout) k
-    go false = omega arith
 
 rows-within : (ss ps : List ℕ) → length (rowsOf ss ps) ≤ length ss
 rows-within [] ps = omega arith
@@ -60,7 +45,7 @@ pub record Few (j : Judged) : Type 0 where
 
 judged-within : (j : Judged) → Few j → length (judgedBytes j) ≤ 562
 unfolding shownOf
-judged-within j f = shown-within (shownOf (j .n) (j .code) (j .table) (j .payout)) (f .pots) (omega (arith, f .rows, rows-within (j .payout .sittings) (j .payout .paid)))
+judged-within j f = answer-most (shownOf (j .n) (j .code) (j .table) (j .payout)) (f .pots) (omega (arith, f .rows, rows-within (j .payout .sittings) (j .payout .paid)))
 
 pots-within : (t : Table) → length (t .chairs) ≡ 10 → length (potsNow t) ≤ 9
 unfolding potsNow
