@@ -32,7 +32,7 @@ module _ (rs ss : List ℕ) (s : SameNumbers rs ss) where
   same-falls [] f = tt
   same-falls (x ∷ l) f = (same-leads x l (f .0), same-falls l (f .1))
 
-  same-ordered : ordered rs ≡ ordered ss
+  pub same-ordered : ordered rs ≡ ordered ss
   same-ordered =
       ordered-only ss (ordered rs) (record { same = λ r. ordered-right rs .same r ∙ s r; falls = same-falls (ordered rs) (ordered-right rs .falls) })
 

@@ -41,7 +41,7 @@ choice-within (suc k) (a ∷ l) c i =
     (List·Memᴰ·append-cases (map (λ m. a ∷ m) (choices k l)) i)
 
 -- what is of l and has k is a choice of k of l, up to the order
-within-choice : (k : ℕ) (l c : List ℕ) → Within c l → length c ≡ k → (d : List ℕ) × List·Memᴰ d (choices k l) × SameNumbers c d
+pub within-choice : (k : ℕ) (l c : List ℕ) → Within c l → length c ≡ k → (d : List ℕ) × List·Memᴰ d (choices k l) × SameNumbers c d
 unfolding choices
 within-choice zero l [] w n = ([], List·Memᴰ·head refl, λ x. refl)
 within-choice zero l (y ∷ c) w n = absurd (omega arith)

@@ -19,7 +19,7 @@ use Rattle.cards.specs.Order.{above, betterBy, keep, choices}
 use Rattle.cards.specs.Plain.{neighbours, binary, rows, handAt}
 use Rattle.cards.specs.declared.Hand.{Hand}
 use Rattle.cards.proofs.Falls.{Falling}
-use Rattle.cards.proofs.Rowless.{same-list}
+use Rattle.cards.proofs.Fives.{same-list}
 use Rattle.cards.proofs.Scaled.{plainOf, bestPlain, carried, carried-at, carried-best}
 
 unfoldable dense : List Bool → List ℕ

@@ -1,9 +1,9 @@
--- No section of the paper: how the code finds the best of seven cards of which no five are straight or a flush. From high to low, all that counts
--- of them is which neighbours are of the same rank: a table has a row for each of the 64 patterns. proofs/Tabled.antt shows that each row
--- names the best five, and proofs/Rowless.antt and proofs/Suits.antt that the code's two tests leave no straight and no flush. Assumes nothing.
+-- No section of the paper: how the code finds the best of seven cards of which no five are a flush. From high to low, all that counts of them, straights
+-- aside, is which neighbours are of the same rank: a table has a row for each of the 64 patterns (proofs/Tabled.antt: each row names the best
+-- five). The highest row of five ranks is the best straight (proofs/Straights.antt). Assumes nothing.
 use mathlib.Core.Bool.{Bool}
 use mathlib.Core.List.{List, [], _∷_}
-use Prim.Native.Nat.{ℕ, _+_, _*_, _/_, _%_, max}
+use Prim.Native.Nat.{ℕ, _+_, _*_, _/_, _%_}
 use lib.Dec.{eqb, ltb}
 use lib.ListN.{getD}
 use Rattle.laws.specs.Tests.{one, both, pick}
@@ -36,14 +36,22 @@ fewAlike n = both (ltb (n % 16) 5) (both (ltb (n / 16 % 16) 5) (both (ltb (n / 2
 abbrev pub rowOn : ℕ → ℕ → ℕ → ℕ
 rowOn n x y = pick (eqb x y) n (pick (eqb x (y + 1)) (n + 1) 1)
 
--- the longest row, where n are in a row up to x and the list follows
-unfoldable pub longest : ℕ → ℕ → List ℕ → ℕ
-longest n x [] = n
-longest n x (y ∷ l) = max n (longest (rowOn n x y) y l)
+-- where the highest row of five ends, if n are in a row up to x and the list follows; 0 where there is none
+unfoldable pub rowEnd : ℕ → ℕ → List ℕ → ℕ
+rowEnd n x [] = pick (ltb n 5) 0 x
+rowEnd n x (y ∷ l) = pick (ltb n 5) (rowEnd (rowOn n x y) y l) x
 
 -- behind ranks of which x is the highest: an ace stands below the lowest too
 abbrev pub lowAce : ℕ → ℕ
-lowAce x = pick (ltb x 14) 0 1
+lowAce x = pick (eqb x 14) 1 0
+
+-- five ranks in a row, down to k
+abbrev pub rowed : ℕ → List ℕ
+rowed k = (k + 4) ∷ (k + 3) ∷ (k + 2) ∷ (k + 1) ∷ k ∷ []
+
+-- of a hand and the straight down to k, the better; there is none down to 0
+unfoldable pub orStraight : Hand → ℕ → Hand
+orStraight h k = pick (both (ltb 0 k) (ltb 4 (h .class))) (hand 4 (rowed k)) h
 
 -- for each rank but the last, whether the next is the same
 unfoldable pub neighbours : List ℕ → List Bool

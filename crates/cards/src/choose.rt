@@ -4,7 +4,9 @@ use crate::Hand;
 use crate::plain::fallen_seven;
 use crate::plain::hand_by_table;
 use crate::plain::is_plain;
+use crate::plain::or_straight;
 use crate::plain::ranks_of_seven;
+use crate::plain::row_end;
 use crate::value;
 ghost use mathlib.Core.Path.{_≡_};
 ghost use mathlib.Core.List.{_++_};
@@ -122,8 +124,8 @@ pub fn best_hand(cards: &[u8]) -> Hand
     }
     let fallen = fallen_seven(cards);
     let ranks = ranks_of_seven(fallen);
-    if is_plain(fallen, ranks) {
-        return hand_by_table(ranks);
+    if is_plain(fallen, ranks.a) {
+        return or_straight(hand_by_table(ranks), row_end(ranks));
     }
     best_of_choices(cards)
 }
