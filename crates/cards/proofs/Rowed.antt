@@ -1,6 +1,5 @@
 -- The code's search for a row of five among ranks that fall: where it ends there is such a row, and no row of five is higher. For any number of ranks.
 -- Assumes nothing.
--- m ranks from t on, each there
 use mathlib.Core.Path.{_≡_, sym, ap, _∙_, subst}
 use mathlib.Core.Bool.{Bool}
 use mathlib.Core.Logic.{_⊎_, inl, inr, ⊎-elim}
@@ -17,6 +16,7 @@ use Rattle.laws.proofs.Often.{count-self}
 use Rattle.cards.specs.Plain.{rowOn, rowEnd}
 use Rattle.cards.proofs.Falls.{Falling, over-all, stands-behind}
 
+-- m ranks from t on, each there
 abbrev pub Has : ℕ → ℕ → List ℕ → Type 0
 Has t m l = (k : ℕ) → t ≤ k → k < t + m → 0 < count k l
 

@@ -1,6 +1,5 @@
 -- Hands without straights and flushes depend on the order of the ranks alone: ranks carried over by a function that keeps the order strictly give the
 -- hand carried over. For lists of any length. Assumes nothing.
--- what five ranks are worth that are neither straight nor a flush
 use mathlib.Core.Path.{_≡_, refl, sym, ap, ap₂, _∙_}
 use mathlib.Core.Bool.{Bool, true, false, cond}
 use mathlib.Core.List.{List, [], _∷_, _++_, map, map-append, map-map}
@@ -17,6 +16,7 @@ use Rattle.cards.specs.Hands.{hand, holdings, mostHeld, nextHeld, classO
 use Rattle.cards.specs.Order.{places, above, beatsBy, betterBy, keep, choices, none}
 use Rattle.cards.specs.declared.Hand.{Hand}
 
+-- what five ranks are worth that are neither straight nor a flush
 unfoldable pub plainOf : List ℕ → Hand
 plainOf rs = hand (classOf false false (mostHeld rs) (nextHeld rs)) (ordered rs)
 

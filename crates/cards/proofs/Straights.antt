@@ -1,6 +1,5 @@
 -- The best hand of cards that fall, of which no five are a flush and none is above the ace: the better of the best by ranks alone and of the highest
 -- row of five. For any number of cards below sixteen. Assumes nothing.
--- of two straights, and of a straight and another hand
 use mathlib.Core.Path.{_≡_, refl, sym, ap, _∙_, subst}
 use mathlib.Core.Bool.{Bool, true, false, cond}
 use mathlib.Core.Logic.{⊎-elim}
@@ -30,6 +29,7 @@ use Rattle.cards.proofs.Falls.{Falling, falling-end, count-end}
 use Rattle.cards.proofs.Rowed.{Has, first-over, has-found, found-has}
 use Rattle.cards.proofs.Fives.{same-list, Drops, most-one, rowed-drops, row-is, rowed-has}
 
+-- of two straights, and of a straight and another hand
 pub straight-under : (t k : ℕ) → t ≤ k → beatsBy places (hand 4 (rowed t)) (hand 4 (rowed k)) ≡ false
 straight-under t k h = go (tri t k)
   where

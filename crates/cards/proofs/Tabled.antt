@@ -1,6 +1,5 @@
 -- The table's row for a pattern names the best five of any seven ranks of that pattern: it does for one list of each pattern, by a test that antt
 -- computes, and every other is carried over from that one. Assumes nothing.
--- the ranks of a pattern without gaps, the last of them 1
 use mathlib.Core.Path.{_≡_, refl, sym, ap, ap₂, _∙_}
 use mathlib.Core.Bool.{Bool, true, false}
 use mathlib.Core.List.{List, [], _∷_, _++_, map, map-append}
@@ -22,6 +21,7 @@ use Rattle.cards.proofs.Falls.{Falling}
 use Rattle.cards.proofs.Fives.{same-list}
 use Rattle.cards.proofs.Scaled.{plainOf, bestPlain, carried, carried-at, carried-best}
 
+-- the ranks of a pattern without gaps, the last of them 1
 unfoldable dense : List Bool → List ℕ
 dense [] = 1 ∷ []
 dense (b ∷ bs) = pick b (getD (dense bs) 0 0) (suc (getD (dense bs) 0 0)) ∷ dense bs

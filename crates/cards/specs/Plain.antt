@@ -10,11 +10,7 @@ use Rattle.laws.specs.Tests.{one, both, pick}
 use Rattle.cards.specs.Cards.{suit}
 use Rattle.cards.specs.Hands.{hand}
 use Rattle.cards.specs.declared.Hand.{Hand}
-use Rattle.cards.specs.declared.plain.Six.{Six}
 use Rattle.cards.specs.declared.plain.Seven.{Seven}
-
-abbrev pub spreadSix : Six → List ℕ
-spreadSix q = q .a ∷ q .b ∷ q .c ∷ q .d ∷ q .e ∷ q .f ∷ []
 
 abbrev pub spreadSeven : Seven → List ℕ
 spreadSeven q = q .a ∷ q .b ∷ q .c ∷ q .d ∷ q .e ∷ q .f ∷ q .g ∷ []
