@@ -1,5 +1,4 @@
 -- The first seat clockwise, counts of seats, and another chair at a seat: for any test of a chair, over any number of chairs. Assumes nothing.
--- ---- another chair at a seat
 use Prim.Native.Nat.{ℕ, zero, suc, _+_, _-_, _≤_, _<_}
 use mathlib.Core.Bool.{Bool, true, false, true≢false}
 use mathlib.Core.Path.{_≡_, refl, sym, ap, _∙_}
@@ -7,17 +6,18 @@ use mathlib.Core.List.{List, [], _∷_}
 use mathlib.Core.Logic.{⊎-elim}
 use native.Mathlib.Omega.{arith}
 use native.Mathlib.Numerals.{add-one}
-use lib.Dec.{eqb, ltb}
+use lib.Dec.{eqb}
 use lib.ListN.{length, getD, drop, length-append, List·getD-append}
 use lib.Seq.{drop-cons, getD-append-add}
-use borrow.Author.Tests.{eqb-true, eqb-false, ltb-true, ltb-false}
+use borrow.Author.Tests.{eqb-true, eqb-false}
 use Rattle.laws.specs.Tests.{pick, one}
 use Rattle.laws.proofs.Tests.{test}
 use Rattle.pots.proofs.Contest.{le-or-lt}
-use Rattle.chairs.specs.Chairs.{chairAt, putAt, noChair, countOf, firstOf, seatsFrom, clockwise, placeOn}
+use Rattle.chairs.specs.Chairs.{chairAt, putAt, noChair, countOf, firstOf, seatsFrom, clockwise}
 use Rattle.chairs.specs.declared.Chair.{Chair}
 use Rattle.chairs.proofs.Laws.{first-none, first-some}
 
+-- ---- another chair at a seat
 pub put-other : (cs : List Chair) (x y : ℕ) (d : Chair) → (x ≡ y → ⊥) → chairAt (putAt cs x d) y ≡ chairAt cs y
 put-other cs zero y d h = refl
 put-other [] (suc k) y d h = refl
@@ -101,30 +101,25 @@ seats-at a (suc m) (suc k) l = omega (arith, seats-at (suc a) m k (omega arith))
 pub clock-length : (n s : ℕ) → s ≤ n → length (clockwise n s) ≡ n
 clock-length n s l = omega (arith, length-append (seatsFrom s (n - s)) (seatsFrom 0 s), seats-length s (n - s), seats-length 0 s)
 
-clock-at : (n s k : ℕ) → s ≤ n → k < n → getD (clockwise n s) k 0 ≡ suc (placeOn n s k)
-clock-at n s k l m = go (ltb (s + k) n) refl
-  where
-    go : (b : Bool) → ltb (s + k) n ≡ b → getD (clockwise n s) k 0 ≡ suc (pick b (s + k) (s + k - n))
-    go true e =
-        let h = ltb-true (s + k) n e in
-        List·getD-append (seatsFrom s (n - s)) (seatsFrom 0 s) 0 k (omega (arith, seats-length s (n - s))) ∙ seats-at s (n - s) k (omega arith)
-    go false e =
-        let h = ltb-false (s + k) n e in
-        let j : k ≡ length (seatsFrom s (n - s)) + (s + k - n) = omega (arith, seats-length s (n - s)) in
-        ap (λ i. getD (clockwise n s) i 0) j
-        ∙ getD-append-add (seatsFrom s (n - s)) (seatsFrom 0 s) (s + k - n) 0
-        ∙ omega (arith, seats-at 0 s (s + k - n) (omega arith))
+-- the k-th of them, from 0: before the wrap, and behind it
+pub clock-before : (n s k : ℕ) → s + k < n → getD (clockwise n s) k 0 ≡ s + k + 1
+clock-before n s k m =
+    List·getD-append (seatsFrom s (n - s)) (seatsFrom 0 s) 0 k (omega (arith, seats-length s (n - s))) ∙ omega (arith, seats-at s (n - s) k (omega arith))
 
--- the k-th of them, and those behind it
-clock-turn : (n s k : ℕ) → s ≤ n → k < n → drop k (clockwise n s) ≡ suc (placeOn n s k) ∷ drop (suc k) (clockwise n s)
-clock-turn n s k l m =
-    drop-cons (clockwise n s) k 0 (omega (arith, clock-length n s l)) ∙ ap (λ x. x ∷ drop (suc k) (clockwise n s)) (clock-at n s k l m)
+pub clock-wrapped : (n s k : ℕ) → s ≤ n → k < n → n ≤ s + k → getD (clockwise n s) k 0 ≡ s + k - n + 1
+clock-wrapped n s k l m h =
+    let j : k ≡ length (seatsFrom s (n - s)) + (s + k - n) = omega (arith, seats-length s (n - s)) in
+    ap (λ i. getD (clockwise n s) i 0) j
+    ∙ getD-append-add (seatsFrom s (n - s)) (seatsFrom 0 s) (s + k - n) 0
+    ∙ omega (arith, seats-at 0 s (s + k - n) (omega arith))
 
--- the first from the k-th on: that one, where it is as asked, else the first behind it
-pub first-turn : (p : Chair → Bool) (cs : List Chair) (n s k : ℕ) (b : Bool) → s ≤ n → k < n → p (getD cs (placeOn n s k) noChair) ≡ b
-    → firstOf p cs (drop k (clockwise n s)) ≡ pick b (suc (placeOn n s k)) (firstOf p cs (drop (k + 1) (clockwise n s)))
-first-turn p cs n s k b l m e =
-    rw add-one (ap (firstOf p cs) (clock-turn n s k l m) ∙ ap (λ d. pick d (suc (placeOn n s k)) (firstOf p cs (drop (suc k) (clockwise n s)))) e)
+-- the first from the k-th on, which has place i: that one, where it is as asked, else the first behind it
+pub first-turn : (p : Chair → Bool) (cs : List Chair) (n s k i : ℕ) (b : Bool) → s ≤ n → k < n → i + 1 ≡ getD (clockwise n s) k 0 → p (getD cs i noChair) ≡ b
+    → firstOf p cs (drop k (clockwise n s)) ≡ pick b (i + 1) (firstOf p cs (drop (k + 1) (clockwise n s)))
+first-turn p cs n s k i b l m at e =
+    let x : getD (clockwise n s) k 0 ≡ suc i = sym at ∙ add-one i in
+    rw (add-one k, add-one i) (ap (firstOf p cs) (drop-cons (clockwise n s) k 0 (omega (arith, clock-length n s l)) ∙ ap (λ y. y ∷ drop (suc k) (clockwise n s)) x)
+    ∙ ap (λ d. pick d (suc i) (firstOf p cs (drop (suc k) (clockwise n s)))) e)
 
 -- ---- the first of some seats
 module _ (p : Chair → Bool) (cs : List Chair) where

@@ -91,10 +91,6 @@ seatsFrom k (suc m) = suc k ∷ seatsFrom (suc k) m
 abbrev pub clockwise : ℕ → ℕ → List ℕ
 clockwise n s = seatsFrom s (n - s) ++ seatsFrom 0 s
 
--- so the k-th of them, from 0, is at this place of n
-abbrev pub placeOn : ℕ → ℕ → ℕ → ℕ
-placeOn n s k = pick (ltb (s + k) n) (s + k) (s + k - n)
-
 -- the first of some seats that is as asked, or 0
 abbrev pub firstOf : (Chair → Bool) → List Chair → List ℕ → ℕ
 firstOf p cs [] = 0

@@ -11,7 +11,7 @@ ghost use mathlib.Core.List.{map};
 ghost use Rattle.pots.specs.Heights.{maskAt};
 ghost use Rattle.chairs.specs.declared.Who.the-variants.{Live, LiveWithChips};
 ghost use Rattle.chairs.specs.declared.What.the-variants.{Total, Live as OfLive};
-ghost use Rattle.chairs.specs.Chairs.{wantOf, sweepOf, columnOf, noChair, chairAt, putAt, countOf, chipsOf, firstOf, clockwise, closeAll, placeOn, Above, Seats};
+ghost use Rattle.chairs.specs.Chairs.{wantOf, sweepOf, columnOf, noChair, chairAt, putAt, countOf, chipsOf, firstOf, clockwise, closeAll, Seats};
 
 // How many chairs are among those looked for.
 pub fn count(cs: [Chair; 10], seats: u32, w: Who) -> u8
@@ -85,13 +85,17 @@ pub fn put_chair(cs: [Chair; 10], s: u32, c: Chair) -> [Chair; 10]
     next
 }
 
-// The place that is k places on from place s, around so many seats.
+// The place of the k-th seat clockwise from s, from 0.
 fn place_on(s: u32, k: u32, seats: u32) -> usize
     requires { ⌜ (s ≤ seats) × (k < seats) × (seats ≤ 10) ⌝ }
-    ensures { λ r. ⌜ (r ≡ placeOn seats s k) × (r < seats) ⌝ }
+    ensures { λ r. ⌜ (r + 1 ≡ getD (clockwise seats s) k 0) × (r < seats) ⌝ }
 {
     let at = s + k;
-    if at < seats { at as usize } else { (at - seats) as usize }
+    if at < seats {
+        at as usize
+    } else {
+        (at - seats) as usize
+    }
 }
 
 // The first seat clockwise from s, which comes last, that is looked for; 0 where there is none.

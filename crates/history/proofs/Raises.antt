@@ -1,6 +1,5 @@
 -- No. 2: whether a seat in turn may raise is what the taken entries tell. A seat that may only call or fold by the paper's sentence gets 7 for every wager.
 -- The table keeps one mark, `spent`: where it is set and the seat is in turn, a short lift came since. Assumes nothing.
--- the table's marks of a seat are what the entries tell
 use Prim.Native.Nat.{ℕ, zero, suc, _+_}
 use mathlib.Core.Bool.{Bool, true, false, not, true≢false, false≢true}
 use mathlib.Core.Path.{_≡_, refl, sym, ap, subst, _∙_}
@@ -36,6 +35,7 @@ use Rattle.history.specs.History.{run, AllTaken}
 use Rattle.history.specs.Raises.{Since, noneYet, sinceWager, sinceBy, sinceOf, onlyCallOrFold}
 use Rattle.history.proofs.Reached.{reached-standing}
 
+-- the table's marks of a seat are what the entries tell
 record Reads (c : Chair) (s : Since) : Type 0 where
   spent : c .dealt .spent ≡ s .acted
   why : c .dealt .spent ≡ true → c .dealt .acted ≡ false → s .short ≡ true

@@ -1,7 +1,6 @@
 -- Where one hand is live it contends alone for each pot, so what each sitting is due goes by no score: "A sole contender needs no cards".
 -- For any number of seats.
 -- Assumes nothing.
--- ---- no pot has more contenders than hands are live
 use Prim.Native.Nat.{ℕ, _-_, _/_, _%_, _≤_, zero-le}
 use mathlib.Core.Path.{_≡_, refl, sym, ap, ap₂, _∙_, subst}
 use mathlib.Core.Bool.{Bool, true, false}
@@ -26,6 +25,7 @@ use Rattle.pots.proofs.PotRuns.{pots-all}
 use Rattle.pots.proofs.Winners.{winners-sole}
 use Rattle.pots.proofs.Hands.{Manned, manned, pots-manned}
 
+-- ---- no pot has more contenders than hands are live
 live-bit : (t live h : ℕ) → 1 ≤ h → has (pick (eqb (live % 2) 1) t 0) h ≤ live % 2
 live-bit t live h p = go (eqb (live % 2) 1) refl
   where

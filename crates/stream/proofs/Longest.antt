@@ -1,5 +1,4 @@
 -- No answer of a sound table is longer than 562 bytes, so a sheet with so much room takes the answer to any block. Assumes nothing.
--- ---- at most ten rows and nine pots are shown
 use mathlib.Core.Path.{_≡_, ap, _∙_}
 use mathlib.Core.List.{List, [], _∷_}
 use mathlib.Core.Bool.{Bool, true, false}
@@ -32,6 +31,7 @@ use Rattle.desk.specs.Desk.{rowsOf, shownOf, judgeParsed, judgeBlock, judgedOf,
 use Rattle.stream.specs.InPlace.{answersFront}
 use Rattle.chairs.specs.declared.What.the-variants as what
 
+-- ---- at most ten rows and nine pots are shown
 rows-within : (ss ps : List ℕ) → length (rowsOf ss ps) ≤ length ss
 rows-within [] ps = omega arith
 rows-within (s ∷ ss) [] = omega arith

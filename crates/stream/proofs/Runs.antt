@@ -182,8 +182,7 @@ module _ {t : Table} {part out : List ℕ} {table : Table} {used : ℕ} {now : L
       let q : inPlaceOf t part (length out) ≡ record { table = table; bytes = g .bs ++ []; left = drop used part } =
       g .all ∙ ap (behind (g .bs)) (place-none table (drop used part) (length out - at) z) in
       let u : used ≡ length part - length (drop used part) = omega (arith, g .inside, length-drop used part) in
-      let k : at ≡ length (g .bs ++ []) = sym m ∙ w .count in
-      (
+      let k : at ≡ length (g .bs ++ []) = sym m ∙ w .count in (
         same-ran u k ∙ ap (λ (p : InPlace). ranOf p part) (sym q),
         (w .sheet ∙ ap (λ (p : InPlace). over (p .bytes) out) (sym q), (g .sound, g .inside, g .within)),
       )

@@ -209,19 +209,31 @@ pub fn in_place(t: Table, part: &[u8], out: &mut [u8]) -> Ran
     while used < part.len() {
         let f = read_front(&part[used..]);
         if !f.whole {
-            return Ran { table, used, written: at };
+            return Ran {
+                table,
+                used,
+                written: at,
+            };
         }
         let b = f.block;
         let a = answer_block(table, b, &mut out[at..]);
         if a.code == 12 {
-            return Ran { table, used, written: at };
+            return Ran {
+                table,
+                used,
+                written: at,
+            };
         }
         let u = a.table;
         table = u;
         at += a.written;
         used += f.used;
     }
-    Ran { table, used, written: at }
+    Ran {
+        table,
+        used,
+        written: at,
+    }
 }
 
 // Whether the sheet was read and nothing of the next block is kept.

@@ -1,5 +1,4 @@
 -- Stacks and totals together change only by `sit`, by `leave`, and by a settle's fee and unclaimed chips: `chips-change`. Assumes nothing.
--- ---- chairs
 use Prim.Native.Nat.{ℕ, zero, suc, _+_, _-_, _≤_, _<_}
 use mathlib.Core.Bool.{Bool, true, false}
 use mathlib.Core.Path.{_≡_, refl, sym, ap, _∙_}
@@ -38,6 +37,7 @@ use Rattle.table.proofs.Codes.{sit-empty, hand-closed}
 use Rattle.table.proofs.Sounds.{passed}
 use Rattle.chairs.specs.declared.What.the-variants as what
 
+-- ---- chairs
 chips-same : (cs : List Chair) (x : ℕ) (d : Chair) → d .stack + d .dealt .total ≡ chairAt cs x .stack + chairAt cs x .dealt .total → chipsOf (putAt cs x d) ≡ chipsOf cs
 chips-same cs zero d e = refl
 chips-same [] (suc k) d e = refl

@@ -1,6 +1,5 @@
 -- What `Standing` says in the paper's words: the turn is 0 exactly when nobody owes, else it is an owing seat; a live hand's sitter sits there; chairs above
 -- `seats` are empty; the big blind is another seat than the puck, and is dealt in. Assumes nothing.
--- the turn is 0 exactly when nobody owes
 use Prim.Native.Nat.{ℕ, zero, suc, _≤_, _<_}
 use mathlib.Core.Bool.{true, false, not, true≢false}
 use mathlib.Core.Path.{_≡_, refl, sym, ap, _∙_}
@@ -26,6 +25,7 @@ use Rattle.table.proofs.ChairsOk.{ok-at}
 use Rattle.table.proofs.Codes.{hand-closed}
 use Rattle.table.proofs.InTurn.{nobody, somebody}
 
+-- the turn is 0 exactly when nobody owes
 pub no-turn-nobody : (t : Table) → Standing t → t .play .turn ≡ 0 → nobodyOwes t ≡ true
 no-turn-nobody t h z =
     ⊎-elim (λ e. e) (λ (e : nobodyOwes t ≡ false). let n = eqb-false (firstOwing t 0) 0 e in absurd (true≢false (sym (somebody t 0 n) ∙ h .turn .none z (firstOwing t 0)))) (test (nobodyOwes t))

@@ -1,6 +1,5 @@
 -- `Standing` holds of a fresh table, and every entry, taken or refused, keeps it: the chairs' records, the chairs above `seats`, no record without a hand,
 -- and the turn. Assumes nothing.
--- ---- every chair
 use Prim.Native.Nat.{ℕ, zero, suc, _+_, _-_, _≤_}
 use mathlib.Core.Bool.{Bool, true, false, not, true≢false}
 use mathlib.Core.Path.{_≡_, refl, sym, ap, ap₂, _∙_}
@@ -43,6 +42,16 @@ use Rattle.table.proofs.InTurn.{not-live, from-first, same-turn, one-ch
 use Rattle.table.proofs.Laws.{sheet-seats}
 use Rattle.table.proofs.Sounds.{passed, sound-applied}
 
+-- what neither a card nor a new round changes, `board` leaves as it is
+board-leaves : {B : Type 0} (f : Table → B) (t : Table) (k : ℕ) → f (newRound (withCard t k)) ≡ f t → f (withCard t k) ≡ f t → f (boardedTo t k) ≡ f t
+unfolding boardedTo
+board-leaves f t k r c = go (leb 3 (t .board .count + 1))
+  where
+    go : (b : Bool) → f (pick b (newRound (withCard t k)) (withCard t k)) ≡ f t
+    go true = r
+    go false = c
+
+-- ---- every chair
 chairs-board : (t : Table) (k : ℕ) → All ChairOk (t .chairs) → All ChairOk (boardedTo t k .chairs)
 unfolding boardedTo newRound
 chairs-board t k h = go (leb 3 (t .board .count + 1))
@@ -142,16 +151,8 @@ close-cleared [] ps = tt
 close-cleared (c ∷ cs) [] = (refl, close-cleared cs [])
 close-cleared (c ∷ cs) (p ∷ ps) = (refl, close-cleared cs ps)
 
-opened-board : (t : Table) (k : ℕ) → boardedTo t k .play .opened ≡ t .play .opened
-unfolding boardedTo newRound
-opened-board t k = go (leb 3 (t .board .count + 1))
-  where
-    go : (b : Bool) → pick b (newRound (withCard t k)) (withCard t k) .play .opened ≡ t .play .opened
-    go true = refl
-    go false = refl
-
 cleared-applied : (t : Table) (e : Entry) → Standing t → kindCode t e ≡ 0 → appliedTo t e .play .opened ≡ false → All Cleared (appliedTo t e .chairs)
-unfolding satTo leftTo openedTo heldTo foldedTo checkedTo calledTo wageredTo deadTo settledTo afterAct
+unfolding satTo leftTo openedTo heldTo foldedTo checkedTo calledTo wageredTo deadTo settledTo afterAct newRound
 cleared-applied t (Sit x a) h q o = all-put Cleared (t .chairs) x _ (h .cleared o) (all-at Cleared (t .chairs) x refl (h .cleared o))
 cleared-applied t (Leave x) h q o = all-put Cleared (t .chairs) x _ (h .cleared o) (all-at Cleared (t .chairs) x refl (h .cleared o))
 cleared-applied t (Hand p) h q o = absurd (true≢false o)
@@ -160,7 +161,7 @@ cleared-applied t (Fold x) h q o = absurd (true≢false (sym (turn-live t x q) �
 cleared-applied t (Check x) h q o = absurd (true≢false (sym (check-live t x q) ∙ live-closed t h o x))
 cleared-applied t (Call x) h q o = absurd (true≢false (sym (call-live t x q) ∙ live-closed t h o x))
 cleared-applied t (Wager x a) h q o = absurd (true≢false (sym (wager-live t x a q) ∙ live-closed t h o x))
-cleared-applied t (Board k) h q o = absurd (true≢false (sym (board-open t k q) ∙ sym (opened-board t k) ∙ o))
+cleared-applied t (Board k) h q o = absurd (true≢false (sym (board-open t k q) ∙ sym (board-leaves (λ u. u .play .opened) t k refl refl) ∙ o))
 cleared-applied t (Dead x) h q o = absurd (true≢false (sym (dead-live t x q) ∙ live-closed t h o x))
 cleared-applied t Settle h q o = close-cleared (t .chairs) (payoutNow t .paid)
 cleared-applied t Void h q o = absurd (omega arith)
@@ -213,17 +214,9 @@ turn-applied t Settle w h r q = turn-settle t
 turn-applied t Void w h r q = absurd (omega arith)
 
 -- ---- all of it
-sheet-board : (t : Table) (k : ℕ) → boardedTo t k .sheet ≡ t .sheet
-unfolding boardedTo newRound
-sheet-board t k = go (leb 3 (t .board .count + 1))
-  where
-    go : (b : Bool) → pick b (newRound (withCard t k)) (withCard t k) .sheet ≡ t .sheet
-    go true = refl
-    go false = refl
-
 -- no entry changes the sheet
 pub sheet-applied : (t : Table) (e : Entry) → appliedTo t e .sheet ≡ t .sheet
-unfolding satTo leftTo openedTo postedTo heldTo foldedTo checkedTo calledTo wageredTo deadTo settledTo afterAct
+unfolding satTo leftTo openedTo postedTo heldTo foldedTo checkedTo calledTo wageredTo deadTo settledTo afterAct newRound
 sheet-applied t (Sit x a) = refl
 sheet-applied t (Leave x) = refl
 sheet-applied t (Hand p) = refl
@@ -232,22 +225,14 @@ sheet-applied t (Fold x) = refl
 sheet-applied t (Check x) = refl
 sheet-applied t (Call x) = refl
 sheet-applied t (Wager x a) = refl
-sheet-applied t (Board k) = sheet-board t k
+sheet-applied t (Board k) = board-leaves (λ u. u .sheet) t k refl refl
 sheet-applied t (Dead x) = refl
 sheet-applied t Settle = refl
 sheet-applied t Void = refl
 
 -- the puck moves with a hand alone, to a seat
-puck-board : (t : Table) (k : ℕ) → boardedTo t k .play .puck ≡ t .play .puck
-unfolding boardedTo newRound
-puck-board t k = go (leb 3 (t .board .count + 1))
-  where
-    go : (b : Bool) → pick b (newRound (withCard t k)) (withCard t k) .play .puck ≡ t .play .puck
-    go true = refl
-    go false = refl
-
 puck-applied : (t : Table) (e : Entry) → Standing t → inKind (t .sheet) e ≡ true → appliedTo t e .play .puck ≤ t .sheet .seats
-unfolding satTo leftTo openedTo postedTo heldTo foldedTo checkedTo calledTo wageredTo deadTo settledTo afterAct
+unfolding satTo leftTo openedTo postedTo heldTo foldedTo checkedTo calledTo wageredTo deadTo settledTo afterAct newRound
 puck-applied t (Sit x a) h r = h .puck
 puck-applied t (Leave x) h r = h .puck
 puck-applied t (Hand p) h r = seat-within (t .sheet) p r
@@ -256,7 +241,7 @@ puck-applied t (Fold x) h r = h .puck
 puck-applied t (Check x) h r = h .puck
 puck-applied t (Call x) h r = h .puck
 puck-applied t (Wager x a) h r = h .puck
-puck-applied t (Board k) h r = rw (puck-board t k) (h .puck)
+puck-applied t (Board k) h r = rw (board-leaves (λ u. u .play .puck) t k refl refl) (h .puck)
 puck-applied t (Dead x) h r = h .puck
 puck-applied t Settle h r = h .puck
 puck-applied t Void h r = h .puck
