@@ -27,7 +27,7 @@ pub fn code_of(r: Reading) -> u8
 }
 
 // Whether a card is above 51.
-fn any_above(cards: &[u8]) -> bool
+pub fn any_above(cards: &[u8]) -> bool
     ensures { λ r. ⌜ r ≡ anyAbove (now (cards .entry)) ⌝ }
 {
     let mut i = 0;
@@ -56,7 +56,7 @@ fn among(cards: &[u8], from: usize, x: u8) -> bool
 }
 
 // Whether a card comes twice.
-fn any_twice(cards: &[u8]) -> bool
+pub fn any_twice(cards: &[u8]) -> bool
     ensures { λ r. ⌜ r ≡ anyTwice (now (cards .entry)) ⌝ }
 {
     let mut i = 0;

@@ -14,6 +14,8 @@ pub use decimal::put_digits;
 pub use front::Front;
 pub use front::read_front;
 pub use kind::entry_of;
+pub use line::line_end;
+pub use line::number_of;
 pub use line::read_key_number;
 pub use reader::read_block;
 pub use reader::rest;

@@ -97,7 +97,7 @@ fn sheet_number(log: &[u8], k: usize) -> Number
     in_row(x, row.least, row.most)
 }
 
-fn is_value(x: Number) -> bool
+pub fn is_value(x: Number) -> bool
     ensures { λ r. ⌜ r ≡ isValue x ⌝ }
 {
     match x {
@@ -106,7 +106,7 @@ fn is_value(x: Number) -> bool
     }
 }
 
-fn value_in(x: Number) -> u32
+pub fn value_in(x: Number) -> u32
     ensures { λ r. ⌜ r ≡ valueIn x ⌝ }
 {
     match x {

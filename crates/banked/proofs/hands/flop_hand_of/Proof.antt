@@ -1,0 +1,15 @@
+-- `banked::hands::flop_hand_of` meets its contract. Assumes nothing.
+use Rattle.banked.specs.Hands.{flopHandOf}
+use borrow.Author.Needs.{needs}
+use Rattle.banked.proofs.hands.flop_hand_of.Statement.{statement}
+use Rattle.banked.proofs.hands.flop_hand_of.Tie as tie
+
+value-requires : tie.Need-value-requires
+value-requires c κs = search needs
+
+returns : tie.Need-returns
+unfolding flopHandOf
+returns c = c .value .ensures
+
+pub flop-hand-of-spec : {M : Type 1} → statement M
+flop-hand-of-spec = tie.close (tie.spec value-requires returns)
