@@ -1,0 +1,5 @@
+-- Laws of rounds in text.
+
+pub mod Blocks
+pub mod Lengths
+pub mod Keeps

@@ -1,0 +1,10 @@
+// Rounds of Crown Hold'em (request No. 14) in text: a block of sixteen lines read, its answer written, and blocks gathered from the parts in which they arrive.
+mod parts;
+mod reading;
+mod writing;
+
+pub use parts::Fed;
+pub use parts::Mark;
+pub use parts::close;
+pub use parts::empty;
+pub use parts::feed;

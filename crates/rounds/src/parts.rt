@@ -1,0 +1,122 @@
+// Blocks that come in parts: the unfinished block is kept, each line cut after 33 bytes, and answered at its sixteenth LF.
+use crate::writing::answer;
+ghost use mathlib.Core.Path.{_≡_};
+ghost use Prim.Native.Nat.{_≤_, _<_};
+ghost use lib.ListN.{length, drop};
+ghost use Rattle.text.specs.Sheet.{Wrote};
+ghost use Rattle.rounds.specs.RoundParts.{stateOf, keepOf, gatherOf, Room, Held, keptAfter, bytesAfter, closeBytes};
+
+// How much is kept: its bytes, its LFs, and the bytes of the line that is not ended.
+pub struct Mark {
+    pub count: usize,
+    pub lines: usize,
+    pub width: usize,
+}
+
+// Nothing is kept.
+pub fn empty() -> Mark
+    ensures { λ r. ⌜ Held r × (r .count ≡ 0) × (r .lines ≡ 0) × (r .width ≡ 0) ⌝ }
+{
+    Mark {
+        count: 0,
+        lines: 0,
+        width: 0,
+    }
+}
+
+// One byte more.
+fn keep(buf: &mut [u8], m: Mark, b: u8) -> Mark
+    requires { ⌜ Held m × (544 ≤ length (now buf)) ⌝ }
+    ensures { λ r. ⌜ (stateOf r (now (buf .exit)) ≡ keepOf (stateOf m (now (buf .entry))) b) × Room r ⌝ }
+{
+    let at = m.count;
+    if b == 10 {
+        buf[at] = b;
+        return Mark {
+            count: at + 1,
+            lines: m.lines + 1,
+            width: 0,
+        };
+    }
+    if m.width < 33 {
+        buf[at] = b;
+        return Mark {
+            count: at + 1,
+            lines: m.lines,
+            width: m.width + 1,
+        };
+    }
+    m
+}
+
+struct Got {
+    mark: Mark,
+    used: usize,
+}
+
+// The bytes of a part up to the LF of a block's last line, or all of them.
+fn gather(buf: &mut [u8], m: Mark, part: &[u8]) -> Got
+    requires { ⌜ Held m × (544 ≤ length (now buf)) ⌝ }
+    ensures kept { λ r. ⌜ (stateOf (r .mark) (now (buf .exit)) ≡ gatherOf (stateOf m (now (buf .entry))) (now (part .entry)) .kept) × (drop (r .used) (now (part .entry)) ≡ gatherOf (stateOf m (now (buf .entry))) (now (part .entry)) .left) ⌝ }
+    ensures room { λ r. ⌜ Room (r .mark) × (r .used ≤ length (now (part .entry))) × (0 < length (now (part .entry)) → 0 < r .used) ⌝ }
+{
+    let mut mark = m;
+    let mut i: usize = 0;
+    while i < part.len() {
+        let b = part[i];
+        mark = keep(buf, mark, b);
+        i += 1;
+        let n = mark.lines;
+        if 16 <= n {
+            return Got { mark, used: i };
+        }
+    }
+    Got { mark, used: i }
+}
+
+// What is kept after some bytes, how many were used up and how many written.
+pub struct Fed {
+    pub mark: Mark,
+    pub used: usize,
+    pub written: usize,
+}
+
+// The bytes of a part up to the end of a block, which is answered, or all of them, which are kept.
+pub fn feed(m: Mark, buf: &mut [u8], part: &[u8], out: &mut [u8]) -> Fed
+    requires { ⌜ Held m × (544 ≤ length (now buf)) × (216 ≤ length (now out)) ⌝ }
+    ensures left { λ r. ⌜ drop (r .used) (now (part .entry)) ≡ gatherOf (stateOf m (now (buf .entry))) (now (part .entry)) .left ⌝ }
+    ensures kept { λ r. ⌜ stateOf (r .mark) (now (buf .exit)) ≡ keptAfter (gatherOf (stateOf m (now (buf .entry))) (now (part .entry)) .kept) ⌝ }
+    ensures wrote { λ r. ⌜ Wrote (bytesAfter (gatherOf (stateOf m (now (buf .entry))) (now (part .entry)) .kept)) (now (out .entry)) (now (out .exit)) (r .written) ⌝ }
+    ensures held { λ r. ⌜ Held (r .mark) × (r .used ≤ length (now (part .entry))) × (0 < length (now (part .entry)) → 0 < r .used) × (r .written ≤ 216) ⌝ }
+{
+    let g = gather(buf, m, part);
+    let k = g.mark;
+    let n = k.lines;
+    if n < 16 {
+        return Fed {
+            mark: k,
+            used: g.used,
+            written: 0,
+        };
+    }
+    let e = k.count;
+    let written = answer(&buf[0..e], out);
+    let z = empty();
+    Fed {
+        mark: z,
+        used: g.used,
+        written,
+    }
+}
+
+// The end of the input: a block that is not whole is answered too.
+pub fn close(m: Mark, buf: &[u8], out: &mut [u8]) -> usize
+    requires { ⌜ Held m × (544 ≤ length (now buf)) × (216 ≤ length (now out)) ⌝ }
+    ensures { λ r. ⌜ Wrote (closeBytes (stateOf m (now (buf .entry)))) (now (out .entry)) (now (out .exit)) r × (r ≤ 216) ⌝ }
+{
+    let e = m.count;
+    if e == 0 {
+        return 0;
+    }
+    answer(&buf[0..e], out)
+}
