@@ -4,6 +4,7 @@
 pub mod answer;
 pub mod betting;
 pub mod clerk;
+pub mod crown;
 pub mod entries;
 pub mod hands;
 pub mod mend;
