@@ -11,7 +11,7 @@ use lib.Dec.{eqb}
 use borrow.Author.Tests.{ne-eqb}
 use Rattle.laws.specs.Tests.{pick}
 use Rattle.paper.specs.RefusalNumbers.{taken}
-use Rattle.banked.specs.Fates.{anteFate, playFate, jackpotFate, playerExtraFate, extraFate}
+use Rattle.banked.specs.Fates.{anteFate, playFate, jackpotFate, extraFate, dealerExtraFate}
 use Rattle.banked.specs.Hands.{playersHand, dealersHand, dealersFlopHand, standingOf}
 use Rattle.banked.specs.Books.{Wager, Gain, andGain, back, backOf, takenOf, paidOf, playersGain, housesGain, playersGains, housesGains, netOf}
 use Rattle.banked.specs.Rounds.{isFold, stakesOf, backsOf, totalOf, settledOf, wagersOf, wagersWith, roundCode, Books, booksAfter, booksOf}
@@ -77,8 +77,8 @@ pub record FoldLoses (r : Round) : Type 0 where
   pub ante : settledOf r .backs .ante ≡ 0
   pub jackpot : settledOf r .backs .jackpot ≡ 0
   pub extra : settledOf r .backs .extra ≡ 0
-  pub dealer : settledOf r .backs .dealer ≡ backOf (extraFate (dealersFlopHand (r .deal))) (r .dealer)
-  pub back : settledOf r .back ≡ backOf (extraFate (dealersFlopHand (r .deal))) (r .dealer)
+  pub dealer : settledOf r .backs .dealer ≡ backOf (dealerExtraFate (dealersFlopHand (r .deal))) (r .dealer)
+  pub back : settledOf r .back ≡ backOf (dealerExtraFate (dealersFlopHand (r .deal))) (r .dealer)
   pub staked : settledOf r .staked ≡ r .ante + (r .jackpot + (r .extra + r .dealer))
 
 none-staked : (f : Fate) → backOf f 0 ≡ 0
@@ -89,7 +89,7 @@ none-staked (Odds n) = omega arith
 none-staked (Times n) = omega arith
 
 pub fold-loses : (r : Round) → r .choice ≡ Fold → FoldLoses r
-unfolding settledOf stakesOf backsOf totalOf anteFate jackpotFate playerExtraFate backOf
+unfolding settledOf stakesOf backsOf totalOf anteFate jackpotFate extraFate backOf
 fold-loses r e =
     let f : isFold (r .choice) ≡ true = rw e in
     let a : settledOf r .backs .ante ≡ 0 = rw f in

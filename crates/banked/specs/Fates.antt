@@ -41,19 +41,19 @@ jackpotFate true flop = Lost
 jackpotFate false flop = pick (inTable1 flop) Returned (unlessListed (bonusTimes flop) (Times (bonusTimes flop)))
 
 -- Poker Extra Wagers, 3.34: a winning one is paid by Table 3, so many to 1
-abbrev pub byTable3 : Hand → Fate
-byTable3 flop = unlessListed (extraOdds flop) (Odds (extraOdds flop))
-
--- Dealer Poker Extra Wager, 3.28: "win if the Dealer's Hand, achieves a ranked hand as listed in Table 3; or lose on any hand not listed in Table 3 regardless of
--- the value of the Player's Hand". A fold is not among what loses it
-unfoldable pub extraFate : Hand → Fate
-extraFate flop = byTable3 flop
+unfoldable pub extraFate : Bool → Hand → Fate
+extraFate true flop = Lost
+extraFate false flop = unlessListed (extraOdds flop) (Odds (extraOdds flop))
 
 -- Player Poker Extra Wager, 3.33: "win if the Player's Hand, achieves a ranked hand as listed in Table 3; or lose: on any hand not listed in Table 3; .. if the
 -- player folds regardless of the value of the Dealer's Hand"
-unfoldable pub playerExtraFate : Bool → Hand → Fate
-playerExtraFate true flop = Lost
-playerExtraFate false flop = byTable3 flop
+abbrev pub playerExtraFate : Bool → Hand → Fate
+playerExtraFate folded flop = extraFate folded flop
+
+-- Dealer Poker Extra Wager, 3.28: "win if the Dealer's Hand, achieves a ranked hand as listed in Table 3; or lose on any hand not listed in Table 3 regardless of
+-- the value of the Player's Hand". A fold is not among what loses it
+abbrev pub dealerExtraFate : Hand → Fate
+dealerExtraFate flop = extraFate false flop
 
 -- no table pays more than 1,000
 abbrev pub Fair : Fate → Type 0

@@ -7,7 +7,7 @@ use lib.Dec.{eqb, ltb}
 use Rattle.laws.specs.Tests.{pick, either}
 use Rattle.paper.specs.RefusalNumbers.{taken, outOfRange, when, orElse}
 use Rattle.banked.specs.Hands.{playersHand, dealersHand, playersFlopHand, dealersFlopHand, standingOf, highCard, cardTwice}
-use Rattle.banked.specs.Fates.{anteFate, playFate, jackpotFate, extraFate, playerExtraFate}
+use Rattle.banked.specs.Fates.{anteFate, playFate, jackpotFate, playerExtraFate, dealerExtraFate}
 use Rattle.banked.specs.Books.{Wager, Gain, noGain, andGain, back, playersGains, housesGains}
 use Rattle.banked.specs.declared.Round.{Round}
 use Rattle.banked.specs.declared.Choice.{Choice}
@@ -81,7 +81,7 @@ module _ (s : Seven) (folded : Bool) (d : Deal) where
   playerExtraWager = wager (s .extra) (playerExtraFate folded (playersFlopHand d))
 
   abbrev pub dealerExtraWager : Wager
-  dealerExtraWager = wager (s .dealer) (extraFate (dealersFlopHand d))
+  dealerExtraWager = wager (s .dealer) (dealerExtraFate (dealersFlopHand d))
 
   -- what comes back of each
   unfoldable pub backsOf : Seven

@@ -7,7 +7,7 @@ use cards::Hand;
 ghost use mathlib.Core.Path.{_≡_};
 ghost use Prim.Native.Nat.{_*_, _≤_};
 ghost use Rattle.laws.specs.Tests.{pick};
-ghost use Rattle.banked.specs.Fates.{Fair, anteFate, playFate, jackpotFate, extraFate, playerExtraFate};
+ghost use Rattle.banked.specs.Fates.{Fair, anteFate, playFate, jackpotFate, extraFate};
 ghost use Rattle.banked.specs.Books.{backOf};
 ghost use Rattle.banked.specs.declared.fates.Fate.the-variants.{Odds, Returned};
 
@@ -69,25 +69,18 @@ pub fn jackpot_fate(folded: bool, flop: Hand) -> Fate
     Fate::Times(n)
 }
 
-// Rules 3.28 and 3.34: a hand that Table 3 lists wins.
-pub fn extra_fate(flop: Hand) -> Fate
-    ensures { λ r. ⌜ (r ≡ extraFate flop) × Fair r ⌝ }
+// Rules 3.28, 3.33 and 3.34: a Poker Extra wager that a fold has not lost wins on a hand that Table 3 lists. No fold loses the one on the dealer's hand.
+pub fn extra_fate(folded: bool, flop: Hand) -> Fate
+    ensures { λ r. ⌜ (r ≡ extraFate folded flop) × Fair r ⌝ }
 {
+    if folded {
+        return Fate::Lost;
+    }
     let n = extra_odds(flop);
     if n == 0 {
         return Fate::Lost;
     }
     Fate::Odds(n)
-}
-
-// Rules 3.33 and 3.34.
-pub fn player_extra_fate(folded: bool, flop: Hand) -> Fate
-    ensures { λ r. ⌜ (r ≡ playerExtraFate folded flop) × Fair r ⌝ }
-{
-    if folded {
-        return Fate::Lost;
-    }
-    extra_fate(flop)
 }
 
 // What comes back of a wager, stake and win together.

@@ -7,7 +7,6 @@ use crate::fates::back_of;
 use crate::fates::extra_fate;
 use crate::fates::jackpot_fate;
 use crate::fates::play_fate;
-use crate::fates::player_extra_fate;
 use crate::hands::card_twice;
 use crate::hands::flop_hand_of;
 use crate::hands::hand_of;
@@ -112,8 +111,8 @@ fn backs_of(s: Seven, folded: bool, d: Deal) -> Seven
         turn: back_of(play, s.turn),
         river: back_of(play, s.river),
         jackpot: back_of(jackpot_fate(folded, flop_hand), s.jackpot),
-        extra: back_of(player_extra_fate(folded, flop_hand), s.extra),
-        dealer: back_of(extra_fate(dealers), s.dealer),
+        extra: back_of(extra_fate(folded, flop_hand), s.extra),
+        dealer: back_of(extra_fate(false, dealers), s.dealer),
     }
 }
 

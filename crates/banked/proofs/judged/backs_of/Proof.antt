@@ -44,22 +44,22 @@ jackpot-fate-requires c κs = search needs
 back-of-requires-5 : tie.Need-back-of-requires-5
 back-of-requires-5 c κs = (c .jackpot-fate .ensures .1, omega (arith, (c .before .before .before .before .before .before .before .before .before .before .before .before) .pre .jackpot))
 
-player-extra-fate-requires : tie.Need-player-extra-fate-requires
-player-extra-fate-requires c κs = search needs
-
-back-of-requires-6 : tie.Need-back-of-requires-6
-back-of-requires-6 c κs = (c .player-extra-fate .ensures .1, omega (arith, (c .before .before .before .before .before .before .before .before .before .before .before .before .before .before) .pre .extra))
-
 extra-fate-requires : tie.Need-extra-fate-requires
 extra-fate-requires c κs = search needs
 
+back-of-requires-6 : tie.Need-back-of-requires-6
+back-of-requires-6 c κs = (c .extra-fate .ensures .1, omega (arith, (c .before .before .before .before .before .before .before .before .before .before .before .before .before .before) .pre .extra))
+
+extra-fate-requires-2 : tie.Need-extra-fate-requires-2
+extra-fate-requires-2 c κs = search needs
+
 back-of-requires-7 : tie.Need-back-of-requires-7
-back-of-requires-7 c κs = (c .extra-fate .ensures .1, omega (arith, (c .before .before .before .before .before .before .before .before .before .before .before .before .before .before .before .before) .pre .dealer))
+back-of-requires-7 c κs = (c .extra-fate2 .ensures .1, omega (arith, (c .before .before .before .before .before .before .before .before .before .before .before .before .before .before .before .before) .pre .dealer))
 
 returns : tie.Need-returns
 unfolding backsOf
 returns c = let s = (c .before .before .before .before .before .before .before .before .before .before .before .before .before .before .before .before .before) .pre in (
-  rw (c .back-of7 .ensures .0, c .before .extra-fate .ensures .0, c .before .before .back-of6 .ensures .0, c .before .before .before .player-extra-fate .ensures .0, c .before .before .before .before .back-of5 .ensures .0, c .before .before .before .before .before .jackpot-fate .ensures .0, c .before .before .before .before .before .before .back-of4 .ensures .0, c .before .before .before .before .before .before .before .back-of3 .ensures .0, c .before .before .before .before .before .before .before .before .back-of2 .ensures .0, c .before .before .before .before .before .before .before .before .before .back-of .ensures .0, c .before .before .before .before .before .before .before .before .before .before .ante-fate .ensures .0, c .before .before .before .before .before .before .before .before .before .before .before .flop-hand-of2 .ensures, c .before .before .before .before .before .before .before .before .before .before .before .before .flop-hand-of .ensures, c .before .before .before .before .before .before .before .before .before .before .before .before .before .play-fate .ensures .0, c .before .before .before .before .before .before .before .before .before .before .before .before .before .before .standing-of .ensures, c .before .before .before .before .before .before .before .before .before .before .before .before .before .before .before .hand-of2 .ensures, c .before .before .before .before .before .before .before .before .before .before .before .before .before .before .before .before .hand-of .ensures),
+  rw (c .back-of7 .ensures .0, c .before .extra-fate2 .ensures .0, c .before .before .back-of6 .ensures .0, c .before .before .before .extra-fate .ensures .0, c .before .before .before .before .back-of5 .ensures .0, c .before .before .before .before .before .jackpot-fate .ensures .0, c .before .before .before .before .before .before .back-of4 .ensures .0, c .before .before .before .before .before .before .before .back-of3 .ensures .0, c .before .before .before .before .before .before .before .before .back-of2 .ensures .0, c .before .before .before .before .before .before .before .before .before .back-of .ensures .0, c .before .before .before .before .before .before .before .before .before .before .ante-fate .ensures .0, c .before .before .before .before .before .before .before .before .before .before .before .flop-hand-of2 .ensures, c .before .before .before .before .before .before .before .before .before .before .before .before .flop-hand-of .ensures, c .before .before .before .before .before .before .before .before .before .before .before .before .before .play-fate .ensures .0, c .before .before .before .before .before .before .before .before .before .before .before .before .before .before .standing-of .ensures, c .before .before .before .before .before .before .before .before .before .before .before .before .before .before .before .hand-of2 .ensures, c .before .before .before .before .before .before .before .before .before .before .before .before .before .before .before .before .hand-of .ensures),
   record {
     ante = omega (arith, s .ante, c .before .before .before .before .before .before .before .before .before .back-of .ensures .1);
     flop = omega (arith, s .flop, c .before .before .before .before .before .before .before .before .back-of2 .ensures .1);
@@ -88,8 +88,8 @@ backs-of-spec =
     back-of-requires-4
     jackpot-fate-requires
     back-of-requires-5
-    player-extra-fate-requires
-    back-of-requires-6
     extra-fate-requires
+    back-of-requires-6
+    extra-fate-requires-2
     back-of-requires-7
     returns)
