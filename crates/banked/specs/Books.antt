@@ -1,11 +1,11 @@
 -- Request No. 14: "Player's gain plus house's gain is always zero." What a wager's fate is in chips: to the player, and in the house's own books. A gain is two
 -- numbers, what came and what went, since no number here is below 0. Assumes nothing.
--- what comes back to the player of a wager, stake and win together: "to 1" is beside the wager, and "times the wager" is all that is paid
 use mathlib.Core.List.{List, [], _∷_}
 use Prim.Native.Nat.{ℕ, _+_, _-_, _*_}
 use Rattle.banked.specs.declared.fates.Fate.{Fate}
 use Rattle.banked.specs.declared.fates.Fate.the-variants.{Lost, Returned, Odds, Times}
 
+-- what comes back to the player of a wager, stake and win together: "to 1" is beside the wager, and "times the wager" is all that is paid
 unfoldable pub backOf : Fate → ℕ → ℕ
 backOf Lost stake = 0
 backOf Returned stake = stake

@@ -1,9 +1,5 @@
 -- Source document 002, section 3: the fate of each wager, rule by rule. "The player elects not to have their cards exposed" (4.12) is left out: nobody keys
 -- it. Assumes nothing.
--- Ante Wager, 3.6: "win if the value of the Player's Hand exceeds the value of the Dealer's Hand and is ranked as a Flush or higher; lose if the Player's Hand
--- is folded; or the value of the Player's Hand is less than the value of the Dealer's Hand; be a Stand Off if the ranking of the Player's Hand is equal to that
--- of the Dealer's Hand." 3.7: "paid at the odds of 1 to 1". Where it exceeds the dealer's and is less than a flush, 3.6 lets the wager neither win nor lose:
--- "Stand Off means to neither win or lose", so it is returned. (The other reading, that it then stays with the house, is `Lost` in that line.)
 use mathlib.Core.Bool.{Bool, true, false}
 use Prim.Native.Nat.{ℕ, _≤_}
 use lib.Dec.{eqb}
@@ -15,6 +11,10 @@ use Rattle.banked.specs.declared.hands.Standing.the-variants.{Above, Equ
 use Rattle.banked.specs.declared.fates.Fate.{Fate}
 use Rattle.banked.specs.declared.fates.Fate.the-variants.{Lost, Returned, Odds, Times}
 
+-- Ante Wager, 3.6: "win if the value of the Player's Hand exceeds the value of the Dealer's Hand and is ranked as a Flush or higher; lose if the Player's Hand
+-- is folded; or the value of the Player's Hand is less than the value of the Dealer's Hand; be a Stand Off if the ranking of the Player's Hand is equal to that
+-- of the Dealer's Hand." 3.7: "paid at the odds of 1 to 1". Where it exceeds the dealer's and is less than a flush, 3.6 lets the wager neither win nor lose:
+-- "Stand Off means to neither win or lose", so it is returned. (The other reading, that it then stays with the house, is `Lost` in that line.)
 unfoldable pub anteFate : Bool → Standing → Hand → Fate
 anteFate true s player = Lost
 anteFate false Above player = pick (isFlushOrHigher player) (Odds 1) Returned

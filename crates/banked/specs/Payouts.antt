@@ -1,7 +1,5 @@
 -- Source document 002, Tables 1 to 3: the payout rows, as constant columns by class beside `cards`' places (class 0 is the straight flush); the royal flush,
 -- which is of class 0 too, stands apart. Assumes nothing.
--- Table 3, Poker Extra Prize, so many to 1: Straight Flush 500, Four of a Kind 200, Full House 70, Flush 40, Straight 30, Three of a Kind 10, Two Pair 5. One
--- Pair and 5 Odd Cards are not listed: 0
 use mathlib.Core.Bool.{Bool}
 use mathlib.Core.List.{List, [], _∷_}
 use Prim.Native.Nat.{ℕ}
@@ -10,6 +8,8 @@ use lib.ListN.{getD}
 use Rattle.laws.specs.Tests.{pick}
 use Rattle.banked.specs.Hands.{Hand, isRoyal}
 
+-- Table 3, Poker Extra Prize, so many to 1: Straight Flush 500, Four of a Kind 200, Full House 70, Flush 40, Straight 30, Three of a Kind 10, Two Pair 5. One
+-- Pair and 5 Odd Cards are not listed: 0
 abbrev pub extraColumn : List ℕ
 extraColumn = 500 ∷ 200 ∷ 70 ∷ 40 ∷ 30 ∷ 10 ∷ 5 ∷ 0 ∷ 0 ∷ []
 

@@ -1,5 +1,4 @@
 -- A round of play of source document 002: how much each wager is, its fate, what comes back of it; and request No. 14's refusals. Assumes nothing.
--- ---- how much each wager is; 0 where it is not placed
 use mathlib.Core.Bool.{Bool, true, false}
 use mathlib.Core.List.{List, [], _∷_}
 use Prim.Native.Nat.{ℕ, _+_, _-_, _*_, _≤_}
@@ -21,6 +20,7 @@ use Rattle.banked.specs.declared.judged.Outcome.{Outcome}
 use Rattle.banked.specs.declared.judged.Outcome.the-variants.{Paid, OutOfRange, Repeat}
 use Rattle.paper.specs.RefusalNumbers as paper
 
+-- ---- how much each wager is; 0 where it is not placed
 abbrev pub isFold : Choice → Bool
 isFold Fold = true
 isFold (Stay turn river) = false

@@ -1,5 +1,4 @@
 -- Laws of reading a block: a line where it lies, and the numbers of the lines one after another. Assumes nothing.
--- a part from a place on is all that follows
 use mathlib.Core.Path.{_≡_, refl, sym, ap, _∙_}
 use mathlib.Core.Bool.{Bool, true, false}
 use mathlib.Core.List.{List, [], _∷_, _++_, map, append-nil}
@@ -19,6 +18,7 @@ use Rattle.text.specs.TableSheet.{isValue, valueIn}
 use Rattle.text.specs.declared.Number.{Number}
 use Rattle.rounds.specs.RoundText.{keys, readings, allValues}
 
+-- a part from a place on is all that follows
 pub rest-is : (l : List ℕ) (at : ℕ) → take (length l - at) (drop at l) ≡ drop at l
 rest-is l at = take-all (length l - at) (drop at l) (rw (length-drop at l) (le-refl _))
 

@@ -84,7 +84,7 @@ answerBytes block = pick (goodForm block) (outcomeBytes (judgedOf (numbersOf blo
 
 -- the whole output: "Sixteen LFs are used up whatever the code; bytes behind the last whole block get code=1 at the end; no input, no output." The first number
 -- bounds how many blocks; no input has more of them than bytes
-abbrev pub outputFrom : ℕ → List ℕ → List ℕ
+unfoldable pub outputFrom : ℕ → List ℕ → List ℕ
 outputFrom zero log = []
 outputFrom (suc k) log = pick (eqb (length log) 0) [] (answerBytes log ++ outputFrom k (afterLines 16 log))
 

@@ -1,27 +1,14 @@
 -- Request No. 14, the program `crown`: input however it is chopped, in constant memory; a block is answered as soon as its sixteenth LF arrives, "bytes behind the
 -- last whole block get code=1 at the end". Assumes nothing.
--- what is kept of an unfinished block: bytes, how many LFs are among them, and how many bytes stand behind the last LF
 use mathlib.Core.List.{List, [], _∷_, _++_}
 use Prim.Native.Nat.{ℕ, _+_, _*_, _≤_, _<_}
 use lib.Dec.{eqb, ltb, leb}
 use lib.ListN.{length, take}
 use Rattle.laws.specs.Tests.{pick}
+pub use Rattle.cuts.specs.Kept.{Kept, nothing}
+unfoldable pub use Rattle.cuts.specs.Kept.{keepOf}
 use Rattle.rounds.specs.RoundAnswer.{answerBytes}
 use Rattle.rounds.specs.declared.parts.Mark.{Mark}
-
-pub record Kept : Type 0 where
-  pub bytes : List ℕ
-  pub lines : ℕ
-  pub width : ℕ
-
-abbrev pub nothing : Kept
-nothing = record { bytes = []; lines = 0; width = 0 }
-
--- one byte more: a line that has 33 bytes is too long already, and grows no further
-unfoldable pub keepOf : Kept → ℕ → Kept
-keepOf k b =
-    pick (eqb b 10) (record { bytes = k .bytes ++ (b ∷ []); lines = k .lines + 1; width = 0 })
-    (pick (ltb (k .width) 33) (record { bytes = k .bytes ++ (b ∷ []); lines = k .lines; width = k .width + 1 }) k)
 
 pub record Gathered : Type 0 where
   pub kept : Kept

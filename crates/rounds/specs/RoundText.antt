@@ -1,6 +1,5 @@
 -- Request No. 14, the program `crown`: "blocks of sixteen lines", in document 01's text form; the numbers of a block and the round that they make. Assumes
 -- nothing.
--- the keys: ante, jackpot, extra (on the player's hand), dealer (extra on the dealer's), fold, turn, river, p1, p2, d1, d2, b1 to b5
 use mathlib.Core.Bool.{Bool, true}
 use mathlib.Core.List.{List, [], _∷_, map}
 use Prim.Native.Nat.{ℕ, min}
@@ -18,6 +17,7 @@ use Rattle.banked.specs.declared.Round.{Round}
 use Rattle.banked.specs.declared.judged.Outcome.{Outcome}
 use Rattle.banked.specs.declared.judged.Outcome.the-variants.{OutOfRange}
 
+-- the keys: ante, jackpot, extra (on the player's hand), dealer (extra on the dealer's), fold, turn, river, p1, p2, d1, d2, b1 to b5
 abbrev pub keys : List (List ℕ)
 keys =
     (97 ∷ 110 ∷ 116 ∷ 101 ∷ [])

@@ -1,0 +1,2 @@
+-- Lines that come byte by byte.
+pub mod Kept
