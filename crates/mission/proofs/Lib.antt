@@ -7,3 +7,8 @@ pub mod Answers
 pub mod Same
 pub mod Winners
 pub mod Examples
+pub mod Reached
+pub mod Written
+pub mod Payout
+pub mod Right
+pub mod Whole

@@ -2,3 +2,6 @@
 pub mod Allowed
 pub mod Settled
 pub mod Examples
+pub mod Blocks
+pub mod Right
+pub mod Whole
