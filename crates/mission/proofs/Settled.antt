@@ -23,7 +23,7 @@ use Rattle.chairs.specs.declared.Chair.{Chair}
 use Rattle.chairs.specs.declared.What.the-variants as what
 use Rattle.table.specs.Settle.{totalsOf, livesOf, payoutNow, backNow}
 use Rattle.table.specs.Take.{codeOf, payoutOf}
-use Rattle.history.specs.History.{run, AllTaken, noteOf, sits, sittingsTo, putIn, liveIn}
+use Rattle.history.specs.History.{run, AllTaken, noteOf, sits, sittingsTo, putIn, liveIn, puts, clerkBack}
 use Rattle.table.specs.declared.table.Table.{Table}
 use Rattle.chairs.proofs.Over.{sumOver, keyed-at}
 use Rattle.history.proofs.Told.{dealer, deals, totals}
@@ -31,7 +31,7 @@ use Rattle.history.proofs.Clerk.{after}
 use Rattle.table.proofs.Closing.{col-at}
 use Rattle.history.proofs.BySitting.{totals-told, stakes-told}
 use Rattle.history.proofs.Demand.{settle-all, paid-reach}
-use Rattle.mission.specs.Settled.{paidTo, settles, puts, clerkBack}
+use Rattle.mission.specs.Settled.{paidTo, settles}
 
 -- ---- lists of totals with the same chips at every height
 

@@ -24,14 +24,6 @@ paidTo (x ∷ xs) (p ∷ ps) s = pick (eqb x s) p 0 + paidTo xs ps s
 abbrev pub settles : Sheet → List Entry → Payout
 settles sheet es = payoutOf (run sheet es) (length es + 1) Settle
 
--- what each sitting there has been has put into this hand
-abbrev pub puts : Sheet → List Entry → List ℕ
-puts sheet es = map (putIn sheet es) (sittingsTo (sits es))
-
--- the returned chips that the clerk finds from the two facts
-unfoldable pub clerkBack : Sheet → List Entry → ℕ
-clerkBack sheet es = backOf (puts sheet es) (maskAt (map (λ s. one (liveIn sheet es s)) (sittingsTo (sits es))) 1)
-
 -- how many sittings there had been when the last hand was opened; 0 without a hand
 abbrev pub atDeal : List Entry → ℕ
 atDeal [] = 0
