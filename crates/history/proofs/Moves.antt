@@ -121,7 +121,7 @@ module _ (sheet : Sheet) (es : List Entry) (x : ℕ) where
       lifts-by sheet es (Wager x a) x (omega arith) (omega (arith, bet-put (again a) s (a - n .hand .part s .round))) (bet-other (again a) s (a - n .hand .part s .round)) (bet-live (again a) s (a - n .hand .part s .round))
 
   -- the part alone of one sitting changes, and its total does not
-  marks-same : (f : Part → Part) → ((p : Part) → f p .put ≡ p .put) → (s : ℕ) → (marking n x f .hand .part s .put ≡ n .hand .part s .put) × (marking n x f .people .stack s ≡ n .people .stack s)
+  pub marks-same : (f : Part → Part) → ((p : Part) → f p .put ≡ p .put) → (s : ℕ) → (marking n x f .hand .part s .put ≡ n .hand .part s .put) × (marking n x f .people .stack s ≡ n .people .stack s)
   marks-same f e s =
       let who = n .people .sits x in
       ⊎-elim
@@ -158,7 +158,7 @@ module _ (sheet : Sheet) (es : List Entry) (x : ℕ) where
   unfolding notebook potsBy backBy
   leave-pots = record { put = λ s. refl; live = λ s. refl; pots = refl; back = refl }
 
-board-chips : (sheet : Sheet) (es : List Entry) (k : ℕ) → SameChips sheet es (Board k)
+pub board-chips : (sheet : Sheet) (es : List Entry) (k : ℕ) → SameChips sheet es (Board k)
 unfolding notebook
 board-chips sheet es k =
     let n = notebook sheet es in
