@@ -1,6 +1,7 @@
 -- What the mission's sentences say.
 pub mod Allowed
 pub mod Settled
+pub mod Winners
 pub mod Examples
 pub mod Blocks
 pub mod Right
