@@ -6,6 +6,7 @@ pub mod Late
 pub mod Answers
 pub mod Same
 pub mod Winners
+pub mod Unclaimed
 pub mod Examples
 pub mod Reached
 pub mod Written
