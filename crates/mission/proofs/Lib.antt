@@ -1,6 +1,7 @@
 -- The mission's sentences.
 pub mod Someone
 pub mod Taken
+pub mod Does
 pub mod Settled
 pub mod Late
 pub mod Answers

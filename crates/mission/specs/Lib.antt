@@ -1,5 +1,6 @@
 -- What the mission's sentences say.
 pub mod Allowed
+pub mod Does
 pub mod Settled
 pub mod Winners
 pub mod Examples
