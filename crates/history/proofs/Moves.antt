@@ -1,5 +1,6 @@
 -- Demand 3, entry by entry: a call or wager changes no height outside a+1 to b; a fold or dead hand moves no chip; sitting or leaving changes no pot. Over the
 -- notebook, for every sheet, every list of entries and any number of sittings. Assumes nothing.
+-- ---- totals that are alike at a height
 use Prim.Native.Nat.{ℕ, _+_, _-_, _*_, _/_, _%_, _≤_, _<_}
 use mathlib.Core.Bool.{Bool, true, false}
 use mathlib.Core.Path.{_≡_, refl, sym, ap, ap₂, _∙_, subst}
@@ -15,13 +16,12 @@ use Rattle.paper.specs.declared.Entry.{Entry}
 use Rattle.paper.specs.declared.Entry.the-variants.{Sit, Leave, Hand, Hole, Fold, Check, Call, Wager, Board, Dead, Settle, Void}
 use Rattle.pots.specs.Heights.{has, chipsAt, liveOf, maskAt, contenders, contested, contest}
 use Rattle.pots.proofs.Contest.{has-one, has-none}
-use Rattle.history.specs.History.{putIn, liveIn, sitsIn, sits, sittingsTo, puts, lives}
+use Rattle.history.specs.History.{putIn, liveIn, sits, sittingsTo, lives}
 use Rattle.history.specs.Moves.{SameHeight, sitter, Lifts, SameChips, SameHand, Moves}
 use Rattle.history.specs.Notebook.{Part, givenUp, hasActed, holds, owesAgain, Notebook, withHand, withPlay, everyPart, fullLift, markTo, notebook, pays, betting, marking, potsBy, backBy}
 use Rattle.history.proofs.Kept.{but-here, but-other}
 use Rattle.history.proofs.Clerk.{either-way}
 
--- ---- totals that are alike at a height
 module _ (f g : ℕ → ℕ) (h : ℕ) (same : (s : ℕ) → has (f s) h ≡ has (g s) h) where
   chips-as : (xs : List ℕ) → chipsAt (map f xs) h ≡ chipsAt (map g xs) h
   unfolding chipsAt
@@ -126,9 +126,10 @@ module _ (sheet : Sheet) (es : List Entry) (x : ℕ) where
       let who = n .people .sits x in
       ⊎-elim
       (λ (q : eqb who s ≡ true).
-      let i = eqb-true who s q in
-      (ap (λ (p : Part). p .put) (but-here (n .hand .part) who (f (n .hand .part who)) s i) ∙ e (n .hand .part who) ∙ ap (λ (y : ℕ). n .hand .part y .put) i,
-      but-here (n .people .stack) who (n .people .stack who) s i ∙ ap (n .people .stack) i))
+      let i = eqb-true who s q in (
+        ap (λ (p : Part). p .put) (but-here (n .hand .part) who (f (n .hand .part who)) s i) ∙ e (n .hand .part who) ∙ ap (λ (y : ℕ). n .hand .part y .put) i,
+        but-here (n .people .stack) who (n .people .stack who) s i ∙ ap (n .people .stack) i,
+      ))
       (λ (q : eqb who s ≡ false).
       let d = eqb-false who s q in
       (ap (λ (p : Part). p .put) (but-other (n .hand .part) who (f (n .hand .part who)) s d), but-other (n .people .stack) who (n .people .stack who) s d))

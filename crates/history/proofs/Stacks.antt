@@ -1,12 +1,13 @@
 -- Each sitting's stack is what it brought, less what it put in, plus what it was paid; `leave` takes it away. For every sheet, every list of taken entries and
 -- every sitting. Assumes nothing.
+-- what a sitting has before it and has put in
 use Prim.Native.Nat.{ℕ, zero, suc, _+_, _-_, _≤_, _<_, min}
 use mathlib.Core.Bool.{Bool, true, false}
 use mathlib.Core.Path.{_≡_, refl, sym, ap, _∙_, subst}
 use mathlib.Core.List.{List, [], _∷_}
 use mathlib.Core.Logic.{⊎-elim}
 use native.Mathlib.Omega.{arith}
-use lib.Dec.{eqb, leb}
+use lib.Dec.{eqb}
 use lib.ListN.{length}
 use borrow.Author.Tests.{eqb-true, eqb-false}
 use Rattle.laws.specs.Tests.{pick}
@@ -16,22 +17,18 @@ use Rattle.paper.specs.declared.Sheet.{Sheet}
 use Rattle.paper.specs.declared.Entry.{Entry}
 use Rattle.paper.specs.declared.Entry.the-variants.{Sit, Leave, Hand, Hole, Fold, Check, Call, Wager, Board, Dead, Settle, Void}
 use Rattle.pots.proofs.Contest.{le-or-lt}
-use Rattle.chairs.specs.declared.Chair.{Chair}
 use Rattle.chairs.specs.declared.Dealt.{Dealt}
 use Rattle.chairs.proofs.Over.{all-at}
-use Rattle.table.specs.State.{seatOf}
 use Rattle.table.specs.Standing.{Cleared}
 use Rattle.table.proofs.Codes.{hand-closed}
 use Rattle.table.proofs.Sounds.{passed}
-use Rattle.history.specs.History.{run, AllTaken, putIn}
-use Rattle.history.specs.Moves.{SameChips}
-use Rattle.history.specs.Notebook.{Part, givenUp, hasActed, holds, more, owesAgain, noPart, Notebook, withHand, withPlay, everyPart, marking, noting, pays, posting, betting, nextSeat, dealing, blinds, fullLift, markTo, notedBy, notebook, paidBy}
+use Rattle.history.specs.History.{run, AllTaken}
+use Rattle.history.specs.Notebook.{Part, givenUp, hasActed, holds, more, owesAgain, noPart, Notebook, withHand, withPlay, everyPart, noting, pays, posting, betting, nextSeat, dealing, fullLift, markTo, notedBy, notebook}
 use Rattle.history.specs.Stacks.{ledger, Balanced}
 use Rattle.history.proofs.AsNoted.{reached}
 use Rattle.history.proofs.Kept.{but-here, but-other, KeptBy}
 use Rattle.history.proofs.Moves.{marks-same, board-chips}
 
--- what a sitting has before it and has put in
 abbrev chips : Notebook → ℕ → ℕ
 chips n s = n .people .stack s + n .hand .part s .put
 

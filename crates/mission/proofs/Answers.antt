@@ -1,13 +1,13 @@
 -- Demand 1: every block gets an answer with a number of document 01; after any but 0 the table and the count are those before; with 12 every byte of the
 -- answer sheet is kept, and 12 is given exactly where the sheet is too short. For every table, log and sheet. Assumes nothing.
-use Prim.Native.Nat.{ℕ, suc, _+_, _≤_, _<_}
+use Prim.Native.Nat.{ℕ, suc, _≤_, _<_}
 use mathlib.Core.Bool.{Bool, true, false}
-use mathlib.Core.Path.{_≡_, refl, ap, _∙_}
+use mathlib.Core.Path.{_≡_, refl, ap}
 use mathlib.Core.List.{List, _++_}
 use mathlib.Core.Logic.{_⊎_, inl, inr}
 use native.Mathlib.Omega.{arith}
 use lib.ListN.{length}
-use lib.Dec.{eqb, leb}
+use lib.Dec.{leb}
 use borrow.Author.Tests.{ne-eqb, leb-false}
 use Rattle.laws.specs.Tests.{pick}
 use Rattle.text.specs.Block.{restOf}

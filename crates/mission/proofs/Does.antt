@@ -1,14 +1,15 @@
 -- Demand 2, second half: every entry that is taken does what document 01 says of its kind, and nothing else moves. At every table that `take` can hold.
 -- Assumes nothing.
-use Prim.Native.Nat.{ℕ, zero, suc, _+_, _-_, _≤_, _<_, min}
-use mathlib.Core.Bool.{Bool, true, false, not}
+-- the table after the entry, counted
+use Prim.Native.Nat.{ℕ, suc, _+_, _-_, _≤_, _<_, min}
+use mathlib.Core.Bool.{Bool, true, false, not, false≢true}
 use mathlib.Core.Path.{_≡_, refl, sym, ap, _∙_, subst}
-use mathlib.Core.List.{List, [], _∷_, map}
+use mathlib.Core.List.{List, map}
 use mathlib.Core.Logic.{⊎-elim}
 use native.Mathlib.Omega.{arith}
 use lib.Dec.{eqb, ltb, leb}
 use lib.ListN.{length, getD}
-use borrow.Author.Tests.{eqb-true, eqb-false, eq-eqb, ne-eqb, lt-ltb, le-ltb, ltb-true, leb-true, leb-false, le-leb, lt-leb}
+use borrow.Author.Tests.{eqb-true, eqb-false, eq-eqb, ne-eqb, lt-ltb, ltb-true, leb-true, leb-false, le-leb, lt-leb}
 use Rattle.laws.specs.Tests.{both, pick}
 use Rattle.laws.proofs.Tests.{test, both-true}
 use Rattle.paper.specs.Paper.{isSeat, between, inKind}
@@ -16,7 +17,7 @@ use Rattle.paper.specs.declared.Entry.{Entry}
 use Rattle.paper.specs.declared.Entry.the-variants.{Sit, Leave, Hand, Hole, Fold, Check, Call, Wager, Board, Dead, Settle, Void}
 use Rattle.paper.proofs.Codes.{between-in}
 use Rattle.pots.proofs.Contest.{le-or-lt}
-use Rattle.chairs.specs.Chairs.{chairAt, putAt, noChair, noDealt, noHole, roundOf, isDealtIn, seatedOf, heldOf, foldedOf, actedOf, paidOf, dealtOf, againOf, roundedOf, closedOf, closeAll}
+use Rattle.chairs.specs.Chairs.{chairAt, putAt, noChair, noDealt, noHole, roundOf, isDealtIn, isLiveWithChips, seatedOf, heldOf, foldedOf, actedOf, paidOf, dealtOf, againOf, roundedOf, closedOf, closeAll}
 use Rattle.chairs.specs.declared.Chair.{Chair}
 use Rattle.chairs.proofs.Clockwise.{put-other}
 use Rattle.chairs.proofs.Over.{map-at}
@@ -26,8 +27,8 @@ use Rattle.table.specs.Sittings.{satTo, leftTo}
 use Rattle.table.specs.Opening.{nextDealtIn, postedTo, openedTo}
 use Rattle.table.specs.Dealing.{heldTo, boardedTo}
 use Rattle.table.specs.Settle.{payoutNow, settledTo}
-use Rattle.table.specs.Take.{Sound, kindCode, codeOf, appliedTo, nextOf}
-use Rattle.table.specs.Standing.{ChairOk, Standing}
+use Rattle.table.specs.Take.{kindCode, codeOf, appliedTo, nextOf}
+use Rattle.table.specs.Standing.{Standing}
 use Rattle.table.specs.declared.table.Table.{Table}
 use Rattle.table.proofs.ChairsOk.{ok-at}
 use Rattle.table.proofs.Codes.{turn-live, check-live, call-live, wager-live, wager-fits, dead-live}
@@ -38,9 +39,9 @@ use Rattle.history.proofs.Kept.{put-in, put-seat}
 use Rattle.history.proofs.Paying.{close-at, close-past}
 use Rattle.history.proofs.Raises.{put-live}
 use Rattle.history.proofs.Turns.{next-taken}
-use Rattle.mission.specs.Does.{Others, Still, Rest, Quiet, Puts, DoesSit, DoesLeave, Posts, DealtIn, DoesHand, DoesHole, GivenUp, DoesFold, DoesCheck, DoesCall, Again, DoesWager, DoesDead, NewRound, SameRound, DoesBoard, DoesSettle, Does}
+use Rattle.mission.proofs.Taken.{taken-allowed}
+use Rattle.mission.specs.Does.{Still, Puts, DoesSit, DoesLeave, Posts, DealtIn, DoesHand, DoesHole, GivenUp, DoesFold, DoesCheck, DoesCall, Again, DoesWager, DoesDead, DoesBoard, DoesSettle, Does}
 
--- the table after the entry, counted
 abbrev done : Table → ℕ → Entry → Table
 done t n e = withTaken (appliedTo t e) n
 
@@ -178,8 +179,8 @@ module _ (t : Table) (n x : ℕ) (st : Standing t) (l : seatOf t x .dealt .live 
         rise = λ e. (leb-true (t .play .lift) (a - t .play .mark) e, ap (λ (b : Bool). pick b (a - t .play .mark) (t .play .lift)) e);
         short = λ e. (leb-false (t .play .lift) (a - t .play .mark) e, ap (λ (b : Bool). pick b (a - t .play .mark) (t .play .lift)) e);
         others = λ y q.
-        subst (Again full (seatOf t y)) (sym (put-other cs x y d q ∙ map-at (againOf full) (t .chairs) y refl))
-        (record { still = record { sitting = refl; stack = refl; dealt = refl; total = refl; live = refl; hole = refl }; acted = refl; right = refl });
+            subst (Again full (seatOf t y)) (sym (put-other cs x y d q ∙ map-at (againOf full) (t .chairs) y refl))
+            (record { still = record { sitting = refl; stack = refl; dealt = refl; total = refl; live = refl; hole = refl }; acted = refl; right = refl });
         mark = refl;
         turn = refl;
         rest = record { sheet = refl; sittings = refl; opened = refl; puck = refl };
@@ -337,22 +338,25 @@ module _ (t : Table) (n p : ℕ) (st : Standing t) (r : inKind (t .sheet) (Hand 
       (test (eqb big y))
     where
       by-big : Posted big
-      by-big =
-          (min (t .sheet .big) (seatOf t big .stack),
-          record { puck = λ e. absurd (apart (sym e)); next = λ e. refl; none = λ a b. absurd (b refl) },
-          subst (λ (c : Chair). DealtIn (seatOf t big) c (min (t .sheet .big) (seatOf t big .stack))) (sym at-big) (dealt-in (seatOf t big) (t .sheet .big)))
+      by-big = (
+        min (t .sheet .big) (seatOf t big .stack),
+        record { puck = λ e. absurd (apart (sym e)); next = λ e. refl; none = λ a b. absurd (b refl) },
+        subst (λ (c : Chair). DealtIn (seatOf t big) c (min (t .sheet .big) (seatOf t big .stack))) (sym at-big) (dealt-in (seatOf t big) (t .sheet .big)),
+      )
 
       by-puck : Posted p
-      by-puck =
-          (min (t .sheet .small) (seatOf t p .stack),
-          record { puck = λ e. refl; next = λ e. absurd (apart e); none = λ a b. absurd (a refl) },
-          subst (λ (c : Chair). DealtIn (seatOf t p) c (min (t .sheet .small) (seatOf t p .stack))) (sym at-puck) (dealt-in (seatOf t p) (t .sheet .small)))
+      by-puck = (
+        min (t .sheet .small) (seatOf t p .stack),
+        record { puck = λ e. refl; next = λ e. absurd (apart e); none = λ a b. absurd (a refl) },
+        subst (λ (c : Chair). DealtIn (seatOf t p) c (min (t .sheet .small) (seatOf t p .stack))) (sym at-puck) (dealt-in (seatOf t p) (t .sheet .small)),
+      )
 
       by-none : (y : ℕ) → (p ≡ y → ⊥) → (big ≡ y → ⊥) → Posted y
-      by-none y a b =
-          (0,
-          record { puck = λ e. absurd (a (sym e)); next = λ e. absurd (b (sym e)); none = λ c d. refl },
-          subst (λ (c : Chair). DealtIn (seatOf t y) c 0) (sym (at-other y a b)) (dealt-none (seatOf t y)))
+      by-none y a b = (
+        0,
+        record { puck = λ e. absurd (a (sym e)); next = λ e. absurd (b (sym e)); none = λ c d. refl },
+        subst (λ (c : Chair). DealtIn (seatOf t y) c 0) (sym (at-other y a b)) (dealt-none (seatOf t y)),
+      )
 
   does-hand : DoesHand t p (done t n (Hand p))
   unfolding openedTo postedTo firstOwing owes liveHands onlyWithChips
@@ -416,3 +420,26 @@ pub taken-does : (t : Table) (n : ℕ) (e : Entry) → Standing t → codeOf t n
 taken-does t n e st c =
     let p = passed t n e c in
     subst (Does t e) (sym (next-taken t n e c)) (does-applied t n e st (p .kind) (p .moment))
+
+-- ---- "one that never moves a chip" breaks demand 2: a taken call moves a chip
+owing-chips : (t : Table) (c : Chair) → owes t c ≡ true → 0 < c .stack
+unfolding owes
+owing-chips t c h =
+    let two = leb 2 (liveHands t) in
+    let unless = not (both (onlyWithChips t) (eqb (roundOf c) (t .play .mark))) in
+    let rest = both (not (c .dealt .acted)) unless in
+    ltb-true 0 (c .stack) (both-true (c .dealt .live) (ltb 0 (c .stack)) (both-true (isLiveWithChips c) rest (both-true two (both (isLiveWithChips c) rest) h .1) .0) .1)
+
+pub call-pays : (t : Table) (n x : ℕ) → Standing t → codeOf t n (Call x) ≡ 0
+    → (seatOf t x .dealt .total < seatOf (nextOf t n (Call x)) x .dealt .total) × (seatOf (nextOf t n (Call x)) x .stack < seatOf t x .stack)
+call-pays t n x st c =
+    let p = taken-does t n (Call x) st c .pays in
+    let may = taken-allowed t n (Call x) c .may in
+    let here = may .act .turn in
+    let some : (t .play .turn ≡ 0 → ⊥) = λ z. false≢true (subst (λ (s : ℕ). seatOf t s .dealt .live ≡ true) (sym here ∙ z) (may .act .live)) in
+    let chips : 0 < seatOf t x .stack = owing-chips t (seatOf t x) (subst (λ (s : ℕ). owes t (seatOf t s) ≡ true) here (st .turn .some some)) in
+    let m : 0 < min (t .play .mark - roundOf (seatOf t x)) (seatOf t x .stack) = least (t .play .mark) (roundOf (seatOf t x)) (seatOf t x .stack) (may .below) chips in
+    (omega (arith, p .total, m), omega (arith, p .stack, m))
+  where
+    least : (a b v : ℕ) → b < a → 0 < v → 0 < min (a - b) v
+    least a b v l k = omega arith

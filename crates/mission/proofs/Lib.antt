@@ -1,9 +1,9 @@
 -- The mission's sentences.
+
 pub mod Someone
 pub mod Taken
 pub mod Does
 pub mod Settled
-pub mod Late
 pub mod Answers
 pub mod Same
 pub mod Winners
@@ -12,5 +12,5 @@ pub mod Examples
 pub mod Reached
 pub mod Written
 pub mod Payout
-pub mod Right
-pub mod Whole
+pub mod Demands
+pub mod Box

@@ -1,17 +1,18 @@
 -- What is unclaimed at a taken settle is exactly the returned chips of the sittings that have left: a sitting that left is not live, so it wins nothing.
 -- Assumes nothing.
+-- ---- who contends for no pot wins nothing
 use Prim.Native.Nat.{ℕ, zero, suc, _+_, _-_, _*_, _/_, _%_, _≤_, _<_}
 use mathlib.Core.Bool.{Bool, true, false, true≢false}
 use mathlib.Core.Path.{_≡_, refl, sym, ap, ap₂, _∙_, subst}
 use mathlib.Core.List.{List, [], _∷_, map}
 use native.Mathlib.Omega.{arith}
-use lib.Dec.{eqb, ltb}
+use lib.Dec.{eqb}
 use lib.ListN.{length, getD}
 use borrow.Author.Tests.{lt-ltb, eq-eqb}
-use Rattle.laws.specs.Bits.{bitAt, ones}
+use Rattle.laws.specs.Bits.{bitAt}
 use Rattle.laws.specs.Lists.{All, sumOf}
 use Rattle.laws.specs.Tests.{both, pick, one}
-use Rattle.laws.proofs.Sums.{map-at, map-length, zeros-at}
+use Rattle.laws.proofs.Sums.{map-at, zeros-at}
 use Rattle.paper.specs.Paper.{isSheet}
 use Rattle.paper.specs.declared.Sheet.{Sheet}
 use Rattle.paper.specs.declared.Entry.{Entry}
@@ -21,7 +22,7 @@ use Rattle.pots.specs.Runs.{potsOf}
 use Rattle.pots.specs.Settle.{feeOf, sharesOf}
 use Rattle.pots.specs.declared.Commission.{Commission}
 use Rattle.pots.specs.declared.Pot.{Pot}
-use Rattle.pots.proofs.Hands.{Manned, nobody-left, manned, pots-manned, plus-at, plus-length, shares-length, won-length}
+use Rattle.pots.proofs.Hands.{Manned, manned, pots-manned, plus-at, plus-length, shares-length, won-length}
 use Rattle.pots.proofs.Masks.{mask-bit}
 use Rattle.pots.proofs.PotRuns.{pots-all}
 use Rattle.pots.proofs.Shares.{shares-none}
@@ -34,14 +35,13 @@ use Rattle.table.specs.declared.table.Table.{Table}
 use Rattle.table.specs.Standing.{ChairOk}
 use Rattle.table.proofs.ChairsOk.{ok-at, live-some}
 use Rattle.history.specs.History.{run, AllTaken}
-use Rattle.history.specs.Notebook.{Part, Notebook, tenSeats, partAt, putsBy, livesBy, scoreBy, ruleBy, dueBy, here, unclaimedBy, notebook}
+use Rattle.history.specs.Notebook.{Part, Notebook, tenSeats, partAt, putsBy, livesBy, ruleBy, dueBy, here, unclaimedBy, notebook}
 use Rattle.history.proofs.AsNoted.{reached}
 use Rattle.history.proofs.Kept.{puck-is}
 use Rattle.history.proofs.Paying.{listed, here-at}
 use Rattle.mission.specs.Winners.{scoresBy, leftBehind}
 use Rattle.mission.proofs.Winners.{at-seat, contender-live}
 
--- ---- who contends for no pot wins nothing
 module _ (scores : List ℕ) (rule : Commission) (puck i : ℕ) (k : puck ≤ length scores) (l : i < length scores) where
   won-none : (left : ℕ) (ps : List Pot) → Manned (length scores) ps → All (λ (p : Pot). bitAt (p .who) i ≡ 0) ps → getD (wonOf scores rule puck left ps) i 0 ≡ 0
   unfolding wonOf
@@ -148,6 +148,6 @@ module _ (sheet : Sheet) (ok : isSheet sheet ≡ true) (es : List Entry) (taken 
       each i l =
           let z : suc i ≡ suc (i + 0) = omega arith in
           subst (λ (x : ℕ). pick (here (notebook sheet es) (notebook sheet es .hand .dealt x)) 0 (getD (dueBy sheet (notebook sheet es)) (x - 1) 0)
-              ≡ pick (here (notebook sheet es) (notebook sheet es .hand .dealt x)) 0 (returnedOf (putsBy (notebook sheet es)) (livesBy (notebook sheet es)) (partAt (notebook sheet es) x .put))) z
+          ≡ pick (here (notebook sheet es) (notebook sheet es .hand .dealt x)) 0 (returnedOf (putsBy (notebook sheet es)) (livesBy (notebook sheet es)) (partAt (notebook sheet es) x .put))) z
           (ap (λ (j : ℕ). pick (here (notebook sheet es) (notebook sheet es .hand .dealt (suc i))) 0 (getD (dueBy sheet (notebook sheet es)) j 0)) (less i)
           ∙ at i l (here (notebook sheet es) (notebook sheet es .hand .dealt (suc i))) refl)

@@ -1,6 +1,7 @@
 -- Demand 2: of two hands the better wins. Of every pot of every taken settle the winners are exactly its contenders whose best hand no contender's best hand
 -- beats, whatever the number of seats; and hands tie exactly when neither is better (cards, `tie-iff`). A sole contender needs no cards. Assumes nothing.
-use Prim.Native.Nat.{ℕ, zero, suc, _+_, _/_, _%_, _≤_, _<_, _^_}
+-- ---- what is told seat by seat
+use Prim.Native.Nat.{ℕ, zero, suc, _+_, _/_, _≤_, _<_, _^_}
 use mathlib.Core.Bool.{Bool, true, false, not, true≢false}
 use mathlib.Core.Path.{_≡_, refl, sym, ap, ap₂, _∙_, subst}
 use mathlib.Core.List.{List, [], _∷_, map}
@@ -8,27 +9,24 @@ use mathlib.Core.Logic.{⊎-elim}
 use native.Mathlib.Omega.{arith}
 use lib.Dec.{ltb, leb, eqb}
 use lib.ListN.{length, getD}
-use borrow.Author.Tests.{ltb-false, le-ltb, le-leb, eqb-true, not-true, not-false}
+use borrow.Author.Tests.{ltb-false, le-ltb, le-leb, eqb-true, not-false}
 use Rattle.laws.specs.Bits.{bitAt, ones}
 use Rattle.laws.specs.Lists.{All}
 use Rattle.laws.specs.Tests.{both, either, pick, one}
 use Rattle.laws.proofs.Bits.{bit-zero}
-use Rattle.laws.proofs.Tests.{test}
 use Rattle.paper.specs.Paper.{when, orElse, inRange, isSheet}
 use Rattle.paper.specs.declared.Sheet.{Sheet}
 use Rattle.paper.specs.declared.Entry.{Entry}
 use Rattle.paper.specs.declared.Entry.the-variants.{Settle}
 use Rattle.paper.proofs.Codes.{or-zero, when-zero}
 use Rattle.cards.specs.Order.{places, beatsBy, bestOf}
-use Rattle.cards.specs.declared.Hand.{Hand}
 use Rattle.cards.proofs.Above.{beats-irrefl}
-use Rattle.pots.specs.Hand.{winnersOf}
 use Rattle.pots.specs.Heights.{has, chipsAt, liveOf, maskAt, contenders, contested, contest}
 use Rattle.pots.specs.Runs.{potsOf}
 use Rattle.pots.specs.declared.Pot.{Pot}
 use Rattle.pots.proofs.Alone.{contenders-few}
 use Rattle.pots.proofs.Contest.{has-none, le-or-lt}
-use Rattle.pots.proofs.Hands.{Manned, nobody-left, manned, pots-manned}
+use Rattle.pots.proofs.Hands.{Manned, manned, pots-manned}
 use Rattle.pots.proofs.Masks.{live-length, live-at, mask-lt, mask-bit, ones-mask}
 use Rattle.pots.proofs.PotRuns.{pots-all}
 use Rattle.pots.proofs.Winners.{winners-sole, winners-are}
@@ -46,9 +44,8 @@ use Rattle.history.proofs.AsNoted.{as-noted}
 use Rattle.history.proofs.Codes.{taken-by}
 use Rattle.history.proofs.Kept.{cards-is}
 use Rattle.history.proofs.Shown.{cardsOf, scores-compare}
-use Rattle.mission.specs.Winners.{bestAt, scoresBy, Contends, Wins, Unbeaten, BestWin}
+use Rattle.mission.specs.Winners.{bestAt, scoresBy, Contends, BestWin}
 
--- ---- what is told seat by seat
 pub seat-at : (f : ℕ → ℕ) (k m i : ℕ) → i < m → getD (map f (seatsFrom k m)) i 0 ≡ f (suc (i + k))
 seat-at f k zero i l = absurd (omega arith)
 seat-at f k (suc m) zero l = let z : suc k ≡ suc (0 + k) = omega arith in ap f z
@@ -214,11 +211,11 @@ module _ (sheet : Sheet) (ok : isSheet sheet ≡ true) (es : List Entry) (taken 
     several m =
         record {
           wins = λ i l e.
-          let q = winners-are (scoresBy n) (p .who) i low some l .0 e in
-          (q .0, λ j k c. compare (suc j) (suc i) (shown m j k c) (shown m i l (q .0)) ∙ le-ltb (told i) (told j) (omega (arith, q .1 j k c, score-is i l, score-is j k)));
+              let q = winners-are (scoresBy n) (p .who) i low some l .0 e in
+              (q .0, λ j k c. compare (suc j) (suc i) (shown m j k c) (shown m i l (q .0)) ∙ le-ltb (told i) (told j) (omega (arith, q .1 j k c, score-is i l, score-is j k)));
           unbeaten = λ i l q.
-          winners-are (scoresBy n) (p .who) i low some l .1
-          (q .0, λ j k c. omega (arith, score-is i l, score-is j k, ltb-false (told i) (told j) (sym (compare (suc j) (suc i) (shown m j k c) (shown m i l (q .0))) ∙ q .1 j k c)));
+              winners-are (scoresBy n) (p .who) i low some l .1
+              (q .0, λ j k c. omega (arith, score-is i l, score-is j k, ltb-false (told i) (told j) (sym (compare (suc j) (suc i) (shown m j k c) (shown m i l (q .0))) ∙ q .1 j k c)));
           sole = λ e. absurd (omega arith);
         }
 
@@ -226,8 +223,8 @@ module _ (sheet : Sheet) (ok : isSheet sheet ≡ true) (es : List Entry) (taken 
     alone m =
         record {
           wins = λ i l e.
-          let q = winners-are (scoresBy n) (p .who) i low some l .0 e in
-          (q .0, λ j k c. subst (λ (z : ℕ). beatsBy places (bestAt n (suc j)) (bestAt n (suc z)) ≡ false) (only-bit 10 (p .who) j i k l c (q .0) (omega arith)) (beats-irrefl places (bestAt n (suc j))));
+              let q = winners-are (scoresBy n) (p .who) i low some l .0 e in
+              (q .0, λ j k c. subst (λ (z : ℕ). beatsBy places (bestAt n (suc j)) (bestAt n (suc z)) ≡ false) (only-bit 10 (p .who) j i k l c (q .0) (omega arith)) (beats-irrefl places (bestAt n (suc j))));
           unbeaten = λ i l q. ap (λ (w : ℕ). bitAt w i) (winners-sole (scoresBy n) (p .who) m) ∙ q .0;
           sole = λ e scores len. winners-sole scores (p .who) (ap (λ (k : ℕ). ones k (p .who)) len ∙ e);
         }

@@ -1,13 +1,12 @@
 -- Document 01, "Examples both ways": P1 to P12 as one table, with the test that each row has to pass. Assumes nothing.
+-- a row: cards that the hand order is asked about, or numbers (bytes too) that the definitions give beside those that the document says
 use Prim.Native.Nat.{ℕ}
-use mathlib.Core.Bool.{Bool, true, false}
-use mathlib.Core.List.{List, [], _∷_, _++_}
-use lib.ListN.{getD}
+use mathlib.Core.Bool.{Bool, true}
+use mathlib.Core.List.{List, [], _∷_}
 use Rattle.laws.specs.Tests.{both}
 use Rattle.text.specs.Block.{eqList}
-use Rattle.cards.specs.Examples.{Example, examples, holds}
+use Rattle.cards.specs.Examples.{Example, holds}
 
--- a row: cards that the hand order is asked about, or numbers (bytes too) that the definitions give beside those that the document says
 pub data Row : Type 0 where
   hands : Example → Row
   gives : List ℕ → List ℕ → Row
