@@ -26,8 +26,8 @@ use Rattle.table.specs.Opening.{nextDealtIn, isPuck, handCode, postedTo, opened
 use Rattle.table.specs.Settle.{settleCode, potsNow, backNow, scoreOf, payoutNow, settledTo}
 use Rattle.table.specs.Sittings.{sitCode, satTo}
 use Rattle.table.specs.Take.{codeOf, nextOf, payoutOf}
-use Rattle.text.specs.Block.{restOf, kindOf, blockOf}
-use Rattle.text.specs.Entry.{parsedOf}
+use Rattle.blocks.specs.Block.{restOf, kindOf, blockOf}
+use Rattle.blocks.specs.Entry.{parsedOf}
 use Rattle.text.specs.Line.{valueOf as valueOfLine, numberLine}
 use Rattle.text.specs.Number.{wellFormed, numberOf, digits}
 use Rattle.text.specs.TableSheet.{sheetNumber, sheetWith, sheetOf, sheetEnd}

@@ -4,7 +4,7 @@ use mathlib.Core.Bool.{Bool, true, false}
 use mathlib.Core.List.{List, [], _∷_, _++_}
 use lib.ListN.{getD}
 use Rattle.laws.specs.Tests.{both}
-use Rattle.text.specs.Block.{eqList}
+use Rattle.text.specs.Bytes.{eqList}
 use Rattle.cards.specs.Examples.{Example, examples, holds}
 
 -- a row: cards that the hand order is asked about, or numbers (bytes too) that the definitions give beside those that the document says

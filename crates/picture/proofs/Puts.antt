@@ -9,8 +9,8 @@ use lib.ListN.{length, take, drop, set, length-append, length-drop, take-append-
 use lib.Seq.{take-at, drop-append-add, drop-drop, length-take-le, set-split}
 use borrow.Rule.Slice.PartMut.{midOf, putMid}
 use Rattle.laws.specs.Tests.{pick}
-use Rattle.text.specs.Sheet.{Wrote}
-use Rattle.text.proofs.Sheets.{part-is, part-back}
+use Rattle.writing.specs.Sheet.{Wrote}
+use Rattle.text.proofs.Parts.{part-is, part-back}
 use Rattle.picture.specs.Sheet.{Put}
 
 -- a writer that was lent the part from the place on

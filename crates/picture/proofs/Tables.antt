@@ -10,10 +10,10 @@ use borrow.Author.Tests.{leb-true, eqb-true}
 use Rattle.laws.specs.Tests.{both}
 use Rattle.laws.proofs.Tests.{both-true}
 use Rattle.laws.proofs.Rules.{allBelow, below-all}
-use Rattle.text.specs.Block.{eqList}
+use Rattle.text.specs.Bytes.{eqList}
 use Rattle.text.specs.Line.{lineNumber}
 use Rattle.text.specs.declared.Number.{Number}
-use Rattle.text.proofs.Blocks.{eq-list}
+use Rattle.text.proofs.Bytes.{eq-list}
 use Rattle.picture.specs.Words.{bytes, labels, words}
 use Rattle.picture.specs.Lines.{keys, mosts, lineWith, lineAt, Answering, noLine}
 use Rattle.picture.specs.declared.Line.{Line}

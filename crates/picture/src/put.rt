@@ -1,5 +1,5 @@
 // Bytes written at a place of a lent sheet: each writer goes on where the last one ended.
-use text::put_bytes;
+use writing::put_bytes;
 ghost use mathlib.Core.List.{[]};
 ghost use Prim.Native.Nat.{_+_, _≤_};
 ghost use lib.ListN.{length};
