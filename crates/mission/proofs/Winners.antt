@@ -12,7 +12,7 @@ use Rattle.laws.specs.Bits.{bitAt, ones}
 use Rattle.paper.specs.Paper.{isSheet}
 use Rattle.paper.specs.declared.Sheet.{Sheet}
 use Rattle.paper.specs.declared.Entry.{Entry}
-use Rattle.cards.specs.Order.{places, beatsBy, bestOf}
+use Rattle.cards.specs.Order.{ranking52, beatsBy, bestOf}
 use Rattle.cards.specs.declared.Hand.{Hand}
 use Rattle.pots.specs.Hand.{winnersOf}
 use Rattle.pots.proofs.Hands.{map-length}
@@ -32,7 +32,7 @@ module _ (sheet : Sheet) (ok : isSheet sheet ≡ true) (es : List Entry) (taken 
 
   -- the best hand of five among the two hole and the five board cards of the seat at place i (seats are counted from 1)
   abbrev best : ℕ → Hand
-  best i = bestOf places (cardsOf t (suc i))
+  best i = bestOf ranking52 (cardsOf t (suc i))
 
   ten : length (scoresOf t) ≡ 10
   ten = map-length (scoreOf (t .board)) (t .chairs) ∙ after sheet ok es taken .sound .standing .size
@@ -45,12 +45,12 @@ module _ (sheet : Sheet) (ok : isSheet sheet ≡ true) (es : List Entry) (taken 
   Shown i = isShown (seatOf t (suc i)) ≡ true
 
   -- one hand does not beat another exactly where its score is not higher
-  not-beaten : (i j : ℕ) → i < 10 → j < 10 → Shown i → Shown j → getD (scoresOf t) j 0 ≤ getD (scoresOf t) i 0 → beatsBy places (best j) (best i) ≡ false
+  not-beaten : (i j : ℕ) → i < 10 → j < 10 → Shown i → Shown j → getD (scoresOf t) j 0 ≤ getD (scoresOf t) i 0 → beatsBy ranking52 (best j) (best i) ≡ false
   not-beaten i j l m u v h =
       scores-compare sheet es taken (suc j) (suc i) v u
       ∙ le-ltb (scoreOf (t .board) (seatOf t (suc i))) (scoreOf (t .board) (seatOf t (suc j))) (omega (arith, score-at i l, score-at j m))
 
-  not-higher : (i j : ℕ) → i < 10 → j < 10 → Shown i → Shown j → beatsBy places (best j) (best i) ≡ false → getD (scoresOf t) j 0 ≤ getD (scoresOf t) i 0
+  not-higher : (i j : ℕ) → i < 10 → j < 10 → Shown i → Shown j → beatsBy ranking52 (best j) (best i) ≡ false → getD (scoresOf t) j 0 ≤ getD (scoresOf t) i 0
   not-higher i j l m u v h =
       omega (
         arith,
@@ -61,8 +61,8 @@ module _ (sheet : Sheet) (ok : isSheet sheet ≡ true) (es : List Entry) (taken 
 
   -- the winners among the contenders `who` of a pot
   pub better-wins : (who i : ℕ) → who < 2 ^ 10 → 0 < ones 10 who → i < 10 → ((j : ℕ) → j < 10 → bitAt who j ≡ 1 → Shown j)
-      → (bitAt (winnersOf (scoresOf t) who) i ≡ 1 → (bitAt who i ≡ 1) × ((j : ℕ) → j < 10 → bitAt who j ≡ 1 → beatsBy places (best j) (best i) ≡ false))
-      × ((bitAt who i ≡ 1) × ((j : ℕ) → j < 10 → bitAt who j ≡ 1 → beatsBy places (best j) (best i) ≡ false) → bitAt (winnersOf (scoresOf t) who) i ≡ 1)
+      → (bitAt (winnersOf (scoresOf t) who) i ≡ 1 → (bitAt who i ≡ 1) × ((j : ℕ) → j < 10 → bitAt who j ≡ 1 → beatsBy ranking52 (best j) (best i) ≡ false))
+      × ((bitAt who i ≡ 1) × ((j : ℕ) → j < 10 → bitAt who j ≡ 1 → beatsBy ranking52 (best j) (best i) ≡ false) → bitAt (winnersOf (scoresOf t) who) i ≡ 1)
   better-wins who i w p l s =
       let a = winners-are (scoresOf t) who i (rw ten w) (rw ten p) (omega (arith, ten)) in (
         λ e. let q = a .0 e in (q .0, λ j m c. not-beaten i j l m (s i l (q .0)) (s j m c) (q .1 j (omega (arith, ten)) c)),
