@@ -19,14 +19,14 @@ use Rattle.paper.specs.declared.Entry.{Entry}
 use Rattle.paper.specs.declared.Entry.the-variants.{Sit, Leave, Hand, Hole, Fold, Check, Call, Wager, Board, Dead, Settle, Void}
 use Rattle.pots.specs.Runs.{padded, Alike, none, same}
 use Rattle.pots.specs.declared.Pot.{Pot}
-use Rattle.text.specs.Block.{restOf, blockOf}
+use Rattle.blocks.specs.Block.{restOf, blockOf}
 use Rattle.text.specs.Line.{numberLine}
-use Rattle.text.specs.Entry.{parsedOf}
+use Rattle.blocks.specs.Entry.{parsedOf}
 use Rattle.text.specs.TableSheet.{sheetOf, sheetEnd}
 use Rattle.text.proofs.SheetLaws.{sheet-is}
-use Rattle.text.specs.declared.Block.{Block}
-use Rattle.text.specs.declared.Block.the-variants.{Raw, Malformed, Nothing}
-use Rattle.text.specs.declared.Parsed.{Parsed}
+use Rattle.blocks.specs.declared.Block.{Block}
+use Rattle.blocks.specs.declared.Block.the-variants.{Raw, Malformed, Nothing}
+use Rattle.blocks.specs.declared.Parsed.{Parsed}
 use Rattle.text.specs.declared.sheet.Opening.{Opening}
 use Rattle.text.specs.declared.sheet.Opening.the-variants.{Read}
 use Rattle.table.specs.declared.table.Table.{Table}
@@ -58,7 +58,7 @@ use Rattle.history.proofs.Reached.{reached-standing}
 use Rattle.history.proofs.Turns.{turn-as-noted}
 use Rattle.mission.proofs.Payout.{payout-right}
 use Rattle.mission.proofs.Reached.{Reaches, taken-next, one-reached, fresh-reached}
-use Rattle.text.specs.declared.Parsed.the-variants as parsed
+use Rattle.blocks.specs.declared.Parsed.the-variants as parsed
 
 alike-amounts : {R : ℕ → ℕ → Type 0} {ps qs : List Pot} → Alike R ps qs → amountsOf ps ≡ amountsOf qs
 alike-amounts none = refl

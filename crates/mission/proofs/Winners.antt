@@ -19,7 +19,7 @@ use Rattle.paper.specs.declared.Sheet.{Sheet}
 use Rattle.paper.specs.declared.Entry.{Entry}
 use Rattle.paper.specs.declared.Entry.the-variants.{Settle}
 use Rattle.paper.proofs.Codes.{or-zero, when-zero}
-use Rattle.cards.specs.Order.{places, beatsBy, bestOf}
+use Rattle.cards.specs.Order.{ranking52, beatsBy, bestOf}
 use Rattle.cards.proofs.Above.{beats-irrefl}
 use Rattle.pots.specs.Heights.{has, chipsAt, liveOf, maskAt, contenders, contested, contest}
 use Rattle.pots.specs.Runs.{potsOf}
@@ -168,10 +168,10 @@ module _ (sheet : Sheet) (ok : isSheet sheet ≡ true) (es : List Entry) (taken 
       both-are false b p q = absurd (true≢false (sym p))
 
   -- one best hand beats another exactly where it counts more
-  compare : (x y : ℕ) → Shown x → Shown y → beatsBy places (bestAt n x) (bestAt n y) ≡ ltb (scoreBy (n .board .cards) (partAt n y)) (scoreBy (n .board .cards) (partAt n x))
+  compare : (x y : ℕ) → Shown x → Shown y → beatsBy ranking52 (bestAt n x) (bestAt n y) ≡ ltb (scoreBy (n .board .cards) (partAt n y)) (scoreBy (n .board .cards) (partAt n x))
   unfolding scoreOf handScore scoreBy
   compare x y p q =
-      sym (ap₂ (λ (a b : List ℕ). beatsBy places (bestOf places a) (bestOf places b)) (same-cards x) (same-cards y))
+      sym (ap₂ (λ (a b : List ℕ). beatsBy ranking52 (bestOf ranking52 a) (bestOf ranking52 b)) (same-cards x) (same-cards y))
       ∙ scores-compare sheet es (taken .1) x y (shown-at x ∙ p) (shown-at y ∙ q)
       ∙ ap₂ ltb (score-at y) (score-at x)
     where
@@ -224,7 +224,7 @@ module _ (sheet : Sheet) (ok : isSheet sheet ≡ true) (es : List Entry) (taken 
         record {
           wins = λ i l e.
               let q = winners-are (scoresBy n) (p .who) i low some l .0 e in
-              (q .0, λ j k c. subst (λ (z : ℕ). beatsBy places (bestAt n (suc j)) (bestAt n (suc z)) ≡ false) (only-bit 10 (p .who) j i k l c (q .0) (omega arith)) (beats-irrefl places (bestAt n (suc j))));
+              (q .0, λ j k c. subst (λ (z : ℕ). beatsBy ranking52 (bestAt n (suc j)) (bestAt n (suc z)) ≡ false) (only-bit 10 (p .who) j i k l c (q .0) (omega arith)) (beats-irrefl ranking52 (bestAt n (suc j))));
           unbeaten = λ i l q. ap (λ (w : ℕ). bitAt w i) (winners-sole (scoresBy n) (p .who) m) ∙ q .0;
           sole = λ e scores len. winners-sole scores (p .who) (ap (λ (k : ℕ). ones k (p .who)) len ∙ e);
         }

@@ -15,12 +15,12 @@ use Rattle.paper.specs.declared.Entry.{Entry}
 use Rattle.paper.specs.declared.Entry.the-variants.{Sit, Settle}
 use Rattle.pots.specs.declared.Pot.{Pot}
 use Rattle.pots.specs.Hand.{reach}
-use Rattle.text.specs.Entry.{parsedOf}
+use Rattle.blocks.specs.Entry.{parsedOf}
 use Rattle.text.specs.Line.{numberLine}
-use Rattle.text.specs.declared.Block.{Block}
-use Rattle.text.specs.declared.Block.the-variants.{Raw, Malformed, Nothing}
-use Rattle.text.specs.declared.Parsed.{Parsed}
-use Rattle.text.specs.declared.Parsed.the-variants.{Read, OutOfRange}
+use Rattle.blocks.specs.declared.Block.{Block}
+use Rattle.blocks.specs.declared.Block.the-variants.{Raw, Malformed, Nothing}
+use Rattle.blocks.specs.declared.Parsed.{Parsed}
+use Rattle.blocks.specs.declared.Parsed.the-variants.{Read, OutOfRange}
 use Rattle.answers.specs.declared.Row.{Row}
 use Rattle.answers.specs.declared.Payout.{Payout}
 use Rattle.answers.specs.declared.Shown.{Shown}

@@ -12,7 +12,7 @@ use Rattle.paper.specs.declared.Entry.{Entry}
 use Rattle.paper.specs.declared.Entry.the-variants.{Sit, Hand, Call, Wager}
 use Rattle.cards.specs.Cards.{sameList}
 use Rattle.cards.specs.Hands.{valueOf}
-use Rattle.cards.specs.Order.{places, key, beatsBy, bestOf}
+use Rattle.cards.specs.Order.{ranking52, key, beatsBy, bestOf}
 use Rattle.pots.specs.Heights.{backOf, returnedOf}
 use Rattle.pots.specs.Runs.{potsOf}
 use Rattle.pots.specs.Settle.{feesOf, sharesOf}
@@ -39,11 +39,11 @@ pub data Row : Type 0 where
   gives : List ℕ → List ℕ → Row
 
 abbrev pub passes : Row → Bool
-passes (wins a b) = beatsBy places (valueOf a) (valueOf b)
-passes (ties a b) = both (not (beatsBy places (valueOf a) (valueOf b))) (not (beatsBy places (valueOf b) (valueOf a)))
-passes (is a k) = eqb ((valueOf a) .class) k
-passes (winsAll a k) = ltb (getD places k 0) (getD places ((valueOf a) .class) 0)
-passes (best a b) = sameList (key places (bestOf places a)) (key places (valueOf b))
+passes (wins a b) = beatsBy ranking52 (valueOf ranking52 a) (valueOf ranking52 b)
+passes (ties a b) = both (not (beatsBy ranking52 (valueOf ranking52 a) (valueOf ranking52 b))) (not (beatsBy ranking52 (valueOf ranking52 b) (valueOf ranking52 a)))
+passes (is a k) = eqb ((valueOf ranking52 a) .class) k
+passes (winsAll a k) = ltb (getD (ranking52 .places) k 0) (getD (ranking52 .places) ((valueOf ranking52 a) .class) 0)
+passes (best a b) = sameList (key ranking52 (bestOf ranking52 a)) (key ranking52 (valueOf ranking52 b))
 passes (gives got want) = sameList got want
 
 abbrev pub allPass : List Row → Bool

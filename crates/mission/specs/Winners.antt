@@ -9,7 +9,7 @@ use lib.ListN.{length}
 use Rattle.laws.specs.Bits.{bitAt, ones}
 use Rattle.laws.specs.Lists.{sumOf}
 use Rattle.laws.specs.Tests.{pick}
-use Rattle.cards.specs.Order.{places, beatsBy, bestOf}
+use Rattle.cards.specs.Order.{ranking52, beatsBy, bestOf}
 use Rattle.cards.specs.declared.Hand.{Hand}
 use Rattle.pots.specs.Hand.{winnersOf}
 use Rattle.pots.specs.Heights.{returnedOf}
@@ -17,7 +17,7 @@ use Rattle.pots.specs.declared.Pot.{Pot}
 use Rattle.history.specs.Notebook.{Notebook, tenSeats, partAt, putsBy, livesBy, scoreBy, here}
 
 abbrev pub bestAt : Notebook → ℕ → Hand
-bestAt n x = bestOf places (partAt n x .first ∷ partAt n x .second ∷ n .board .cards)
+bestAt n x = bestOf ranking52 (partAt n x .first ∷ partAt n x .second ∷ n .board .cards)
 
 abbrev pub scoresBy : Notebook → List ℕ
 scoresBy n = map (λ x. scoreBy (n .board .cards) (partAt n x)) tenSeats
@@ -31,7 +31,7 @@ Wins n p i = bitAt (winnersOf (scoresBy n) (p .who)) i ≡ 1
 
 -- it contends, and no contender's best hand beats its own
 abbrev pub Unbeaten : Notebook → Pot → ℕ → Type 0
-Unbeaten n p i = Contends p i × ((j : ℕ) → j < 10 → Contends p j → beatsBy places (bestAt n (suc j)) (bestAt n (suc i)) ≡ false)
+Unbeaten n p i = Contends p i × ((j : ℕ) → j < 10 → Contends p j → beatsBy ranking52 (bestAt n (suc j)) (bestAt n (suc i)) ≡ false)
 
 -- "shared equally by the contenders with the best hand"; "A sole contender needs no cards": it wins whatever the hands count
 pub record BestWin (n : Notebook) (p : Pot) : Type 0 where
