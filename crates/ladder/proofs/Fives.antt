@@ -11,7 +11,7 @@ use native.Mathlib.Omega.{arith}
 use native.Mathlib.Decide.{decLt}
 use lib.Dec.{eqb, ltb}
 use lib.ListN.{length, getD}
-use borrow.Author.Tests.{eqb-true, ltb-true, ltb-false, lt-ltb, eq-eqb, ne-eqb}
+use borrow.Author.Tests.{eqb-true, ltb-true, ltb-false, lt-ltb, le-ltb, eq-eqb, ne-eqb}
 use Rattle.laws.specs.Tests.{one, both, either}
 use Rattle.laws.specs.Often.{count}
 use Rattle.laws.specs.Some.{some}
@@ -21,6 +21,7 @@ use Rattle.laws.proofs.Five.{five-list}
 use Rattle.cards.specs.Cards.{suit, before, put, inOrder, ordered, isWheel, lowered, inRow, allAre, allAlike, oneSuit}
 use Rattle.cards.specs.Hands.{hand, classOf, mostHeld, nextHeld, ranksOf, classOfCards, valueOf}
 use Rattle.cards.specs.Reading.{anyAbove, isAmong, anyTwice}
+use Rattle.cards.specs.Weigh.{weigh, fall}
 use Rattle.cards.specs.declared.Hand.{Hand}
 use Rattle.cards.proofs.Mixed.{value-same}
 use Rattle.cards.proofs.Mixing.{Within, within-choice}
@@ -28,6 +29,7 @@ use Rattle.ladder.specs.Ladder.{ladder, worth52, FiveCards, Valid}
 use Rattle.ladder.specs.Reckoned.{chosenOf, less, twoBelow, threeBelow, fiveBelow, rowPlace, besidePlace, fourPlace, fullPlace, rowsBelow, oddPlace, threePlace, twoPairPlace, pairPlace, reckonedAs, reckoned}
 use Rattle.ladder.proofs.Members.{count-has, has-some}
 use Rattle.ladder.proofs.Choosing.{Drops, choice-drops}
+use Rattle.ladder.proofs.Worth.{worthAs, worthBy, worthOf, worth-is}
 use Rattle.ladder.proofs.Shapes.{on-ladder}
 
 abbrev Sinks : ℕ → List ℕ → Type 0
@@ -56,10 +58,6 @@ every-at (suc k) (suc b) f e (y ∷ l) n s =
     ]
 
 -- ---- five ranks
--- what five cards of these ranks are worth, told whether they are of one suit
-worthOf : Bool → List ℕ → Hand
-worthOf flush rs = hand (classOf (inRow (lowered (ordered rs))) flush (mostHeld rs) (nextHeld rs)) (lowered (ordered rs))
-
 -- ranks counted from 0: their hand has a place
 stands : Bool → List ℕ → Bool
 stands flush xs = ltb 0 (reckoned (worthOf flush (map (λ x. x + 2) xs)))
@@ -75,12 +73,15 @@ right : List ℕ → Bool
 right xs = both (either (eqb (getD xs 0 0) (getD xs 4 0)) (stands false xs)) (either (not (dropping xs)) (stands true xs))
 
 all-right : everySinking 5 13 right ≡ true
-unfolding everySinking right stands dropping worthOf before put inOrder ordered isWheel lowered inRow classOf chosenOf less twoBelow threeBelow fiveBelow rowPlace besidePlace fourPlace fullPlace rowsBelow oddPlace threePlace twoPairPlace pairPlace reckonedAs
+unfolding everySinking right stands dropping worthOf worthBy worthAs weigh fall isWheel lowered inRow classOf chosenOf less twoBelow threeBelow fiveBelow rowPlace besidePlace fourPlace fullPlace rowsBelow oddPlace threePlace twoPairPlace pairPlace reckonedAs
 all-right = refl
 
 either-next : (a b : Bool) → either a b ≡ true → a ≡ false → b ≡ true
 either-next true b h e = absurd (true≢false e)
 either-next false b h e = h
+
+low : (x : ℕ) → x < 52 → ltb 51 x ≡ false
+low x h = le-ltb 51 x (omega arith)
 
 -- ---- five cards from high to low
 module _ (a b c d e : ℕ) (f : Drops 52 (a ∷ b ∷ c ∷ d ∷ e ∷ [])) where
@@ -122,13 +123,13 @@ module _ (a b c d e : ℕ) (f : Drops 52 (a ∷ b ∷ c ∷ d ∷ e ∷ [])) whe
       let p = both-true (either (eqb (a / 4) (e / 4)) (stands false fourths)) (either (not (dropping fourths)) (stands true fourths)) is-right in
       either-next (not (dropping fourths)) (stands true fourths) (p .1) (ap not (flush-drops h))
 
-  worth-is : worth52 cards ≡ worthOf (oneSuit cards) (map (λ x. x + 2) fourths)
-  unfolding worthOf valueOf classOfCards ranksOf
-  worth-is = refl
+  none-high : anyAbove cards ≡ false
+  unfolding some
+  none-high = rw (low a (omega (arith, f .0)), low b (omega (arith, f .0, f .1 .0)), low c (omega (arith, f .0, f .1 .0, f .1 .1 .0)), low d (omega (arith, f .0, f .1 .0, f .1 .1 .0, f .1 .1 .1 .0)), low e (omega (arith, f .0, f .1 .0, f .1 .1 .0, f .1 .1 .1 .0, f .1 .1 .1 .1 .0)))
 
   pub five-stand : List·Memᴰ (worth52 cards) ladder
   unfolding stands
-  five-stand = on-ladder (worth52 cards) (subst (λ (h : Hand). 0 < reckoned h) (sym worth-is) (go (oneSuit cards) refl))
+  five-stand = on-ladder (worth52 cards) (subst (λ (h : Hand). 0 < reckoned h) (sym (worth-is cards none-high)) (go (oneSuit cards) refl))
     where
       go : (s : Bool) → oneSuit cards ≡ s → 0 < reckoned (worthOf s (map (λ x. x + 2) fourths))
       go true h = ltb-true 0 _ (flush-stands h)
