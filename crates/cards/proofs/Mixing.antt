@@ -21,6 +21,8 @@ use Rattle.cards.specs.declared.Ranking.{Ranking}
 use Rattle.cards.proofs.Kept.{bestOf-best}
 use Rattle.cards.proofs.Only.{best-only}
 use Rattle.cards.proofs.Mixed.{value-same}
+use Rattle.cards.proofs.Falls.{fall-same}
+use Rattle.cards.specs.Falls.{fall}
 
 abbrev pub Within : List ℕ → List ℕ → Type 0
 Within c l = (x : ℕ) → count x c ≤ count x l
@@ -76,3 +78,6 @@ module _ (t : Ranking) where
         among = same-choice 5 l m s (bestOf t l) (b .among);
         top = λ h i. b .top h (same-choice 5 m l (λ x. sym (s x)) h i);
       })
+
+  pub seven-same : Placed t → (l : List ℕ) → length l ≡ 7 → bestOf t (fall l) ≡ bestOf t l
+  seven-same p l n = best-same p (fall l) l (omega (arith, same-length (fall l) l (fall-same l), n)) (fall-same l)

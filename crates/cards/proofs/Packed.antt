@@ -10,7 +10,7 @@ use lib.ListN.{getD, length}
 use native.Mathlib.Decide.{decLt}
 use Rattle.laws.proofs.Compare.{Tri, under, level, over, tri}
 use Rattle.cards.specs.Order.{above, key, beatsBy, Placed}
-use Rattle.cards.specs.Weigh.{Below}
+use Rattle.cards.specs.Falls.{Below}
 use Rattle.cards.specs.Packed.{digits, classIn, handIn, IsHand}
 use Rattle.cards.specs.declared.Hand.{Hand}
 use Rattle.cards.specs.declared.Ranking.{Ranking}

@@ -1,29 +1,36 @@
 -- `cards::choose::best_by` meets its contract. Assumes nothing.
-use mathlib.Core.Path.{_≡_, _∙_}
-use native.Mathlib.Omega.{arith}
-use lib.ListN.{length}
-use Rattle.cards.proofs.Searched.{none-is, found-none, found-best}
+use mathlib.Core.Path.{ap, _∙_}
+use Rattle.cards.specs.Order.{bestOf}
+use Rattle.cards.proofs.Mixing.{seven-same}
 use borrow.Author.Needs.{needs}
 use Rattle.cards.proofs.choose.best_by.Statement.{statement}
 use Rattle.cards.proofs.choose.best_by.Tie as tie
 
-hand-in-requires : tie.Need-hand-in-requires
-hand-in-requires c κs = search needs
+best-of-choices-requires : tie.Need-best-of-choices-requires
+best-of-choices-requires c κs = search needs
 
 returns : tie.Need-returns
-returns c = found-none _ _ _ (c .before .if1 .taken) (c .hand-in .ensures)
+returns c = c .best-of-choices .ensures
 
-best-requires : tie.Need-best-requires
-best-requires c κs =
-    let n : length (c .before .before .args .ranking .places) ≡ 9 = search needs in
-    (omega arith, omega arith, omega arith, c .before .before .pre, none-is (c .before .before .args .ranking) n)
+fallen-seven-requires : tie.Need-fallen-seven-requires
+fallen-seven-requires c κs = search needs
 
-hand-in-requires-2 : tie.Need-hand-in-requires-2
-hand-in-requires-2 c κs = search needs
+slice-aggregate-best-of-choices : tie.Need-slice-aggregate-best-of-choices
+slice-aggregate-best-of-choices c = search needs
+
+best-of-choices-requires-2 : tie.Need-best-of-choices-requires-2
+best-of-choices-requires-2 c κs = search needs
 
 returns-2 : tie.Need-returns-2
-returns-2 c = found-best _ _ _ (c .hand-in2 .ensures ∙ c .before .best .ensures .0)
+returns-2 c = c .best-of-choices2 .ensures ∙ ap (bestOf (c .before .before .before .before .before .args .ranking)) (c .before .before .fallen-seven .ensures) ∙ seven-same (c .before .before .before .before .before .args .ranking) (c .before .before .before .before .before .pre) _ (c .before .before .before .if1 .left)
 
 pub best-by-spec : {M : Type 1} → statement M
 best-by-spec =
-    tie.close (tie.spec hand-in-requires returns best-requires hand-in-requires-2 returns-2)
+    tie.close
+    (tie.spec
+    best-of-choices-requires
+    returns
+    fallen-seven-requires
+    slice-aggregate-best-of-choices
+    best-of-choices-requires-2
+    returns-2)

@@ -8,7 +8,7 @@ five-in-requires : tie.Need-five-in-requires
 five-in-requires c κs = search needs
 
 value-requires : tie.Need-value-requires
-value-requires c κs = search needs
+value-requires c κs = c .before .pre .0
 
 number-of-requires : tie.Need-number-of-requires
 number-of-requires c κs = class-small _ _ _ (c .value .ensures)
