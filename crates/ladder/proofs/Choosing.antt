@@ -1,6 +1,5 @@
 -- The choices of k of a list of numbers that falls: they fall, every one falls, every list of k of its numbers that falls is among them, and
 -- there are as many as the binomial says. For any k and any length. General (but for `choices`, which crate cards defines). Assumes nothing.
--- each is below the one before, and the first below x
 use mathlib.Core.Path.{_≡_, refl, sym, ap₂, _∙_, subst}
 use mathlib.Core.Bool.{Bool, true, false, cond}
 use mathlib.Core.Logic.{⊎-elim}
@@ -15,6 +14,7 @@ use Rattle.ladder.specs.Listing.{those, binomial}
 use Rattle.ladder.proofs.Members.{all-at, at-all}
 use Rattle.ladder.proofs.Standing.{FallsBy, falls-append}
 
+-- each is below the one before, and the first below x
 abbrev pub Drops : ℕ → List ℕ → Type 0
 Drops x [] = Unit {0}
 Drops x (y ∷ l) = (y < x) × Drops y l

@@ -12,7 +12,7 @@ use Rattle.laws.proofs.Tests.{test}
 use Rattle.laws.proofs.Compare.{same-test}
 use Rattle.cards.specs.Cards.{inRow}
 use Rattle.cards.specs.Hands.{hand}
-use Rattle.cards.specs.Order.{places, key, above}
+use Rattle.cards.specs.Order.{ranking52, key, above}
 use Rattle.cards.specs.declared.Hand.{Hand}
 use Rattle.cards.proofs.Above.{tie-same}
 use Rattle.ladder.specs.Ladder.{ladder, beats52, Tie52, worth52, FiveCards, Valid, placeOf}
@@ -35,13 +35,13 @@ module _ (h g : Hand) (v : Valid h) (w : Valid g) where
   tied : Tie52 h g → placeOf h ≡ placeOf g
   tied t =
       on-place h (valid-stands h v)
-      ∙ ap (λ (k : List ℕ). suc (tally (λ x. above k (key places x)) ladder)) t
+      ∙ ap (λ (k : List ℕ). suc (tally (λ x. above k (key ranking52 x)) ladder)) t
       ∙ sym (on-place g (valid-stands g w))
 
 module _ (h g : Hand) (v : Valid h) (w : Valid g) where
   level : placeOf h ≡ placeOf g → Tie52 h g
   level e =
-      tie-same places h g
+      tie-same ranking52 h g
       (⊎-elim (λ (b : beats52 h g ≡ true). absurd (omega (arith, e, higher h g v w b))) (λ b. b) (test (beats52 h g)))
       (⊎-elim (λ (b : beats52 g h ≡ true). absurd (omega (arith, e, higher g h w v b))) (λ b. b) (test (beats52 g h)))
 
@@ -51,7 +51,7 @@ module _ (h g : Hand) (v : Valid h) (w : Valid g) where
       (λ (b : beats52 h g ≡ false).
       ⊎-elim
       (λ (c : beats52 g h ≡ true). absurd (omega (arith, l, higher g h w v c)))
-      (λ (c : beats52 g h ≡ false). absurd (omega (arith, l, tied h g v w (tie-same places h g b c))))
+      (λ (c : beats52 g h ≡ false). absurd (omega (arith, l, tied h g v w (tie-same ranking52 h g b c))))
       (test (beats52 g h)))
       (test (beats52 h g))
 

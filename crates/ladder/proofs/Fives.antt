@@ -1,7 +1,5 @@
 -- What five different cards are worth stands on the ladder. The cards may be taken from high to low; then their ranks sink, and antt computes for every
 -- five ranks that do that the closed form gives their hand a place. Assumes nothing.
--- ---- every list of numbers that sinks
--- none is above the one before, and the first is below b
 use mathlib.Core.Path.{_≡_, refl, sym, ap, _∙_, subst}
 use mathlib.Core.Bool.{Bool, true, false, not, _||_, true≢false}
 use mathlib.Core.Logic.{⊎-elim}
@@ -18,8 +16,8 @@ use Rattle.laws.specs.Some.{some}
 use Rattle.laws.proofs.Tests.{test, both-true}
 use Rattle.laws.proofs.Often.{count-self, one-small, same-length}
 use Rattle.laws.proofs.Five.{five-list}
-use Rattle.cards.specs.Cards.{suit, before, put, inOrder, ordered, isWheel, lowered, inRow, allAre, allAlike, oneSuit}
-use Rattle.cards.specs.Hands.{hand, classOf, mostHeld, nextHeld, ranksOf, classOfCards, valueOf}
+use Rattle.cards.specs.Cards.{isWheel, lowered, inRow, allAre, allAlike, oneSuit}
+use Rattle.cards.specs.Hands.{ranking52, classOf}
 use Rattle.cards.specs.Reading.{anyAbove, isAmong, anyTwice}
 use Rattle.cards.specs.Weigh.{weigh, fall}
 use Rattle.cards.specs.declared.Hand.{Hand}
@@ -32,6 +30,8 @@ use Rattle.ladder.proofs.Choosing.{Drops, choice-drops}
 use Rattle.ladder.proofs.Worth.{worthAs, worthBy, worthOf, worth-is}
 use Rattle.ladder.proofs.Shapes.{on-ladder}
 
+-- ---- every list of numbers that sinks
+-- none is above the one before, and the first is below b
 abbrev Sinks : ℕ → List ℕ → Type 0
 Sinks b [] = Unit {0}
 Sinks b (y ∷ l) = (y < b) × Sinks (suc y) l
@@ -199,7 +199,7 @@ five-fall l n d =
 pub worth-stands : (l : List ℕ) → FiveCards l → List·Memᴰ (worth52 l) ladder
 worth-stands l f =
     let t = within-choice 5 (down 52) l (of-deck l f) (f .0) in
-    Memᴰ·cast (value-same l (t .0) (t .2)) (five-fall (t .0) (sym (same-length l (t .0) (t .2)) ∙ f .0) (choice-drops 52 5 (down 52) (t .0) (down-drops 52) (t .1)))
+    Memᴰ·cast (value-same ranking52 l (t .0) (t .2)) (five-fall (t .0) (sym (same-length l (t .0) (t .2)) ∙ f .0) (choice-drops 52 5 (down 52) (t .0) (down-drops 52) (t .1)))
 
 pub valid-stands : (h : Hand) → Valid h → List·Memᴰ h ladder
 valid-stands h v = Memᴰ·cast (v .2) (worth-stands (v .0) (v .1))

@@ -1,5 +1,4 @@
 -- What is an element of a list, of some of a list, of lists joined: for any element type and any length. General. Assumes nothing.
--- each element passes
 use mathlib.Core.Path.{_≡_, refl, sym, ap, ap₂, _∙_, subst}
 use mathlib.Core.Bool.{Bool, true, false, cond, _||_, false≢true}
 use mathlib.Core.Logic.{_⊎_, inl, inr, ⊎-elim}
@@ -16,6 +15,7 @@ use Rattle.cards.specs.Cards.{sameList}
 use Rattle.laws.proofs.Tests.{test, both-true}
 use Rattle.ladder.specs.Listing.{each, those}
 
+-- each element passes
 abbrev pub allPass : {A : Type 0} → (A → Bool) → List A → Bool
 allPass f [] = true
 allPass f (x ∷ l) = both (f x) (allPass f l)

@@ -1,6 +1,5 @@
 -- A list that falls: each element is above all that follow it. How many an element is above tells the elements apart as the order does, and in a list
 -- that falls it counts down from the list's length. For any order and any length. General. Assumes nothing.
--- each is above all that follow
 use mathlib.Core.Path.{_≡_, refl, sym, ap, _∙_}
 use mathlib.Core.Bool.{Bool, true, false, false≢true}
 use mathlib.Core.Logic.{⊎-elim}
@@ -18,6 +17,7 @@ use Rattle.laws.proofs.Tests.{test, both-true}
 use Rattle.laws.proofs.Often.{one-small, tally-most}
 use Rattle.ladder.proofs.Members.{all-at, all-append}
 
+-- each is above all that follow
 abbrev pub FallsBy : {A : Type 0} → (A → A → Bool) → List A → Type 0
 FallsBy r [] = Unit {0}
 FallsBy r (x ∷ l) = All (λ y. r x y ≡ true) l × FallsBy r l

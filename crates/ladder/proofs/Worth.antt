@@ -12,7 +12,7 @@ use borrow.Author.Tests.{ltb-false}
 use Rattle.laws.specs.Lists.{All}
 use Rattle.laws.proofs.Tests.{test}
 use Rattle.cards.specs.Cards.{rank, ordered, lowered, inRow, oneSuit}
-use Rattle.cards.specs.Hands.{hand, holdings, classOf, ranksOf, classOfCards, valueOf}
+use Rattle.cards.specs.Hands.{ranking52, hand, holdings, classOf, ranksOf, classOfCards, valueOf}
 use Rattle.cards.specs.Weigh.{weigh, fall, rankIn, timesIn, Small}
 use Rattle.cards.specs.Reading.{anyAbove}
 use Rattle.cards.specs.declared.Hand.{Hand}
@@ -22,7 +22,7 @@ use Rattle.ladder.proofs.Members.{at-all, has-some}
 
 -- from the ranks in order, and how often each is held
 unfoldable pub worthAs : Bool → List ℕ → List ℕ → Hand
-worthAs flush os held = hand (classOf (inRow (lowered os)) flush (getD held 0 0) (getD held (getD held 0 0) 0)) (lowered os)
+worthAs flush os held = hand (classOf (inRow (lowered (ranking52 .foot) os)) flush (getD held 0 0) (getD held (getD held 0 0) 0)) (lowered (ranking52 .foot) os)
 
 -- by a number for each rank, from high to low
 unfoldable pub worthBy : Bool → List ℕ → Hand

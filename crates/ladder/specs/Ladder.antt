@@ -1,6 +1,5 @@
 -- Document 02, request No. 11, "Hands kept as a place": the classes of equal five-card hands that exist with 52 cards, top down, and the place of a
 -- hand among them. Assumes nothing.
--- the ranks, from the ace down
 use mathlib.Core.Bool.{Bool, false, not}
 use mathlib.Core.Path.{_≡_}
 use mathlib.Core.List.{List, [], _∷_, _++_, map}
@@ -12,11 +11,12 @@ use Rattle.laws.specs.Often.{tally, count}
 use Rattle.laws.specs.Some.{some}
 use Rattle.cards.specs.Cards.{sameList, inRow}
 use Rattle.cards.specs.Hands.{hand, valueOf}
-use Rattle.cards.specs.Order.{places, beatsBy, choices, Tie}
+use Rattle.cards.specs.Order.{ranking52, beatsBy, choices, Tie}
 use Rattle.cards.specs.Reading.{anyAbove, anyTwice}
 use Rattle.cards.specs.declared.Hand.{Hand}
 use Rattle.ladder.specs.Listing.{each, those}
 
+-- the ranks, from the ace down
 abbrev pub ranks : List ℕ
 ranks = 14 ∷ 13 ∷ 12 ∷ 11 ∷ 10 ∷ 9 ∷ 8 ∷ 7 ∷ 6 ∷ 5 ∷ 4 ∷ 3 ∷ 2 ∷ []
 
@@ -96,7 +96,7 @@ isOn h = some (λ g l. sameList (listed h) (listed g)) ladder
 
 -- of 52 cards, one hand beats another
 abbrev pub beats52 : Hand → Hand → Bool
-beats52 h g = beatsBy places h g
+beats52 h g = beatsBy ranking52 h g
 
 -- "Keep a hand as its place": one more than how many stand below it; 0 where it does not stand on the ladder
 unfoldable pub placeOf : Hand → ℕ
@@ -104,11 +104,11 @@ placeOf h = pick (isOn h) (suc (tally (beats52 h) ladder)) 0
 
 -- of 52 cards, two hands tie
 abbrev pub Tie52 : Hand → Hand → Type 0
-Tie52 h g = Tie places h g
+Tie52 h g = Tie ranking52 h g
 
 -- what five of the 52 cards are worth
 abbrev pub worth52 : List ℕ → Hand
-worth52 cards = valueOf cards
+worth52 cards = valueOf ranking52 cards
 
 -- five different cards of 52
 abbrev pub FiveCards : List ℕ → Type 0

@@ -1,9 +1,9 @@
 -- Lists made of lists: what is listed for each element, and the elements that pass a test. General: nothing here is about cards. Assumes nothing.
--- for each element, one after another, what f lists
 use mathlib.Core.Bool.{Bool, cond}
 use mathlib.Core.List.{List, [], _∷_, _++_}
 use Prim.Native.Nat.{ℕ, zero, suc, _+_}
 
+-- for each element, one after another, what f lists
 abbrev pub each : {A B : Type 0} → List A → (A → List B) → List B
 each [] f = []
 each (x ∷ l) f = f x ++ each l f

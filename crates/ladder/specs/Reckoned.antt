@@ -1,7 +1,6 @@
 -- No section of the paper: how the code finds a hand's place without a ladder. The hands that stand lower are counted: those of lower classes, which
 -- stand in a table of nine, and those of its own class, by the number of choices of k ranks of n. A hand whose ranks are not those of its class has
 -- no place. proofs/Reckons.antt shows that this is the place on the ladder. Assumes nothing.
--- how many choices of k there are of n, for n from 0 to 12, row by row from k = 0 to k = 5 (proofs/Reckons.antt: these are the binomials)
 use mathlib.Core.Bool.{Bool}
 use mathlib.Core.List.{List, [], _∷_}
 use Prim.Native.Nat.{ℕ, _+_, _-_, _*_}
@@ -12,6 +11,7 @@ use Rattle.cards.specs.Cards.{inRow}
 use Rattle.cards.specs.declared.Hand.{Hand}
 use Rattle.ladder.specs.Ladder.{ranksIn, isStraight}
 
+-- how many choices of k there are of n, for n from 0 to 12, row by row from k = 0 to k = 5 (proofs/Reckons.antt: these are the binomials)
 abbrev pub pascal : List ℕ
 pascal =
     1 ∷ 1 ∷ 1 ∷ 1 ∷ 1 ∷ 1 ∷ 1 ∷ 1 ∷ 1 ∷ 1 ∷ 1 ∷ 1 ∷ 1
