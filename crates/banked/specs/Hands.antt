@@ -6,7 +6,7 @@ use Prim.Native.Nat.{ℕ, suc}
 use lib.Dec.{eqb, leb}
 use Rattle.laws.specs.Tests.{both, pick}
 use Rattle.cards.specs.Hands.{valueOf}
-use Rattle.cards.specs.Order.{places, bestOf, beatsBy}
+use Rattle.cards.specs.Order.{ranking52, bestOf, beatsBy}
 use Rattle.cards.specs.Reading.{anyAbove, anyTwice}
 pub use Rattle.cards.specs.declared.Hand.{Hand}
 use Rattle.banked.specs.declared.Deal.{Deal}
@@ -23,11 +23,11 @@ communalCards d = d .b1 ∷ d .b2 ∷ d .b3 ∷ d .b4 ∷ d .b5 ∷ []
 
 -- the five of two hole cards and the flop cards
 unfoldable pub flopHandOf : ℕ → ℕ → Deal → Hand
-flopHandOf x y d = valueOf (x ∷ y ∷ flopCards d)
+flopHandOf x y d = valueOf ranking52 (x ∷ y ∷ flopCards d)
 
 -- the best five of two hole cards and the communal cards (4.11: "the highest ranked")
 unfoldable pub handOf : ℕ → ℕ → Deal → Hand
-handOf x y d = bestOf places (x ∷ y ∷ communalCards d)
+handOf x y d = bestOf ranking52 (x ∷ y ∷ communalCards d)
 
 -- "Player's Hand means a 5-card hand comprising of the player's Hole Cards (a) and the Flop Cards, to determine the outcome of a Jackpot Wager and the Player
 -- Poker Extra Wager"
@@ -60,7 +60,7 @@ cardTwice d = anyTwice (allCards d)
 
 -- one hand is ranked higher than another (3.44); "the suit of a card/s has no bearing" (3.45)
 abbrev pub outranks : Hand → Hand → Bool
-outranks h g = beatsBy places h g
+outranks h g = beatsBy ranking52 h g
 
 -- how the player's hand stands to the dealer's: equal is where neither is ranked higher
 unfoldable pub standingOf : Hand → Hand → Standing

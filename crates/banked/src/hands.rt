@@ -5,7 +5,7 @@ use cards::any_above;
 use cards::any_twice;
 use cards::beats;
 use cards::best_hand;
-use cards::value;
+use cards::five_worth;
 ghost use mathlib.Core.Path.{_≡_};
 ghost use Rattle.banked.specs.Hands.{handOf, flopHandOf, allCards, highCard, cardTwice, standingOf, isFlushOrHigher};
 
@@ -28,7 +28,7 @@ pub fn hand_of(x: u8, y: u8, d: Deal) -> Hand
 pub fn flop_hand_of(x: u8, y: u8, d: Deal) -> Hand
     ensures { λ r. ⌜ r ≡ flopHandOf x y d ⌝ }
 {
-    value([x, y, d.b1, d.b2, d.b3])
+    five_worth([x, y, d.b1, d.b2, d.b3])
 }
 
 fn all_cards(d: Deal) -> [u8; 9]

@@ -1,4 +1,5 @@
 -- A hand's worth does not depend on the order in which its cards are listed. For any number of cards. Assumes nothing.
+-- the ranks in order depend only on how often each is held
 use mathlib.Core.Path.{_≡_, refl, sym, ap, ap₂, _∙_, subst}
 use mathlib.Core.Bool.{Bool, true}
 use mathlib.Core.Logic.{⊎-elim}
@@ -15,10 +16,10 @@ use Rattle.laws.proofs.Compare.{same-test}
 use Rattle.laws.proofs.Often.{count-self, same-map, same-length, tally-most}
 use Rattle.cards.specs.Cards.{rank, suit, before, ordered, lowered, inRow, allAre, allAlike, oneSuit, Leads, Falls}
 use Rattle.cards.specs.Hands.{hand, holdings, ranksOf, classOf, classOfCards, valueOf}
+use Rattle.cards.specs.declared.Ranking.{Ranking}
 use Rattle.cards.proofs.Sorted.{ordered-right}
 use Rattle.cards.proofs.Sole.{ordered-only}
 
--- the ranks in order depend only on how often each is held
 module _ (rs ss : List ℕ) (s : SameNumbers rs ss) where
   same-before : (x y : ℕ) → before rs x y ≡ before ss x y
   unfolding before
@@ -72,13 +73,13 @@ same-alike : (l m : List ℕ) → SameNumbers l m → allAlike l ≡ allAlike m
 same-alike l m s = same-test (allAlike l) (allAlike m) (alike-too l m s) (alike-too m l (λ x. sym (s x)))
 
 -- the same cards, listed in any two orders, are worth the same
-pub value-same : (l m : List ℕ) → SameNumbers l m → valueOf l ≡ valueOf m
+pub value-same : (t : Ranking) (l m : List ℕ) → SameNumbers l m → valueOf t l ≡ valueOf t m
 unfolding valueOf classOfCards ranksOf oneSuit
-value-same l m s =
+value-same t l m s =
     let r : SameNumbers (map rank l) (map rank m) = same-map rank l m s in
     let o : ordered (map rank l) ≡ ordered (map rank m) = same-ordered (map rank l) (map rank m) r in
     let h : holdings (map rank l) ≡ holdings (map rank m) = same-holdings (map rank l) (map rank m) r in
     ap₂ hand
-    (ap₂ (λ (f : Bool) (hs : List ℕ). classOf (inRow (lowered (ordered (map rank l)))) f (getD hs 0 0) (getD hs (getD hs 0 0) 0)) (same-alike (map suit l) (map suit m) (same-map suit l m s)) h
-    ∙ ap (λ (os : List ℕ). classOf (inRow (lowered os)) (allAlike (map suit m)) (getD (holdings (map rank m)) 0 0) (getD (holdings (map rank m)) (getD (holdings (map rank m)) 0 0) 0)) o)
-    (ap lowered o)
+    (ap₂ (λ (f : Bool) (hs : List ℕ). classOf (inRow (lowered (t .foot) (ordered (map rank l)))) f (getD hs 0 0) (getD hs (getD hs 0 0) 0)) (same-alike (map suit l) (map suit m) (same-map suit l m s)) h
+    ∙ ap (λ (os : List ℕ). classOf (inRow (lowered (t .foot) os)) (allAlike (map suit m)) (getD (holdings (map rank m)) 0 0) (getD (holdings (map rank m)) (getD (holdings (map rank m)) 0 0) 0)) o)
+    (ap (lowered (t .foot)) o)

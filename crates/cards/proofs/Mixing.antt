@@ -1,4 +1,5 @@
 -- The best hand of some cards, of any number, does not depend on the order in which they are listed. Assumes nothing.
+-- c is of l: no number is more often in it
 use mathlib.Core.Path.{_≡_, refl, sym, ap, _∙_}
 use mathlib.Core.Bool.{false}
 use mathlib.Core.Logic.{⊎-elim}
@@ -14,13 +15,15 @@ use Rattle.laws.specs.Often.{count, SameNumbers}
 use Rattle.laws.proofs.Tests.{test}
 use Rattle.laws.proofs.Often.{without, without-tally, without-length, count-self, same-length}
 use Rattle.cards.specs.Hands.{valueOf}
-use Rattle.cards.specs.Order.{places, choices, bestOf}
+use Rattle.cards.specs.Order.{choices, bestOf, Placed}
 use Rattle.cards.specs.declared.Hand.{Hand}
-use Rattle.cards.proofs.Kept.{bestOf-best, places-placed}
+use Rattle.cards.specs.declared.Ranking.{Ranking}
+use Rattle.cards.proofs.Kept.{bestOf-best}
 use Rattle.cards.proofs.Only.{best-only}
 use Rattle.cards.proofs.Mixed.{value-same}
+use Rattle.cards.proofs.Falls.{fall-same}
+use Rattle.cards.specs.Falls.{fall}
 
--- c is of l: no number is more often in it
 abbrev pub Within : List ℕ → List ℕ → Type 0
 Within c l = (x : ℕ) → count x c ≤ count x l
 
@@ -59,18 +62,22 @@ within-choice (suc k) (a ∷ l) c w n = elim (decLt 0 (count a c)) [
       (r .0, Memᴰ·append-right (map (λ m. a ∷ m) (choices k l)) (r .1), r .2)
 ]
 
--- each choice of the one list is worth what some choice of the other is
-same-choice : (k : ℕ) (l m : List ℕ) → SameNumbers l m → (h : Hand) → List·Memᴰ h (map valueOf (choices k l)) → List·Memᴰ h (map valueOf (choices k m))
-same-choice k l m s h i =
-    let r = Memᴰ·of-map valueOf (choices k l) i in
-    let w = choice-within k l (r .0) (r .1) in
-    let q = within-choice k m (r .0) (λ x. omega (arith, w .0 x, s x)) (w .1) in
-    Memᴰ·cast (sym (r .2) ∙ value-same (r .0) (q .0) (q .2)) (Memᴰ·map valueOf (q .1))
+module _ (t : Ranking) where
+  -- each choice of the one list is worth what some choice of the other is
+  same-choice : (k : ℕ) (l m : List ℕ) → SameNumbers l m → (h : Hand) → List·Memᴰ h (map (valueOf t) (choices k l)) → List·Memᴰ h (map (valueOf t) (choices k m))
+  same-choice k l m s h i =
+      let r = Memᴰ·of-map (valueOf t) (choices k l) i in
+      let w = choice-within k l (r .0) (r .1) in
+      let q = within-choice k m (r .0) (λ x. omega (arith, w .0 x, s x)) (w .1) in
+      Memᴰ·cast (sym (r .2) ∙ value-same t (r .0) (q .0) (q .2)) (Memᴰ·map (valueOf t) (q .1))
 
-pub best-same : (l m : List ℕ) → 5 ≤ length l → SameNumbers l m → bestOf places l ≡ bestOf places m
-best-same l m n s =
-    let b = bestOf-best places places-placed l n in
-    best-only m (omega (arith, same-length l m s)) (bestOf places l) (record {
-      among = same-choice 5 l m s (bestOf places l) (b .among);
-      top = λ h i. b .top h (same-choice 5 m l (λ x. sym (s x)) h i);
-    })
+  pub best-same : Placed t → (l m : List ℕ) → 5 ≤ length l → SameNumbers l m → bestOf t l ≡ bestOf t m
+  best-same p l m n s =
+      let b = bestOf-best t p l n in
+      best-only t p m (omega (arith, same-length l m s)) (bestOf t l) (record {
+        among = same-choice 5 l m s (bestOf t l) (b .among);
+        top = λ h i. b .top h (same-choice 5 m l (λ x. sym (s x)) h i);
+      })
+
+  pub seven-same : Placed t → (l : List ℕ) → length l ≡ 7 → bestOf t (fall l) ≡ bestOf t l
+  seven-same p l n = best-same p (fall l) l (omega (arith, same-length (fall l) l (fall-same l), n)) (fall-same l)

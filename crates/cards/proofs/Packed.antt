@@ -1,22 +1,22 @@
--- Numbers of digits to the base 256: a digit pushed behind the others, and a hand's number, of which the higher beats the lower.
+-- Numbers of digits to the base 256: a digit pushed behind the others, and a hand's number, of which the higher beats the lower, by any ranking that has places.
 -- Assumes nothing.
-use mathlib.Core.Path.{_≡_, refl, ap, ap₂, _∙_}
-use mathlib.Core.Bool.{Bool}
-use mathlib.Core.List.{List, [], _∷_, _++_}
-use Prim.Native.Nat.{ℕ, zero, suc, _*_, _+_, _-_, _/_, _%_, _<_, _≤_}
-use native.Mathlib.Omega.{arith}
-use lib.Dec.{ltb, eqb}
-use lib.ListN.{getD, length}
-use borrow.Author.Tests.{eqb-true}
-use Rattle.laws.proofs.Rows.{row}
-use Rattle.cards.specs.Hands.{hand}
-use Rattle.cards.specs.Order.{places, above, key, beatsBy}
-use Rattle.cards.specs.Weigh.{Below}
-use Rattle.cards.specs.Packed.{digits, handIn, IsHand}
-use Rattle.cards.specs.declared.Hand.{Hand}
-use Rattle.cards.proofs.Spelled.{spellsTo, above-spells}
-
 -- a number and its rest by a have the same last digits, for j of them at most
+use mathlib.Core.Path.{_≡_, refl, sym, ap, ap₂, _∙_}
+use mathlib.Core.List.{List, [], _∷_, _++_}
+use Prim.Native.Nat.{ℕ, zero, suc, _*_, _+_, _/_, _%_, _<_, _≤_}
+use native.Mathlib.Omega.{arith}
+use lib.Dec.{ltb}
+use lib.ListN.{getD, length}
+use native.Mathlib.Decide.{decLt}
+use Rattle.laws.proofs.Compare.{Tri, under, level, over, tri}
+use Rattle.cards.specs.Order.{above, key, beatsBy, Placed}
+use Rattle.cards.specs.Falls.{Below}
+use Rattle.cards.specs.Packed.{digits, classIn, handIn, IsHand}
+use Rattle.cards.specs.declared.Hand.{Hand}
+use Rattle.cards.specs.declared.Ranking.{Ranking}
+use Rattle.cards.proofs.Spelled.{spellsTo, above-spells}
+use Rattle.cards.proofs.Above.{higher, lower, equal}
+
 abbrev Keeps : ℕ → ℕ → Type 0
 Keeps j a = (k n : ℕ) → k ≤ j → digits k (n % a) ≡ digits k n
 
@@ -42,54 +42,75 @@ pub digits-push : (k n c r : ℕ) → k ≤ 4 → r / 256 ≡ n % 4294967296 →
 unfolding digits
 digits-push k n c r le p q = ap₂ (λ (l : List ℕ) (x : ℕ). l ++ (x ∷ [])) (ap (digits k) p ∙ keeps-four k n le) q
 
--- the places fall by one from class to class
-counted : ℕ → ℕ → Bool
-counted k x = eqb x (9 - k)
+-- a number is spelled by its place, its class and its digits
+abbrev seven : ℕ → List ℕ
+seven n = n / 281474976710656 ∷ classIn n ∷ digits 5 n
 
-place-at : (p : ℕ) → p ≤ 9 → getD places (9 - p) 0 ≡ p
-unfolding counted
-place-at zero le = refl
-place-at (suc p) le =
-    let e : 9 - (9 - suc p) ≡ suc p = omega arith in
-    eqb-true (getD places (9 - suc p) 0) (9 - (9 - suc p)) (row 0 counted places refl (9 - suc p) (omega arith)) ∙ e
-
--- a number is spelled by its place and its digits
-abbrev six : ℕ → List ℕ
-six n = n / 1099511627776 ∷ digits 5 n
-
-six-spells : (n : ℕ) → spellsTo 256 0 (six n) ≡ n
+five-spells : (q n : ℕ) → q ≡ n / 1099511627776 → spellsTo 256 q (digits 5 n) ≡ n
 unfolding spellsTo digits
-six-spells n = omega arith
+five-spells q n e = omega arith
 
-six-small : (n : ℕ) → IsHand n → Below 256 (six n)
-unfolding digits
-six-small n h = omega arith
+seven-spells : (n : ℕ) → spellsTo 256 0 (seven n) ≡ n
+unfolding spellsTo
+seven-spells n = five-spells ((0 * 256 + n / 281474976710656) * 256 + classIn n) n (omega arith)
 
-six-long : (n m : ℕ) → length (six n) ≡ length (six m)
-unfolding digits
-six-long n m = refl
+module _ (t : Ranking) where
+  seven-small : (n : ℕ) → IsHand t n → Below 256 (seven n)
+  unfolding digits
+  seven-small n h = omega (arith, h .small)
 
-six-key : (n : ℕ) → IsHand n → key places (handIn n) ≡ six n
-unfolding handIn digits
-six-key n h =
-    ap (λ (p : ℕ). p ∷ n / 256 / 256 / 256 / 256 % 256 ∷ n / 256 / 256 / 256 % 256 ∷ n / 256 / 256 % 256 ∷ n / 256 % 256 ∷ n % 256 ∷ [])
-    (place-at (n / 1099511627776) (omega arith))
+  -- the class is told by its place
+  class-told : Placed t → (k j : ℕ) → k ≤ 9 → j ≤ 9 → getD (t .places) k 0 ≡ getD (t .places) j 0 → k ≡ j
+  class-told p k j h g e = elim (decLt k 9) [
+    | yes a ↦ elim (decLt j 9) [
+      | yes b ↦ p .apart k j a b e
+      | no b ↦ absurd (omega (arith, p .place k a, e, ap (λ (i : ℕ). getD (t .places) i 0) (nine j g b)))
+    ]
+    | no a ↦ elim (decLt j 9) [
+      | yes b ↦ absurd (omega (arith, p .place j b, e, ap (λ (i : ℕ). getD (t .places) i 0) (nine k h a)))
+      | no b ↦ omega arith
+    ]
+  ]
+    where
+      nine : (i : ℕ) → i ≤ 9 → (i < 9 → ⊥) → i ≡ 9
+      nine i le h = omega arith
 
--- of two hands the one with the higher number beats the other
-pub beats-number : (n m : ℕ) → IsHand n → IsHand m → beatsBy places (handIn n) (handIn m) ≡ ltb m n
-beats-number n m p q =
-    ap₂ above (six-key n p) (six-key m q) ∙ above-spells 256 0 (six n) (six m) (six-long n m) (six-small n p) (six-small m q)
-    ∙ ap₂ ltb (six-spells m) (six-spells n)
+  -- a number behind the first that is the same where the first is
+  above-told : (x y c d : ℕ) (l m : List ℕ) → (x ≡ y → c ≡ d) → above (x ∷ c ∷ l) (y ∷ d ∷ m) ≡ above (x ∷ l) (y ∷ m)
+  above-told x y c d l m h = go (tri x y)
+    where
+      go : Tri x y → above (x ∷ c ∷ l) (y ∷ d ∷ m) ≡ above (x ∷ l) (y ∷ m)
+      go (under a) = lower x y (c ∷ l) (d ∷ m) a ∙ sym (lower x y l m a)
+      go (level a) = equal x y (c ∷ l) (d ∷ m) a ∙ equal c d l m (h a) ∙ sym (equal x y l m a)
+      go (over a) = higher x y (c ∷ l) (d ∷ m) a ∙ sym (higher x y l m a)
 
--- the number of a hand, from its digits
-pub number-hand : (r : ℕ) (h : Hand) → h .class ≤ 9 → h .r1 < 256 → h .r2 < 256 → h .r3 < 256 → h .r4 < 256 → h .r5 < 256
-    → r ≡ (((((9 - h .class) * 256 + h .r1) * 256 + h .r2) * 256 + h .r3) * 256 + h .r4) * 256 + h .r5 → (handIn r ≡ h) × IsHand r
-unfolding handIn digits
-number-hand r h k a b c d e f =
-    let p : 9 - r / 1099511627776 ≡ h .class = omega arith in
-    let u : r / 256 / 256 / 256 / 256 % 256 ≡ h .r1 = omega arith in
-    let v : r / 256 / 256 / 256 % 256 ≡ h .r2 = omega arith in
-    let w : r / 256 / 256 % 256 ≡ h .r3 = omega arith in
-    let x : r / 256 % 256 ≡ h .r4 = omega arith in
-    let y : r % 256 ≡ h .r5 = omega arith in
-    (rw (p, u, v, w, x, y), omega arith)
+  key-digits : (n : ℕ) → IsHand t n → key t (handIn n) ≡ n / 281474976710656 ∷ digits 5 n
+  unfolding handIn digits
+  key-digits n h =
+      ap (λ (p : ℕ). p ∷ n / 256 / 256 / 256 / 256 % 256 ∷ n / 256 / 256 / 256 % 256 ∷ n / 256 / 256 % 256 ∷ n / 256 % 256 ∷ n % 256 ∷ []) (sym (h .placed))
+
+  long : (n m : ℕ) → length (seven n) ≡ length (seven m)
+  unfolding digits
+  long n m = refl
+
+  -- of two hands the one with the higher number beats the other
+  pub beats-number : Placed t → (n m : ℕ) → IsHand t n → IsHand t m → beatsBy t (handIn n) (handIn m) ≡ ltb m n
+  beats-number pl n m p q =
+      ap₂ above (key-digits n p) (key-digits m q)
+      ∙ sym (above-told (n / 281474976710656) (m / 281474976710656) (classIn n) (classIn m) (digits 5 n) (digits 5 m) (λ e. class-told pl (classIn n) (classIn m) (p .class-is) (q .class-is) (sym (p .placed) ∙ e ∙ q .placed)))
+      ∙ above-spells 256 0 (seven n) (seven m) (long n m) (seven-small n p) (seven-small m q)
+      ∙ ap₂ ltb (seven-spells m) (seven-spells n)
+
+  -- the number of a hand, from its digits
+  pub number-hand : (r p : ℕ) (h : Hand) → h .class ≤ 9 → p ≡ getD (t .places) (h .class) 0 → p < 256 → h .r1 < 256 → h .r2 < 256 → h .r3 < 256 → h .r4 < 256 → h .r5 < 256
+      → r ≡ ((((((p * 256 + h .class) * 256 + h .r1) * 256 + h .r2) * 256 + h .r3) * 256 + h .r4) * 256 + h .r5) → (handIn r ≡ h) × IsHand t r
+  unfolding handIn digits
+  number-hand r p h k g s a b c d e f =
+      let x0 : classIn r ≡ h .class = omega arith in
+      let u : r / 256 / 256 / 256 / 256 % 256 ≡ h .r1 = omega arith in
+      let v : r / 256 / 256 / 256 % 256 ≡ h .r2 = omega arith in
+      let w : r / 256 / 256 % 256 ≡ h .r3 = omega arith in
+      let x : r / 256 % 256 ≡ h .r4 = omega arith in
+      let y : r % 256 ≡ h .r5 = omega arith in
+      let z : r / 281474976710656 ≡ p = omega arith in
+      (rw (x0, u, v, w, x, y), record { placed = z ∙ g ∙ ap (λ (i : ℕ). getD (t .places) i 0) (sym x0); class-is = omega arith; small = omega arith })

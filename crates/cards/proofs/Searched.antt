@@ -5,47 +5,46 @@ use mathlib.Core.List.{List, [], _∷_, _++_, append-nil, append-assoc, map}
 use Prim.Native.Nat.{ℕ, suc, _+_, _-_, _/_, _%_, _<_, _≤_}
 use native.Mathlib.Omega.{arith}
 use native.Mathlib.Numerals.{add-one}
-use lib.ListN.{length, drop, getD, length-drop, drop-of-length-le}
+use lib.ListN.{length, drop, getD, length-drop, drop-of-length-le, List·getD-eq-default}
 use lib.Seq.{drop-cons}
 use borrow.Author.Tests.{lt-ltb, le-ltb}
 use Rattle.cards.specs.Cards.{rank, inRow, oneSuit}
 use Rattle.cards.specs.Hands.{hand, ranksOf, mostHeld, nextHeld, classOfCards, valueOf}
-use Rattle.cards.specs.Order.{places, beatsBy, betterBy, keep, none, bestOf, valuesFrom}
-use Rattle.cards.specs.Packed.{digits, handIn, IsHand}
+use Rattle.cards.specs.Order.{beatsBy, betterBy, keep, none, bestOf, valuesFrom, Placed}
+use Rattle.cards.specs.Packed.{digits, classIn, handIn, IsHand}
 use Rattle.cards.specs.declared.Hand.{Hand}
+use Rattle.cards.specs.declared.Ranking.{Ranking}
 use Rattle.cards.proofs.Kept.{class-below, pick-first, pick-second}
 use Rattle.cards.proofs.Choices.{when-chosen, when-all, when-more, best-short}
 use Rattle.cards.proofs.Packed.{digits-push, beats-number}
 
-pub hand-of : (n k : ℕ) (q : List ℕ) → IsHand n → q ≡ digits 5 n → k ≡ n / 1099511627776 % 256 → hand (9 - k) q ≡ handIn n
+pub hand-of : (n k : ℕ) (q : List ℕ) → q ≡ digits 5 n → k ≡ classIn n → hand k q ≡ handIn n
 unfolding handIn
-hand-of n k q h e f =
-    let g : k ≡ n / 1099511627776 = omega arith in
-    ap (λ (x : ℕ). hand (9 - x) q) g ∙ ap (hand (9 - n / 1099511627776)) e
+hand-of n k q e f = ap (λ (x : ℕ). hand x q) f ∙ ap (hand (classIn n)) e
 
-pub value-class : (q : List ℕ) → (valueOf q) .class ≤ 9
+pub value-class : (t : Ranking) (q : List ℕ) → (valueOf t q) .class ≤ 9
 unfolding valueOf classOfCards
-value-class q = omega (arith, class-below (inRow (ranksOf q)) (oneSuit q) (mostHeld (map rank q)) (nextHeld (map rank q)))
+value-class t q = omega (arith, class-below (inRow (ranksOf (t .foot) q)) (oneSuit q) (mostHeld (map rank q)) (nextHeld (map rank q)))
 
-pub class-small : (v : Hand) (q : List ℕ) → v ≡ valueOf q → v .class ≤ 9
-class-small v q e = subst (λ (h : Hand). h .class ≤ 9) (sym e) (value-class q)
+pub class-small : (t : Ranking) (v : Hand) (q : List ℕ) → v ≡ valueOf t q → v .class ≤ 9
+class-small t v q e = subst (λ (h : Hand). h .class ≤ 9) (sym e) (value-class t q)
 
 -- of the hand of the number a, and five cards whose hand has the number m, the better
-module _ (a m n : ℕ) (v : Hand) (q : List ℕ) (ha : IsHand a) (hm : (handIn m ≡ v) × IsHand m) (ev : v ≡ valueOf q) (eq : q ≡ digits 5 n) where
-  is-value : handIn m ≡ valueOf (digits 5 n)
-  is-value = hm .0 ∙ ev ∙ ap valueOf eq
+module _ (t : Ranking) (pl : Placed t) (a m n : ℕ) (v : Hand) (q : List ℕ) (ha : IsHand t a) (hm : (handIn m ≡ v) × IsHand t m) (ev : v ≡ valueOf t q) (eq : q ≡ digits 5 n) where
+  is-value : handIn m ≡ valueOf t (digits 5 n)
+  is-value = hm .0 ∙ ev ∙ ap (valueOf t) eq
 
-  pub better-new : a < m → (handIn m ≡ betterBy places (handIn a) (valueOf (digits 5 n))) × IsHand m
+  pub better-new : a < m → (handIn m ≡ betterBy t (handIn a) (valueOf t (digits 5 n))) × IsHand t m
   better-new lt =
-      let b : beatsBy places (valueOf (digits 5 n)) (handIn a) ≡ true =
-      ap (λ (h : Hand). beatsBy places h (handIn a)) (sym is-value) ∙ beats-number m a (hm .1) ha ∙ lt-ltb a m lt in
-      (is-value ∙ sym (pick-first places (handIn a) (valueOf (digits 5 n)) b), hm .1)
+      let b : beatsBy t (valueOf t (digits 5 n)) (handIn a) ≡ true =
+      ap (λ (h : Hand). beatsBy t h (handIn a)) (sym is-value) ∙ beats-number t pl m a (hm .1) ha ∙ lt-ltb a m lt in
+      (is-value ∙ sym (pick-first t (handIn a) (valueOf t (digits 5 n)) b), hm .1)
 
-  pub better-old : m ≤ a → (handIn a ≡ betterBy places (handIn a) (valueOf (digits 5 n))) × IsHand a
+  pub better-old : m ≤ a → (handIn a ≡ betterBy t (handIn a) (valueOf t (digits 5 n))) × IsHand t a
   better-old le =
-      let b : beatsBy places (valueOf (digits 5 n)) (handIn a) ≡ false =
-      ap (λ (h : Hand). beatsBy places h (handIn a)) (sym is-value) ∙ beats-number m a (hm .1) ha ∙ le-ltb a m le in
-      (sym (pick-second places (handIn a) (valueOf (digits 5 n)) b), ha)
+      let b : beatsBy t (valueOf t (digits 5 n)) (handIn a) ≡ false =
+      ap (λ (h : Hand). beatsBy t h (handIn a)) (sym is-value) ∙ beats-number t pl m a (hm .1) ha ∙ le-ltb a m le in
+      (sym (pick-second t (handIn a) (valueOf t (digits 5 n)) b), ha)
 
 -- the cards that are left are pushed one after another
 pub rest-turn : (l p : List ℕ) (i n r : ℕ) → i < length l → length l - i ≤ 5 → r / 256 ≡ n % 4294967296 → r % 256 ≡ getD l i 0
@@ -64,39 +63,42 @@ rest-done l p i n le inv =
     let z : 5 - (length l - i) ≡ 5 = omega arith in
     sym (append-nil (digits 5 n)) ∙ ap (λ (q : List ℕ). digits 5 n ++ q) (sym (drop-of-length-le l le)) ∙ ap (λ (k : ℕ). digits k n ++ drop i l) (sym z) ∙ inv
 
-module _ (h r : Hand) (n j i : ℕ) (l : List ℕ) where
+module _ (t : Ranking) (h r : Hand) (n j i : ℕ) (l : List ℕ) where
   -- five are chosen
-  pub found-five : j ≡ 5 → r ≡ betterBy places h (valueOf (digits 5 n)) → r ≡ keep places h (valuesFrom (digits j n) (5 - j) (drop i l))
+  pub found-five : j ≡ 5 → r ≡ betterBy t h (valueOf t (digits 5 n)) → r ≡ keep t h (valuesFrom t (digits j n) (5 - j) (drop i l))
   found-five e er =
-      er ∙ ap (λ (k : ℕ). betterBy places h (valueOf (digits k n))) (sym e) ∙ sym (when-chosen places h (digits j n) (5 - j) (drop i l) (omega arith))
+      er ∙ ap (λ (k : ℕ). betterBy t h (valueOf t (digits k n))) (sym e) ∙ sym (when-chosen t h (digits j n) (5 - j) (drop i l) (omega arith))
 
   -- as many are left as are needed
   pub found-rest : (m : ℕ) → j ≤ 5 → length l - i ≤ 5 - j → 5 - j ≤ length l - i → digits 5 m ≡ digits (5 - (length l - i)) n ++ drop i l
-      → r ≡ betterBy places h (valueOf (digits 5 m)) → r ≡ keep places h (valuesFrom (digits j n) (5 - j) (drop i l))
+      → r ≡ betterBy t h (valueOf t (digits 5 m)) → r ≡ keep t h (valuesFrom t (digits j n) (5 - j) (drop i l))
   found-rest m le a b e er =
       let z : 5 - (length l - i) ≡ j = omega arith in
-      er ∙ ap (λ (q : List ℕ). betterBy places h (valueOf q)) (e ∙ ap (λ (k : ℕ). digits k n ++ drop i l) z)
-      ∙ sym (when-all places h (digits j n) (5 - j) (drop i l) (omega (arith, length-drop i l)))
+      er ∙ ap (λ (q : List ℕ). betterBy t h (valueOf t q)) (e ∙ ap (λ (k : ℕ). digits k n ++ drop i l) z)
+      ∙ sym (when-all t h (digits j n) (5 - j) (drop i l) (omega (arith, length-drop i l)))
 
   -- the next card is taken, and then skipped
   pub found-more : (m : ℕ) (g : Hand) → j ≤ 5 → (j ≡ 5 → ⊥) → i < length l → m / 256 ≡ n % 4294967296 → m % 256 ≡ getD l i 0
-      → g ≡ keep places h (valuesFrom (digits (j + 1) m) (5 - (j + 1)) (drop (i + 1) l))
-      → r ≡ keep places g (valuesFrom (digits j n) (5 - j) (drop (i + 1) l)) → r ≡ keep places h (valuesFrom (digits j n) (5 - j) (drop i l))
+      → g ≡ keep t h (valuesFrom t (digits (j + 1) m) (5 - (j + 1)) (drop (i + 1) l))
+      → r ≡ keep t g (valuesFrom t (digits j n) (5 - j) (drop (i + 1) l)) → r ≡ keep t h (valuesFrom t (digits j n) (5 - j) (drop i l))
   found-more m g le ne lt e f eg er =
       let z : 5 - j ≡ suc (5 - (j + 1)) = omega arith in
       let d : digits (j + 1) m ≡ digits j n ++ (getD l i 0 ∷ []) = rw add-one (digits-push j n (getD l i 0) m (omega arith) e f) in
-      when-more places h (digits j n) (5 - (j + 1)) i l g r lt
-      (eg ∙ ap (λ (q : List ℕ). keep places h (valuesFrom q (5 - (j + 1)) (drop (i + 1) l))) d)
-      (er ∙ ap (λ (k : ℕ). keep places g (valuesFrom (digits j n) k (drop (i + 1) l))) z)
-      ∙ ap (λ (k : ℕ). keep places h (valuesFrom (digits j n) k (drop i l))) (sym z)
+      when-more t h (digits j n) (5 - (j + 1)) i l g r lt
+      (eg ∙ ap (λ (q : List ℕ). keep t h (valuesFrom t q (5 - (j + 1)) (drop (i + 1) l))) d)
+      (er ∙ ap (λ (k : ℕ). keep t g (valuesFrom t (digits j n) k (drop (i + 1) l))) z)
+      ∙ ap (λ (k : ℕ). keep t h (valuesFrom t (digits j n) k (drop i l))) (sym z)
 
-no-hand : handIn 0 ≡ none
+no-hand : handIn 9895604649984 ≡ none
 unfolding handIn digits
 no-hand = refl
 
-pub found-none : (r : Hand) (l : List ℕ) → length l < 5 → r ≡ handIn 0 → r ≡ bestOf places l
-found-none r l h e = e ∙ no-hand ∙ sym (best-short places l h)
+pub none-is : (t : Ranking) → length (t .places) ≡ 9 → IsHand t 9895604649984
+none-is t n = record { placed = sym (List·getD-eq-default (t .places) 0 (omega arith)); class-is = omega arith; small = omega arith }
 
-pub found-best : (r : Hand) (l : List ℕ) → r ≡ keep places (handIn 0) (valuesFrom (digits 0 0) 5 l) → r ≡ bestOf places l
+pub found-none : (t : Ranking) (r : Hand) (l : List ℕ) → length l < 5 → r ≡ handIn 9895604649984 → r ≡ bestOf t l
+found-none t r l h e = e ∙ no-hand ∙ sym (best-short t l h)
+
+pub found-best : (t : Ranking) (r : Hand) (l : List ℕ) → r ≡ keep t (handIn 9895604649984) (valuesFrom t (digits 0 0) 5 l) → r ≡ bestOf t l
 unfolding handIn digits bestOf valuesFrom
-found-best r l e = e
+found-best t r l e = e

@@ -1,19 +1,17 @@
 // Document 01, "Hand order": the best of the choices of five. The chosen cards and the best hand so far are one number each, which the search
 // hands on without copying arrays at every step.
 use crate::Hand;
-use crate::plain::fallen_seven;
-use crate::plain::hand_by_table;
-use crate::plain::is_plain;
-use crate::plain::or_straight;
-use crate::plain::ranks_of_seven;
-use crate::plain::row_end;
+use crate::Ranking;
+use crate::place;
+use crate::ranking52;
+use crate::seven::fallen_seven;
 use crate::value;
 ghost use mathlib.Core.Path.{_≡_};
 ghost use mathlib.Core.List.{_++_};
 ghost use Prim.Native.Nat.{_-_, _/_, _%_, _≤_};
 ghost use lib.ListN.{length, drop};
 ghost use Rattle.cards.specs.Hands.{valueOf};
-ghost use Rattle.cards.specs.Order.{places, betterBy, keep, valuesFrom, bestOf};
+ghost use Rattle.cards.specs.Order.{ranking52, betterBy, keep, valuesFrom, bestOf, Placed};
 ghost use Rattle.cards.specs.Packed.{digits, handIn, IsHand};
 
 // The last digit to the base 256.
@@ -41,22 +39,22 @@ fn push(n: u64, c: u8) -> u64
     n % 4294967296 * 256 + c as u64
 }
 
-// The number of a hand.
-fn number_of(h: Hand) -> u64
+// The number of a hand: the place of its class, the class, the ranks.
+fn number_of(ranking: Ranking, h: Hand) -> u64
     requires { ⌜ h .class ≤ 9 ⌝ }
-    ensures { λ r. ⌜ (handIn r ≡ h) × IsHand r ⌝ }
+    ensures { λ r. ⌜ (handIn r ≡ h) × IsHand ranking r ⌝ }
 {
-    let high = ((9 - h.class) as u64 * 256 + h.r1 as u64) * 256 + h.r2 as u64;
+    let head = place(ranking, h.class) as u64 * 256 + h.class as u64;
+    let high = (head * 256 + h.r1 as u64) * 256 + h.r2 as u64;
     ((high * 256 + h.r3 as u64) * 256 + h.r4 as u64) * 256 + h.r5 as u64
 }
 
 fn hand_in(n: u64) -> Hand
-    requires { ⌜ IsHand n ⌝ }
     ensures { λ r. ⌜ r ≡ handIn n ⌝ }
 {
     let q = five_in(n);
     Hand {
-        class: 9 - last(n / 1099511627776),
+        class: last(n / 1099511627776),
         r1: q[0],
         r2: q[1],
         r3: q[2],
@@ -66,11 +64,11 @@ fn hand_in(n: u64) -> Hand
 }
 
 // Of the hand so far and the five cards chosen, the better.
-fn better(so_far: u64, chosen: u64) -> u64
-    requires { ⌜ IsHand «so_far» ⌝ }
-    ensures { λ r. ⌜ (handIn r ≡ betterBy places (handIn «so_far») (valueOf (digits 5 chosen))) × IsHand r ⌝ }
+fn better(ranking: Ranking, so_far: u64, chosen: u64) -> u64
+    requires { ⌜ Placed ranking × IsHand ranking «so_far» ⌝ }
+    ensures { λ r. ⌜ (handIn r ≡ betterBy ranking (handIn «so_far») (valueOf ranking (digits 5 chosen))) × IsHand ranking r ⌝ }
 {
-    let n = number_of(value(five_in(chosen)));
+    let n = number_of(ranking, value(ranking, five_in(chosen)));
     if so_far < n { n } else { so_far }
 }
 
@@ -90,42 +88,57 @@ fn with_rest(cards: &[u8], at: usize, chosen: u64) -> u64
 
 // The best hand so far, and of the choices that begin with the cards chosen and go on among those from `at` on: the next card is
 // taken, or skipped, until as many are left as are needed.
-fn best(cards: &[u8], at: usize, chosen: u64, have: usize, so_far: u64) -> u64
-    requires { ⌜ (at ≤ length (now cards)) × (have ≤ 5) × (5 - have ≤ length (now cards) - at) × IsHand «so_far» ⌝ }
-    ensures is { λ r. ⌜ handIn r ≡ keep places (handIn «so_far») (valuesFrom (digits have chosen) (5 - have) (drop at (now (cards .entry)))) ⌝ }
-    ensures small { λ r. ⌜ IsHand r ⌝ }
+fn best(ranking: Ranking, cards: &[u8], at: usize, chosen: u64, have: usize, so_far: u64) -> u64
+    requires { ⌜ (at ≤ length (now cards)) × (have ≤ 5) × (5 - have ≤ length (now cards) - at) × Placed ranking × IsHand ranking «so_far» ⌝ }
+    ensures is { λ r. ⌜ handIn r ≡ keep ranking (handIn «so_far») (valuesFrom ranking (digits have chosen) (5 - have) (drop at (now (cards .entry)))) ⌝ }
+    ensures small { λ r. ⌜ IsHand ranking r ⌝ }
 {
     if have == 5 {
-        return better(so_far, chosen);
+        return better(ranking, so_far, chosen);
     }
     if cards.len() - at <= 5 - have {
-        return better(so_far, with_rest(cards, at, chosen));
+        return better(ranking, so_far, with_rest(cards, at, chosen));
     }
-    let with = best(cards, at + 1, push(chosen, cards[at]), have + 1, so_far);
-    best(cards, at + 1, chosen, have, with)
+    let with = best(
+        ranking,
+        cards,
+        at + 1,
+        push(chosen, cards[at]),
+        have + 1,
+        so_far,
+    );
+    best(ranking, cards, at + 1, chosen, have, with)
 }
 
-// By the search among all choices.
-fn best_of_choices(cards: &[u8]) -> Hand
-    ensures { λ r. ⌜ r ≡ bestOf places (now (cards .entry)) ⌝ }
+// No hand: the class 9, which has no place.
+const NO_HAND: u64 = 9895604649984;
+
+// By any ranking, the best hand of five among the cards, as they lie.
+fn best_of_choices(ranking: Ranking, cards: &[u8]) -> Hand
+    requires { ⌜ Placed ranking ⌝ }
+    ensures { λ r. ⌜ r ≡ bestOf ranking (now (cards .entry)) ⌝ }
 {
     if cards.len() < 5 {
-        return hand_in(0);
+        return hand_in(NO_HAND);
     }
-    hand_in(best(cards, 0, 0, 0, 0))
+    hand_in(best(ranking, cards, 0, 0, 0, NO_HAND))
+}
+
+// By any ranking, the best hand of five among the cards. Seven are put from high to low first, as the search is faster then.
+fn best_by(ranking: Ranking, cards: &[u8]) -> Hand
+    requires { ⌜ Placed ranking ⌝ }
+    ensures { λ r. ⌜ r ≡ bestOf ranking (now (cards .entry)) ⌝ }
+{
+    if cards.len() != 7 {
+        return best_of_choices(ranking, cards);
+    }
+    let q = fallen_seven(cards);
+    best_of_choices(ranking, &[q.a, q.b, q.c, q.d, q.e, q.f, q.g])
 }
 
 // The best hand of five among the cards, of any number of them; of fewer than five, no hand.
 pub fn best_hand(cards: &[u8]) -> Hand
-    ensures { λ r. ⌜ r ≡ bestOf places (now (cards .entry)) ⌝ }
+    ensures { λ r. ⌜ r ≡ bestOf ranking52 (now (cards .entry)) ⌝ }
 {
-    if cards.len() != 7 {
-        return best_of_choices(cards);
-    }
-    let fallen = fallen_seven(cards);
-    let ranks = ranks_of_seven(fallen);
-    if is_plain(fallen, ranks.a) {
-        return or_straight(hand_by_table(ranks), row_end(ranks));
-    }
-    best_of_choices(cards)
+    best_by(ranking52(), cards)
 }

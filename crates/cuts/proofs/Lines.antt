@@ -10,8 +10,7 @@ use lib.ListN.{length, drop, length-take, drop-of-length-le}
 use lib.Dec.{eqb, ltb, leb}
 use borrow.Author.Tests.{ltb-true, ltb-false, lt-ltb, le-ltb, leb-true, leb-false, lt-leb}
 use Rattle.laws.specs.Tests.{pick, both}
-use Rattle.text.specs.Line.{lineLen, lineOf, afterLine, lineEnded, hasKey, valueOf}
-use Rattle.text.specs.Block.{afterLines}
+use Rattle.text.specs.Line.{lineLen, lineOf, afterLine, lineEnded, hasKey, valueOf, afterLines}
 use Rattle.cuts.specs.Kept.{Kept, keepOf}
 use Rattle.laws.proofs.Tests.{test}
 

@@ -5,9 +5,9 @@ use Prim.Native.Nat.{ℕ}
 use Rattle.paper.specs.Paper.{isSeat, inRange}
 use Rattle.text.specs.TableSheet.{sheetNumber, sheetWith, sheetOf, sheetEnd}
 use Rattle.text.specs.Line.{valueOf, numberLine}
-use Rattle.text.specs.Block.{restOf, kindOf, blockOf}
+use Rattle.blocks.specs.Block.{restOf, kindOf, blockOf}
 use Rattle.text.specs.Number.{wellFormed, numberOf, digits}
-use Rattle.text.specs.Entry.{parsedOf}
+use Rattle.blocks.specs.Entry.{parsedOf}
 use Rattle.table.specs.Betting.{liveHands, onlyWithChips, owes, firstOwing, afterAct, turnCode, foldedTo}
 use Rattle.table.specs.Opening.{nextDealtIn, isPuck, handCode, postedTo, openedTo}
 use Rattle.table.specs.Sittings.{sitCode, satTo}

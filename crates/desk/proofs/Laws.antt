@@ -12,18 +12,18 @@ use lib.Dec.{eqb}
 use borrow.Author.Tests.{lt-leb}
 use Rattle.laws.specs.Tests.{pick}
 use Rattle.text.specs.Line.{lineNumber, afterLine, valueOf}
-use Rattle.text.specs.Block.{blockOf, blockFrom, lineKind}
-use Rattle.text.specs.Entry.{parsedOf}
-use Rattle.text.specs.Sheet.{fits, writtenOf, sheetAfter, over}
+use Rattle.blocks.specs.Block.{blockOf, blockFrom, lineKind}
+use Rattle.blocks.specs.Entry.{parsedOf}
+use Rattle.writing.specs.Sheet.{fits, writtenOf, sheetAfter, over}
 use Rattle.text.proofs.Numbers.{number-back}
 use Rattle.text.specs.declared.Number.{Number}
 use Rattle.text.specs.declared.Number.the-variants.{Value, Bad}
-use Rattle.text.specs.declared.Block.{Block}
-use Rattle.text.specs.declared.Block.the-variants.{Raw, Malformed, Nothing}
-use Rattle.text.specs.declared.Parsed.{Parsed}
-use Rattle.text.specs.declared.Parsed.the-variants.{Read, OutOfRange}
-use Rattle.text.specs.declared.Written.{Written}
-use Rattle.text.specs.declared.Written.the-variants.{Bytes, NoRoom}
+use Rattle.blocks.specs.declared.Block.{Block}
+use Rattle.blocks.specs.declared.Block.the-variants.{Raw, Malformed, Nothing}
+use Rattle.blocks.specs.declared.Parsed.{Parsed}
+use Rattle.blocks.specs.declared.Parsed.the-variants.{Read, OutOfRange}
+use Rattle.writing.specs.declared.Written.{Written}
+use Rattle.writing.specs.declared.Written.the-variants.{Bytes, NoRoom}
 use Rattle.paper.specs.declared.Entry.{Entry}
 use Rattle.paper.specs.declared.Entry.the-variants.{Sit, Leave, Hand, Hole, Fold, Check, Call, Wager, Board, Dead, Settle, Void}
 use Rattle.chairs.specs.Chairs.{columnOf, Numbered}

@@ -11,15 +11,17 @@ use lib.Seq.{take-all}
 use borrow.Author.Tests.{eq-eqb, ne-eqb, eqb-false, leb-true, le-leb}
 use borrow.Rule.Slice.PartMut.{midOf, putMid}
 use Rattle.laws.specs.Tests.{pick}
-use Rattle.text.specs.Block.{restOf}
-use Rattle.text.specs.Sheet.{Wrote, over, fits, sheetAfter}
-use Rattle.text.proofs.Sheets.{then, part-is}
-use Rattle.text.proofs.Blocks.{rest-shorter, after-lines-no-longer}
+use Rattle.blocks.specs.Block.{restOf}
+use Rattle.writing.specs.Sheet.{Wrote, over, fits, sheetAfter}
+use Rattle.writing.proofs.Sheets.{then}
+use Rattle.text.proofs.Parts.{part-is}
+use Rattle.blocks.proofs.Blocks.{rest-shorter}
+use Rattle.text.proofs.Lines.{after-lines-no-longer}
 use Rattle.text.specs.TableSheet.{sheetLines, sheetOf, sheetEnd}
 use Rattle.paper.specs.declared.Sheet.{Sheet}
 use Rattle.text.specs.declared.sheet.Opening.{Opening}
 use Rattle.text.specs.declared.sheet.Opening.the-variants.{Read, Bad}
-use Rattle.text.specs.declared.Written.the-variants.{Bytes, NoRoom}
+use Rattle.writing.specs.declared.Written.the-variants.{Bytes, NoRoom}
 use Rattle.table.specs.declared.table.Table.{Table}
 use Rattle.table.specs.Take.{Sound, freshTable}
 use Rattle.desk.specs.declared.Answered.{Answered}

@@ -3,15 +3,15 @@
 use Prim.Native.Nat.{ℕ, _≤_, _<_, _^_}
 use mathlib.Core.List.{List, [], _∷_}
 use lib.ListN.{length, getD}
-use Rattle.text.specs.Block.{blockOf}
-use Rattle.text.specs.Entry.{parsedOf}
-use Rattle.text.specs.Sheet.{writtenOf, sheetAfter}
-use Rattle.text.specs.declared.Block.{Block}
-use Rattle.text.specs.declared.Block.the-variants.{Raw, Malformed, Nothing}
-use Rattle.text.specs.declared.Parsed.{Parsed}
-use Rattle.text.specs.declared.Parsed.the-variants.{Read, OutOfRange}
-use Rattle.text.specs.declared.Written.{Written}
-use Rattle.text.specs.declared.Written.the-variants.{Bytes, NoRoom}
+use Rattle.blocks.specs.Block.{blockOf}
+use Rattle.blocks.specs.Entry.{parsedOf}
+use Rattle.writing.specs.Sheet.{writtenOf, sheetAfter}
+use Rattle.blocks.specs.declared.Block.{Block}
+use Rattle.blocks.specs.declared.Block.the-variants.{Raw, Malformed, Nothing}
+use Rattle.blocks.specs.declared.Parsed.{Parsed}
+use Rattle.blocks.specs.declared.Parsed.the-variants.{Read, OutOfRange}
+use Rattle.writing.specs.declared.Written.{Written}
+use Rattle.writing.specs.declared.Written.the-variants.{Bytes, NoRoom}
 use Rattle.table.specs.declared.table.Table.{Table}
 use Rattle.table.specs.declared.table.Payout.{Payout as Paid}
 use Rattle.table.specs.Settle.{potsNow, backNow, noPayout}

@@ -7,7 +7,7 @@ use mathlib.Core.Bool.{Bool}
 use lib.ListN.{length}
 use lib.Dec.{eqb, leb}
 use Rattle.laws.specs.Tests.{pick}
-use Rattle.text.specs.Block.{restOf}
+use Rattle.blocks.specs.Block.{restOf}
 use Rattle.text.specs.TableSheet.{sheetOf, sheetEnd}
 use Rattle.text.specs.declared.sheet.Opening.{Opening}
 use Rattle.text.specs.declared.sheet.Opening.the-variants.{Read, Bad}

@@ -3,16 +3,16 @@ use answers::Payout;
 use answers::Row;
 use answers::Shown;
 use answers::write_answer;
+use blocks::Block;
+use blocks::Parsed;
 use table::table::Table;
-use text::Block;
-use text::Parsed;
-use text::Written;
+use writing::Written;
 ghost use mathlib.Core.Path.{_≡_};
 ghost use Prim.Native.Nat.{ℕ, _+_, _-_, _*_, _≤_, _<_, _^_};
 ghost use mathlib.Core.List.{List, [], _∷_, _++_};
 ghost use lib.ListN.{length, take, drop, getD};
-ghost use Rattle.text.specs.Sheet.{sheetAfter, writtenOf};
-ghost use Rattle.text.specs.Block.{blockOf, restOf};
+ghost use Rattle.writing.specs.Sheet.{sheetAfter, writtenOf};
+ghost use Rattle.blocks.specs.Block.{blockOf, restOf};
 ghost use Rattle.answers.specs.Answer.{Small};
 ghost use Rattle.table.specs.Take.{Sound};
 ghost use Rattle.desk.specs.Desk.{rowsOf, payoutShown, shownOf, judgeParsed, refusedAt, judgeBlock, judgedOf, judgedBytes, blockBytes, answeredFrom, answeredOf, numberOfBlock, SmallPaid};
@@ -131,7 +131,7 @@ fn judge_block(t: Table, b: Block) -> Judged
             a,
             b,
         } => {
-            let p = text::entry_of(kind, seat, a, b);
+            let p = blocks::entry_of(kind, seat, a, b);
             judge_parsed(t, n, p)
         }
         Block::Malformed => refused(t, 0, 1),
@@ -144,7 +144,7 @@ pub fn judge(t: Table, log: &[u8]) -> Judged
     requires { ⌜ Sound t ⌝ }
     ensures { λ r. ⌜ (r ≡ judgedOf t (now (log .entry))) × Sound (r .table) × SmallPaid (r .payout) × (r .n < 10 ^ 9) ⌝ }
 {
-    judge_block(t, text::read_block(log))
+    judge_block(t, blocks::read_block(log))
 }
 
 // What the answer to a block says to the caller.
@@ -187,12 +187,12 @@ pub fn answer(table: Table, log: &[u8], sheet: &mut [u8]) -> Answered
     ensures bytes { λ r. ⌜ now (sheet .exit) ≡ sheetAfter (blockBytes table (now (log .entry))) (now (sheet .entry)) ⌝ }
     ensures sound { λ r. ⌜ Sound (r .table) ⌝ }
 {
-    answer_block(table, text::read_block(log), sheet)
+    answer_block(table, blocks::read_block(log), sheet)
 }
 
 // What follows the block.
 pub fn rest(log: &[u8]) -> &[u8]
     ensures { λ r. ⌜ now r ≡ restOf (now (log .entry)) ⌝ }
 {
-    text::rest(log)
+    blocks::rest(log)
 }

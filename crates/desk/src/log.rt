@@ -1,8 +1,8 @@
 // The whole log: the sheet, then block after block.
 use crate::answer;
+use blocks::rest;
 use table::table::Table;
 use table::take::new_table;
-use text::rest;
 use text::sheet::Opening;
 use text::sheet::after_sheet;
 use text::sheet::read_sheet;
@@ -10,7 +10,7 @@ ghost use mathlib.Core.Path.{_≡_};
 ghost use Prim.Native.Nat.{ℕ, _+_, _-_, _*_, _≤_, _<_, _^_};
 ghost use mathlib.Core.List.{List, [], _∷_, _++_};
 ghost use lib.ListN.{length, take, drop, getD};
-ghost use Rattle.text.specs.Sheet.{Wrote};
+ghost use Rattle.writing.specs.Sheet.{Wrote};
 ghost use Rattle.table.specs.Take.{Sound};
 ghost use Rattle.desk.specs.Log.{answersIn, outputIn, eleven, fitting};
 
@@ -40,7 +40,7 @@ pub fn refuse_sheet(out: &mut [u8]) -> usize
     if out.len() < 8 {
         return 0;
     }
-    text::put_bytes(out, b"code=11\n")
+    writing::put_bytes(out, b"code=11\n")
 }
 
 // What the whole log gives.

@@ -12,20 +12,20 @@ use Rattle.paper.specs.declared.Sheet.{Sheet}
 use Rattle.paper.specs.declared.Entry.{Entry}
 use Rattle.text.specs.Number.{digits}
 use Rattle.text.specs.Line.{numberLine}
-use Rattle.text.specs.Block.{blockOf}
-use Rattle.text.specs.Entry.{parsedOf}
-use Rattle.text.specs.Sheet.{Wrote, fits, sheetAfter}
+use Rattle.blocks.specs.Block.{blockOf}
+use Rattle.blocks.specs.Entry.{parsedOf}
+use Rattle.writing.specs.Sheet.{Wrote, fits, sheetAfter}
 use Rattle.text.proofs.Lines.{line-count}
 use Rattle.text.proofs.Numbers.{count-most}
-use Rattle.text.specs.declared.Block.{Block}
-use Rattle.text.specs.declared.Block.the-variants.{Raw}
-use Rattle.text.specs.declared.Parsed.{Parsed}
+use Rattle.blocks.specs.declared.Block.{Block}
+use Rattle.blocks.specs.declared.Block.the-variants.{Raw}
+use Rattle.blocks.specs.declared.Parsed.{Parsed}
 use Rattle.logs.specs.declared.Put.{Put}
 use Rattle.logs.specs.declared.Put.the-variants.{Bytes, NoRoom}
 use Rattle.logs.specs.declared.copy.Copied.{Copied}
 use Rattle.logs.specs.LogText.{entryText, isEntry, putOf, putAfter}
 use Rattle.logs.specs.FairCopy.{entryCopy, formCopy, blockCopy, noteText, noteIn, copiedAs, leftAs, entryCopied, formCopied, copiedOf}
-use Rattle.text.specs.declared.Parsed.the-variants as parsed
+use Rattle.blocks.specs.declared.Parsed.the-variants as parsed
 
 -- no bytes are written anywhere
 after-none : (buffer : List ℕ) → buffer ≡ sheetAfter [] buffer

@@ -18,16 +18,18 @@ use Rattle.paper.specs.declared.Numbers.{Numbers}
 use Rattle.paper.specs.declared.Entry.{Entry}
 use Rattle.paper.proofs.Codes.{between-in}
 use Rattle.paper.proofs.Rows.{used-tests}
-use Rattle.text.specs.Line.{afterLine, lineNumber, numberLine, valueOf}
-use Rattle.text.specs.Block.{afterLines, restOf, eqList, placeIn, allLetters, isWord, kindOf, lineKind, blockFrom, blockOf}
-use Rattle.text.specs.Entry.{parsedOf}
+use Rattle.text.specs.Line.{afterLine, lineNumber, numberLine, valueOf, afterLines}
+use Rattle.blocks.specs.Block.{restOf, placeIn, allLetters, isWord, kindOf, lineKind, blockFrom, blockOf}
+use Rattle.text.specs.Bytes.{eqList}
+use Rattle.blocks.specs.Entry.{parsedOf}
 use Rattle.text.specs.declared.Number.{Number}
 use Rattle.text.specs.declared.Number.the-variants.{Value, Bad}
-use Rattle.text.specs.declared.Block.the-variants.{Raw, Nothing}
-use Rattle.text.specs.declared.Parsed.the-variants.{Read}
-use Rattle.text.proofs.Blocks.{eq-list, block-five}
+use Rattle.blocks.specs.declared.Block.the-variants.{Raw, Nothing}
+use Rattle.blocks.specs.declared.Parsed.the-variants.{Read}
+use Rattle.text.proofs.Bytes.{eq-list}
+use Rattle.blocks.proofs.Blocks.{block-five}
 use Rattle.text.proofs.Lines.{line-count}
-use Rattle.text.proofs.Entries.{numbers-back, entry-back, read-is, kind-known}
+use Rattle.blocks.proofs.Entries.{numbers-back, entry-back, read-is, kind-known}
 use Rattle.text.proofs.RoundTrip.{NoLF, no-append, value-is, after-is, read-line, read-rest}
 use Rattle.text.proofs.ReadBack.{value-back, line-back}
 use Rattle.text.proofs.SheetLaws.{good-ranged}

@@ -16,21 +16,22 @@ use Rattle.paper.specs.RefusalNumbers.{when}
 use Rattle.paper.specs.SheetAndEntries.{numbersOf}
 use Rattle.paper.specs.declared.Sheet.{Sheet}
 use Rattle.paper.specs.declared.Entry.{Entry}
-use Rattle.text.specs.Block.{blockOf, restOf}
-use Rattle.text.specs.Entry.{parsedOf}
+use Rattle.blocks.specs.Block.{blockOf, restOf}
+use Rattle.blocks.specs.Entry.{parsedOf}
 use Rattle.text.specs.TableSheet.{sheetLines, sheetOf, sheetEnd}
-use Rattle.text.specs.declared.Block.{Block}
-use Rattle.text.specs.declared.Block.the-variants.{Raw, Malformed, Nothing}
-use Rattle.text.specs.declared.Parsed.{Parsed}
+use Rattle.blocks.specs.declared.Block.{Block}
+use Rattle.blocks.specs.declared.Block.the-variants.{Raw, Malformed, Nothing}
+use Rattle.blocks.specs.declared.Parsed.{Parsed}
 use Rattle.text.specs.declared.sheet.Opening.{Opening}
-use Rattle.text.proofs.Blocks.{rest-shorter, after-lines-no-longer}
+use Rattle.blocks.proofs.Blocks.{rest-shorter}
+use Rattle.text.proofs.Lines.{after-lines-no-longer}
 use Rattle.text.proofs.SheetLaws.{sheet-is}
 use Rattle.logs.specs.LogText.{sheetText, entryText, isEntry}
 use Rattle.logs.specs.FairCopy.{entryCode, formCode, blockCode, entryCopy, formCopy, blockCopy, copiesFrom, fairFrom, fairCopy, codesFrom}
 use Rattle.logs.proofs.SheetText.{sheet-read, sheet-rest, sheet-back}
 use Rattle.logs.proofs.EntryText.{entry-read, entry-rest, accepted-back}
 use Rattle.logs.proofs.KindRows.{block-count}
-use Rattle.text.specs.declared.Parsed.the-variants as parsed
+use Rattle.blocks.specs.declared.Parsed.the-variants as parsed
 use Rattle.text.specs.declared.sheet.Opening.the-variants as opening
 
 abbrev pub Zero : ℕ → Type 0

@@ -15,8 +15,8 @@ use Rattle.paper.specs.SheetAndEntries.{kindNames}
 use Rattle.paper.specs.declared.Numbers.{Numbers}
 use Rattle.text.specs.Number.{digits}
 use Rattle.text.specs.Line.{numberLine}
-use Rattle.text.specs.Block.{eqList}
-use Rattle.text.proofs.Blocks.{eq-list}
+use Rattle.text.specs.Bytes.{eqList}
+use Rattle.text.proofs.Bytes.{eq-list}
 use Rattle.text.proofs.Lines.{line-count}
 use Rattle.logs.specs.LogText.{wordLine, blockText}
 use Rattle.logs.specs.declared.entry.KindLine.{KindLine}

@@ -12,9 +12,10 @@ use Rattle.paper.specs.Paper.{isSheet, inRange}
 use Rattle.paper.specs.declared.Sheet.{Sheet}
 use Rattle.paper.specs.declared.Entry.{Entry}
 use Rattle.text.specs.Line.{numberLine}
-use Rattle.text.specs.Sheet.{Wrote, fits}
+use Rattle.writing.specs.Sheet.{Wrote, fits}
 use Rattle.text.specs.TableSheet.{sheetLines, sheetKeys}
-use Rattle.text.proofs.Sheets.{then, part-is}
+use Rattle.writing.proofs.Sheets.{then}
+use Rattle.text.proofs.Parts.{part-is}
 use Rattle.logs.specs.declared.Put.the-variants.{Bytes, OutOfRange, NoRoom}
 use Rattle.logs.specs.LogText.{sheetValues, linesOf, sheetText, isEntry, putOf, putAfter}
 use Rattle.logs.proofs.SheetText.{lines-on, lines-end, sheet-small}

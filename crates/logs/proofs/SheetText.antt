@@ -16,12 +16,12 @@ use Rattle.laws.proofs.Rules.{allBelow, below-all}
 use Rattle.paper.specs.Paper.{between, isSheet}
 use Rattle.paper.specs.declared.Sheet.{Sheet}
 use Rattle.paper.proofs.Codes.{between-in}
-use Rattle.text.specs.Line.{afterLine, lineNumber, numberLine}
-use Rattle.text.specs.Block.{afterLines, allLetters}
+use Rattle.text.specs.Line.{afterLine, lineNumber, numberLine, afterLines}
+use Rattle.blocks.specs.Block.{allLetters}
 use Rattle.text.specs.TableSheet.{sheetLines, sheetKeys, sheetFrom, sheetTo, ranged, sheetNumber, isValue, valueIn, allGood, sheetWith, sheetOf, sheetEnd}
 use Rattle.text.specs.declared.Number.{Number}
 use Rattle.text.specs.declared.Number.the-variants.{Value, Bad}
-use Rattle.text.proofs.Entries.{in-range}
+use Rattle.blocks.proofs.Entries.{in-range}
 use Rattle.text.proofs.RoundTrip.{NoLF, read-line, read-rest}
 use Rattle.text.proofs.ReadBack.{line-back}
 use Rattle.text.proofs.SheetLaws.{InRange, good-ranged, good-each, sheet-good}

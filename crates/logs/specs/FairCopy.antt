@@ -11,13 +11,13 @@ use Rattle.paper.specs.RefusalNumbers.{taken, malformed, outOfRange, noRoom, wh
 use Rattle.paper.specs.declared.Sheet.{Sheet}
 use Rattle.text.specs.Number.{digits}
 use Rattle.text.specs.Line.{numberLine}
-use Rattle.text.specs.Block.{blockOf, restOf}
-use Rattle.text.specs.Entry.{parsedOf}
+use Rattle.blocks.specs.Block.{blockOf, restOf}
+use Rattle.blocks.specs.Entry.{parsedOf}
 use Rattle.text.specs.TableSheet.{sheetOf, sheetEnd}
-use Rattle.text.specs.declared.Block.{Block}
-use Rattle.text.specs.declared.Block.the-variants.{Raw, Malformed, Nothing}
-use Rattle.text.specs.declared.Parsed.{Parsed}
-use Rattle.text.specs.declared.Parsed.the-variants as parsed
+use Rattle.blocks.specs.declared.Block.{Block}
+use Rattle.blocks.specs.declared.Block.the-variants.{Raw, Malformed, Nothing}
+use Rattle.blocks.specs.declared.Parsed.{Parsed}
+use Rattle.blocks.specs.declared.Parsed.the-variants as parsed
 use Rattle.text.specs.declared.sheet.Opening.{Opening}
 use Rattle.text.specs.declared.sheet.Opening.the-variants as opening
 use Rattle.logs.specs.declared.Put.{Put}

@@ -13,7 +13,7 @@ use Rattle.paper.specs.declared.Numbers.{Numbers}
 use Rattle.paper.specs.declared.Entry.{Entry}
 use Rattle.text.specs.Line.{numberLine}
 use Rattle.text.specs.TableSheet.{sheetKeys}
-use Rattle.text.specs.Sheet.{fits, sheetAfter}
+use Rattle.writing.specs.Sheet.{fits, sheetAfter}
 use Rattle.logs.specs.declared.Put.{Put}
 use Rattle.logs.specs.declared.Put.the-variants.{Bytes, OutOfRange, NoRoom}
 

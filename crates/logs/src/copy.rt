@@ -2,20 +2,20 @@
 use crate::Put;
 use crate::write_entry;
 use crate::write_sheet;
+use blocks::Block;
+use blocks::Parsed;
+use blocks::entry_of;
+use blocks::read_block;
 use laws::least;
 use paper::Sheet;
-use text::Block;
-use text::Parsed;
-use text::entry_of;
-use text::put_bytes;
-use text::put_digits;
-use text::read_block;
-use text::write_number_line;
+use writing::put_bytes;
+use writing::put_digits;
+use writing::write_number_line;
 ghost use mathlib.Core.Path.{_≡_};
 ghost use Prim.Native.Nat.{_≤_, _<_, _^_};
 ghost use lib.ListN.{length};
 ghost use Rattle.paper.specs.Paper.{isSheet};
-ghost use Rattle.text.specs.Sheet.{Wrote, sheetAfter};
+ghost use Rattle.writing.specs.Sheet.{Wrote, sheetAfter};
 ghost use Rattle.logs.specs.LogText.{sheetText, putOf, putAfter};
 ghost use Rattle.logs.specs.FairCopy.{entryCopy, blockCopy, noteText, noteIn, nextNumber, copiedAs, leftAs, entryCopied, copiedOf};
 

@@ -7,16 +7,16 @@ use paper::Sheet;
 use paper::in_range;
 use paper::is_sheet;
 use paper::numbers_of;
-use text::digit_count;
-use text::put_bytes;
-use text::write_number_line;
+use writing::digit_count;
+use writing::put_bytes;
+use writing::write_number_line;
 ghost use mathlib.Core.Path.{_≡_};
 ghost use mathlib.Core.List.{[]};
 ghost use Prim.Native.Nat.{_≤_, _<_, _^_};
 ghost use lib.ListN.{length, getD};
 ghost use Rattle.paper.specs.SheetAndEntries.{kindNames, numbersOf};
 ghost use Rattle.text.specs.Line.{numberLine};
-ghost use Rattle.text.specs.Sheet.{Wrote};
+ghost use Rattle.writing.specs.Sheet.{Wrote};
 ghost use Rattle.logs.specs.LogText.{wordLine, blockText, entryText, isEntry, putOf, putAfter, Small};
 
 // A kind's line with its LF, and how many bytes it has.

@@ -3,14 +3,14 @@ use crate::Put;
 use paper::Sheet;
 use paper::is_sheet;
 use text::sheet::LINES;
-use text::sheet::line_len;
-use text::sheet::put_line;
+use writing::sheet::line_len;
+use writing::sheet::put_line;
 ghost use mathlib.Core.Path.{_≡_};
 ghost use mathlib.Core.Bool.{true};
 ghost use Prim.Native.Nat.{_≤_};
 ghost use lib.ListN.{length};
 ghost use Rattle.paper.specs.Paper.{isSheet};
-ghost use Rattle.text.specs.Sheet.{Wrote};
+ghost use Rattle.writing.specs.Sheet.{Wrote};
 ghost use Rattle.logs.specs.LogText.{sheetValues, sheetText, putOf, putAfter};
 
 // A sheet's numbers in the order of its lines.

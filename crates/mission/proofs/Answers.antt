@@ -1,18 +1,18 @@
 -- Demand 1: every block gets an answer with a number of document 01; after any but 0 the table and the count are those before; with 12 every byte of the
 -- answer sheet is kept, and 12 is given exactly where the sheet is too short. For every table, log and sheet. Assumes nothing.
-use Prim.Native.Nat.{ℕ, suc, _+_, _≤_, _<_}
+use Prim.Native.Nat.{ℕ, suc, _≤_, _<_}
 use mathlib.Core.Bool.{Bool, true, false}
-use mathlib.Core.Path.{_≡_, refl, ap, _∙_}
+use mathlib.Core.Path.{_≡_, refl, ap}
 use mathlib.Core.List.{List, _++_}
 use mathlib.Core.Logic.{_⊎_, inl, inr}
 use native.Mathlib.Omega.{arith}
 use lib.ListN.{length}
-use lib.Dec.{eqb, leb}
+use lib.Dec.{leb}
 use borrow.Author.Tests.{ne-eqb, leb-false}
 use Rattle.laws.specs.Tests.{pick}
-use Rattle.text.specs.Block.{restOf}
-use Rattle.text.specs.Sheet.{fits, over, sheetAfter}
-use Rattle.text.specs.declared.Written.the-variants.{Bytes, NoRoom}
+use Rattle.blocks.specs.Block.{restOf}
+use Rattle.writing.specs.Sheet.{fits, over, sheetAfter}
+use Rattle.writing.specs.declared.Written.the-variants.{Bytes, NoRoom}
 use Rattle.table.specs.declared.table.Table.{Table}
 use Rattle.desk.specs.Desk.{judgedOf, blockBytes, answeredFrom, answeredOf}
 use Rattle.desk.specs.Log.{blocksFrom}

@@ -1,9 +1,16 @@
 -- The mission's sentences.
+
 pub mod Someone
 pub mod Taken
+pub mod Does
 pub mod Settled
-pub mod Late
 pub mod Answers
 pub mod Same
 pub mod Winners
+pub mod Unclaimed
 pub mod Examples
+pub mod Reached
+pub mod Written
+pub mod Payout
+pub mod Demands
+pub mod Box

@@ -1,8 +1,9 @@
 -- Demand 3 at settlement, by sitting: payments, commission and unclaimed chips make up all that was put in; no sitting is paid more than the sum of
 -- min(its total, theirs); and what the table shows as returned is what the clerk finds. For every sheet and every list of taken entries. Assumes nothing.
-use Prim.Native.Nat.{ℕ, zero, suc, _+_, _≤_, _<_, min, max}
+-- ---- lists of totals with the same chips at every height
+use Prim.Native.Nat.{ℕ, suc, _+_, _≤_, _<_, min, max}
 use mathlib.Core.Bool.{Bool, true, false}
-use mathlib.Core.Path.{_≡_, refl, sym, ap, subst, _∙_}
+use mathlib.Core.Path.{_≡_, refl, sym, ap, _∙_}
 use mathlib.Core.List.{List, [], _∷_, map}
 use native.Mathlib.Omega.{arith}
 use lib.Dec.{eqb}
@@ -14,16 +15,15 @@ use Rattle.paper.specs.Paper.{isSheet}
 use Rattle.paper.specs.declared.Sheet.{Sheet}
 use Rattle.paper.specs.declared.Entry.{Entry}
 use Rattle.paper.specs.declared.Entry.the-variants.{Settle}
-use Rattle.pots.specs.Heights.{chipsAt, chipsOver, over, liveOf, contested, backAt, backOf, maskAt}
+use Rattle.pots.specs.Heights.{chipsAt, chipsOver, over, liveOf, backAt, backOf, maskAt}
 use Rattle.pots.proofs.Chips.{over-same, chips-none, chips-cons, chips-all}
 use Rattle.pots.proofs.Counts.{same-contested, max-same}
 use Rattle.pots.specs.Hand.{reach}
 use Rattle.chairs.specs.Chairs.{noChair, chairAt, columnOf}
 use Rattle.chairs.specs.declared.Chair.{Chair}
-use Rattle.chairs.specs.declared.What.the-variants as what
 use Rattle.table.specs.Settle.{totalsOf, livesOf, payoutNow, backNow}
 use Rattle.table.specs.Take.{codeOf, payoutOf}
-use Rattle.history.specs.History.{run, AllTaken, noteOf, sits, sittingsTo, putIn, liveIn}
+use Rattle.history.specs.History.{run, AllTaken, noteOf, sittingsTo, putIn, liveIn, puts, clerkBack}
 use Rattle.table.specs.declared.table.Table.{Table}
 use Rattle.chairs.proofs.Over.{sumOver, keyed-at}
 use Rattle.history.proofs.Told.{dealer, deals, totals}
@@ -31,9 +31,8 @@ use Rattle.history.proofs.Clerk.{after}
 use Rattle.table.proofs.Closing.{col-at}
 use Rattle.history.proofs.BySitting.{totals-told, stakes-told}
 use Rattle.history.proofs.Demand.{settle-all, paid-reach}
-use Rattle.mission.specs.Settled.{paidTo, settles, puts, clerkBack}
-
--- ---- lists of totals with the same chips at every height
+use Rattle.mission.specs.Settled.{paidTo, settles}
+use Rattle.chairs.specs.declared.What.the-variants as what
 
 module _ (ts us : List ℕ) (same : (h : ℕ) → 1 ≤ h → chipsAt ts h ≡ chipsAt us h) where
   sums-same : sumOf ts ≡ sumOf us

@@ -1,15 +1,16 @@
 -- The first owing seat is 0 exactly where no seat of the table owes. Assumes nothing.
+-- the first of some seats, where there is one
 use Prim.Native.Nat.{ℕ, zero, suc, _+_, _-_, _≤_, _<_}
 use mathlib.Core.Bool.{Bool, true, false, not, true≢false, false≢true}
 use mathlib.Core.Path.{_≡_, refl, sym, ap, _∙_}
-use mathlib.Core.List.{List, [], _∷_, _++_, append-nil}
-use mathlib.Core.Logic.{_⊎_, inl, inr, ⊎-elim}
+use mathlib.Core.List.{List, append-nil}
+use mathlib.Core.Logic.{⊎-elim}
 use native.Mathlib.Omega.{arith}
 use lib.Dec.{eqb, leb, ltb}
 use borrow.Author.Tests.{leb-true, le-leb, ltb-true, lt-ltb, eq-eqb, eqb-true, eqb-false, ne-eqb, not-true}
 use Rattle.laws.specs.Tests.{both, pick}
 use Rattle.laws.proofs.Tests.{both-true, test}
-use Rattle.chairs.specs.Chairs.{chairAt, firstOf, seatsFrom, clockwise, countOf, wantOf, roundOf, isOwing}
+use Rattle.chairs.specs.Chairs.{chairAt, firstOf, seatsFrom, clockwise, countOf, wantOf, roundOf}
 use Rattle.chairs.specs.declared.Chair.{Chair}
 use Rattle.chairs.specs.declared.Who.the-variants.{LiveWithChips}
 use Rattle.table.specs.Betting.{liveHands, onlyWithChips, owes, firstOwing}
@@ -17,7 +18,6 @@ use Rattle.table.specs.State.{seatOf}
 use Rattle.table.specs.declared.table.Table.{Table}
 use Rattle.mission.specs.Allowed.{Owes, SomeoneOwes}
 
--- the first of some seats, where there is one
 record Found (p : Chair → Bool) (cs : List Chair) (k m : ℕ) : Type 0 where
   seat : ℕ
   first : k < seat

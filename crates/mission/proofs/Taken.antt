@@ -1,12 +1,13 @@
 -- Demand 2: an entry is taken exactly when document 01 allows it. Assumes nothing.
-use Prim.Native.Nat.{ℕ, zero, suc, _+_, _-_, _≤_, _<_}
+-- ---- a code of 0, and its parts
+use Prim.Native.Nat.{ℕ, zero, suc, _+_, _-_}
 use mathlib.Core.Bool.{Bool, true, false, not, true≢false, false≢true}
-use mathlib.Core.Path.{_≡_, refl, sym, ap, _∙_}
+use mathlib.Core.Path.{_≡_, refl, sym, _∙_}
 use mathlib.Core.Logic.{_⊎_, inl, inr, ⊎-elim}
 use native.Mathlib.Omega.{arith}
 use lib.Dec.{eqb, leb, ltb}
 use borrow.Author.Tests.{leb-true, leb-false, le-leb, lt-leb, ltb-true, ltb-false, lt-ltb, le-ltb, eq-eqb, eqb-true, eqb-false, ne-eqb, not-true, not-false}
-use Rattle.laws.specs.Tests.{both, either, pick}
+use Rattle.laws.specs.Tests.{both, either}
 use Rattle.laws.proofs.Tests.{both-true, either-false, test}
 use Rattle.paper.specs.Paper.{when, orElse, inRange}
 use Rattle.paper.proofs.Codes.{or-zero, when-zero}
@@ -14,7 +15,7 @@ use Rattle.paper.specs.declared.Entry.{Entry}
 use Rattle.paper.specs.declared.Entry.the-variants.{Sit, Leave, Hand, Hole, Fold, Check, Call, Wager, Board, Dead, Settle, Void}
 use Rattle.chairs.specs.Chairs.{countOf, wantOf, roundOf, chipsOf}
 use Rattle.chairs.specs.declared.Who.the-variants.{Chips, Bare}
-use Rattle.table.specs.Betting.{liveHands, firstOwing, nobodyOwes, mayRaise, isWager, turnCode, checkCode, callCode, wagerCode, deadCode}
+use Rattle.table.specs.Betting.{liveHands, nobodyOwes, mayRaise, isWager, turnCode, checkCode, callCode, wagerCode, deadCode}
 use Rattle.table.specs.Dealing.{inThisHand, holeCode, boardCode}
 use Rattle.table.specs.Opening.{nextDealtIn, isPuck, handCode}
 use Rattle.table.specs.Sittings.{sitCode, leaveCode}
@@ -24,8 +25,6 @@ use Rattle.table.specs.Take.{kindCode, codeOf}
 use Rattle.table.specs.declared.table.Table.{Table}
 use Rattle.mission.specs.Allowed.{SomeoneOwes, MaySit, MayLeave, MayOpen, MayHole, MayAct, MayCheck, MayCall, MayWager, MayBoard, MayDead, MaySettle, May, Allowed}
 use Rattle.mission.proofs.Someone.{someone, nobody, not-nobody}
-
--- ---- a code of 0, and its parts
 
 zero-or : (a b : ℕ) → a ≡ 0 → b ≡ 0 → orElse a b ≡ 0
 zero-or zero b p q = q

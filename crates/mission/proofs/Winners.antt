@@ -1,70 +1,247 @@
--- Demand 2: of two hands the better wins. The winners of a pot whose contenders' hands are shown (live, cards entered) are exactly its contenders whose best hand
--- no contender's best hand beats, at every table that taken entries lead to; and hands tie exactly when neither is better (cards, `tie-iff`). Assumes nothing.
-use Prim.Native.Nat.{ℕ, suc, _≤_, _<_, _^_}
-use mathlib.Core.Bool.{true, false}
-use mathlib.Core.Path.{_≡_, sym, ap, _∙_}
-use mathlib.Core.List.{List, map}
+-- Demand 2: of two hands the better wins. Of every pot of every taken settle the winners are exactly its contenders whose best hand no contender's best hand
+-- beats, whatever the number of seats; and hands tie exactly when neither is better (cards, `tie-iff`). A sole contender needs no cards. Assumes nothing.
+-- ---- what is told seat by seat
+use Prim.Native.Nat.{ℕ, zero, suc, _+_, _/_, _≤_, _<_, _^_}
+use mathlib.Core.Bool.{Bool, true, false, not, true≢false}
+use mathlib.Core.Path.{_≡_, refl, sym, ap, ap₂, _∙_, subst}
+use mathlib.Core.List.{List, [], _∷_, map}
+use mathlib.Core.Logic.{⊎-elim}
 use native.Mathlib.Omega.{arith}
-use lib.Dec.{ltb}
+use lib.Dec.{ltb, leb, eqb}
 use lib.ListN.{length, getD}
-use borrow.Author.Tests.{ltb-false, le-ltb}
+use borrow.Author.Tests.{ltb-false, le-ltb, le-leb, eqb-true, not-false}
 use Rattle.laws.specs.Bits.{bitAt, ones}
-use Rattle.paper.specs.Paper.{isSheet}
+use Rattle.laws.specs.Lists.{All}
+use Rattle.laws.specs.Tests.{both, either, pick, one}
+use Rattle.laws.proofs.Bits.{bit-zero}
+use Rattle.paper.specs.Paper.{when, orElse, inRange, isSheet}
 use Rattle.paper.specs.declared.Sheet.{Sheet}
 use Rattle.paper.specs.declared.Entry.{Entry}
-use Rattle.cards.specs.Order.{places, beatsBy, bestOf}
-use Rattle.cards.specs.declared.Hand.{Hand}
-use Rattle.pots.specs.Hand.{winnersOf}
-use Rattle.pots.proofs.Hands.{map-length}
-use Rattle.pots.proofs.Winners.{winners-are}
-use Rattle.chairs.specs.Chairs.{noChair}
+use Rattle.paper.specs.declared.Entry.the-variants.{Settle}
+use Rattle.paper.proofs.Codes.{or-zero, when-zero}
+use Rattle.cards.specs.Order.{ranking52, beatsBy, bestOf}
+use Rattle.cards.proofs.Above.{beats-irrefl}
+use Rattle.pots.specs.Heights.{has, chipsAt, liveOf, maskAt, contenders, contested, contest}
+use Rattle.pots.specs.Runs.{potsOf}
+use Rattle.pots.specs.declared.Pot.{Pot}
+use Rattle.pots.proofs.Alone.{contenders-few}
+use Rattle.pots.proofs.Contest.{has-none, le-or-lt}
+use Rattle.pots.proofs.Hands.{Manned, manned, pots-manned}
+use Rattle.pots.proofs.Masks.{live-length, live-at, mask-lt, mask-bit, ones-mask}
+use Rattle.pots.proofs.PotRuns.{pots-all}
+use Rattle.pots.proofs.Winners.{winners-sole, winners-are}
+use Rattle.chairs.specs.Chairs.{seatsFrom}
+use Rattle.chairs.proofs.Above.{has-truth}
 use Rattle.table.specs.State.{seatOf}
-use Rattle.table.specs.Settle.{isShown, scoreOf, scoresOf}
+use Rattle.table.specs.Settle.{isShown, scoreOf, handScore}
 use Rattle.table.specs.declared.table.Table.{Table}
+use Rattle.history.specs.AsNoted.{AsNoted}
+use Rattle.history.specs.Codes.{liveBy, nobodyBy, kindBy, codeBy}
 use Rattle.history.specs.History.{run, AllTaken}
-use Rattle.history.proofs.Clerk.{after}
-use Rattle.table.proofs.Closing.{col-at}
+use Rattle.history.specs.Notebook.{Part, Notebook, tenSeats, partAt, putsBy, livesBy, potsBy, scoreBy, notebook}
+use Rattle.history.specs.Turns.{countSeats, liveAt, turnOf}
+use Rattle.history.proofs.AsNoted.{as-noted}
+use Rattle.history.proofs.Codes.{taken-by}
+use Rattle.history.proofs.Kept.{cards-is}
 use Rattle.history.proofs.Shown.{cardsOf, scores-compare}
+use Rattle.mission.specs.Winners.{bestAt, scoresBy, Contends, BestWin}
 
-module _ (sheet : Sheet) (ok : isSheet sheet ≡ true) (es : List Entry) (taken : AllTaken sheet es) where
+pub seat-at : (f : ℕ → ℕ) (k m i : ℕ) → i < m → getD (map f (seatsFrom k m)) i 0 ≡ f (suc (i + k))
+seat-at f k zero i l = absurd (omega arith)
+seat-at f k (suc m) zero l = let z : suc k ≡ suc (0 + k) = omega arith in ap f z
+seat-at f k (suc m) (suc i) l = let z : suc (i + suc k) ≡ suc (suc i + k) = omega arith in seat-at f (suc k) m i (omega arith) ∙ ap f z
+
+pub at-seat : (f : ℕ → ℕ) (i : ℕ) → i < 10 → getD (map f tenSeats) i 0 ≡ f (suc i)
+at-seat f i l = let z : suc (i + 0) ≡ suc i = omega arith in seat-at f 0 10 i l ∙ ap f z
+
+count-chips : (p : ℕ → Bool) (xs : List ℕ) → chipsAt (map (λ x. one (p x)) xs) 1 ≡ countSeats p xs
+unfolding chipsAt
+count-chips p [] = refl
+count-chips p (x ∷ xs) = ap₂ _+_ (has-truth (p x)) (count-chips p xs)
+
+none-counted : (p : ℕ → Bool) (k m i : ℕ) → countSeats p (seatsFrom k m) ≡ 0 → i < m → p (suc (i + k)) ≡ false
+none-counted p k zero i e l = absurd (omega arith)
+none-counted p k (suc m) zero e l = go (p (suc k)) refl e
+  where
+    go : (b : Bool) → p (suc k) ≡ b → one b + countSeats p (seatsFrom (suc k) m) ≡ 0 → p (suc (0 + k)) ≡ false
+    go true q z = absurd (omega arith)
+    go false q z = let w : suc (0 + k) ≡ suc k = omega arith in ap p w ∙ q
+none-counted p k (suc m) (suc i) e l =
+    let w : suc (suc i + k) ≡ suc (i + suc k) = omega arith in
+    ap p w ∙ none-counted p (suc k) m i (omega arith) (omega arith)
+
+one-true : (b : Bool) → one b ≡ 1 → b ≡ true
+one-true true e = refl
+one-true false e = absurd (omega arith)
+
+-- ---- one bit
+some-bit : (n m i : ℕ) → i < n → bitAt m i ≡ 1 → 1 ≤ ones n m
+unfolding ones
+some-bit zero m i l e = absurd (omega arith)
+some-bit (suc n) m zero l e = omega arith
+some-bit (suc n) m (suc i) l e = omega (arith, some-bit n (m / 2) i (omega arith) e)
+
+only-bit : (n m i j : ℕ) → i < n → j < n → bitAt m i ≡ 1 → bitAt m j ≡ 1 → ones n m ≤ 1 → i ≡ j
+unfolding ones
+only-bit zero m i j l k e f o = absurd (omega arith)
+only-bit (suc n) m zero zero l k e f o = refl
+only-bit (suc n) m zero (suc j) l k e f o = absurd (omega (arith, some-bit n (m / 2) j (omega arith) f))
+only-bit (suc n) m (suc i) zero l k e f o = absurd (omega (arith, some-bit n (m / 2) i (omega arith) e))
+only-bit (suc n) m (suc i) (suc j) l k e f o = ap suc (only-bit n (m / 2) i j (omega arith) (omega arith) e f (omega arith))
+
+-- ---- a contender is live, and a seat
+pub contender-live : (ts : List ℕ) (live h i : ℕ) → 1 ≤ h → bitAt live i ≡ 0 → bitAt (contest ts live h) i ≡ 0
+unfolding contest contenders
+contender-live ts live h i p e = go (contested ts live h)
+  where
+    none : eqb (bitAt live i) 1 ≡ false
+    none = ap (λ (v : ℕ). eqb v 1) e
+
+    go : (b : Bool) → bitAt (pick b (maskAt (liveOf ts live) h) 0) i ≡ 0
+    go true = mask-bit (liveOf ts live) h i p ∙ ap (λ (v : ℕ). has v h) (live-at ts live i ∙ ap (λ (b : Bool). pick b (getD ts i 0) 0) none) ∙ has-none 0 h p
+    go false = bit-zero i
+
+low-contest : (ts : List ℕ) (live h : ℕ) → contest ts live h < 2 ^ length ts
+unfolding contest contenders
+low-contest ts live h = go (contested ts live h)
+  where
+    low : maskAt (liveOf ts live) h < 2 ^ length ts
+    low = mask-lt (liveOf ts live) h (length ts) (omega (arith, live-length ts live))
+
+    go : (b : Bool) → pick b (maskAt (liveOf ts live) h) 0 < 2 ^ length ts
+    go true = low
+    go false = omega (arith, low)
+
+-- ---- at a taken settle
+kind-zero : (sheet : Sheet) (es : List Entry) (k : ℕ) (e : Entry) → codeBy sheet es k e ≡ 0 → kindBy sheet (notebook sheet es) (turnOf sheet es) e ≡ 0
+unfolding codeBy
+kind-zero sheet es k e h =
+    let next = when (not (eqb (length es + 1) k)) 3 in
+    let kind = kindBy sheet (notebook sheet es) (turnOf sheet es) e in
+    or-zero next kind (or-zero (when (not (inRange sheet k e)) 2) (orElse next kind) h .1) .1
+
+module _ (sheet : Sheet) (ok : isSheet sheet ≡ true) (es : List Entry) (taken : AllTaken sheet (Settle ∷ es)) where
+  abbrev n : Notebook
+  n = notebook sheet es
+
   abbrev t : Table
   t = run sheet es
 
-  -- the best hand of five among the two hole and the five board cards of the seat at place i (seats are counted from 1)
-  abbrev best : ℕ → Hand
-  best i = bestOf places (cardsOf t (suc i))
+  says : AsNoted n t
+  says = as-noted sheet ok es (taken .1)
 
-  ten : length (scoresOf t) ≡ 10
-  ten = map-length (scoreOf (t .board)) (t .chairs) ∙ after sheet ok es taken .sound .standing .size
+  abbrev bare : ℕ → Bool
+  bare x = both (liveAt n x) (not (partAt n x .shown))
 
-  score-at : (i : ℕ) → i < 10 → getD (scoresOf t) i 0 ≡ scoreOf (t .board) (seatOf t (suc i))
-  score-at i l = col-at (scoreOf (t .board)) (t .chairs) i (omega (arith, after sheet ok es taken .sound .standing .size))
+  -- with two live or more no live seat is without cards
+  all-shown : 2 ≤ liveBy n → countSeats bare tenSeats ≡ 0
+  all-shown l =
+      let now = when (not (both (n .play .opened) (either (eqb (liveBy n) 1) (both (nobodyBy sheet n) (eqb (n .board .count) 5))))) 4 in
+      let many = leb 2 (liveBy n) in
+      let full = eqb (countSeats bare tenSeats) 0 in
+      let kind = kind-zero sheet es (length es + 1) Settle (taken-by sheet ok (Settle ∷ es) taken .0) in
+      let c : both many (not full) ≡ false = when-zero (both many (not full)) 9 (or-zero now (when (both many (not full)) 10) kind .1) in
+      let d : not full ≡ false = ap (λ (b : Bool). both b (not full)) (sym (le-leb 2 (liveBy n) l)) ∙ c in
+      eqb-true (countSeats bare tenSeats) 0 (not-false full d)
 
-  -- the hand of the seat at place i can be compared
+  live-bit : (i : ℕ) → i < 10 → bitAt (livesBy n) i ≡ one (liveAt n (suc i))
+  live-bit i l =
+      mask-bit (map (λ x. one (partAt n x .live)) tenSeats) 1 i (omega arith) ∙ ap (λ (v : ℕ). has v 1) (at-seat (λ x. one (partAt n x .live)) i l) ∙ has-truth (liveAt n (suc i))
+
+  lives-are : ones 10 (livesBy n) ≡ liveBy n
+  lives-are = ones-mask (map (λ x. one (partAt n x .live)) tenSeats) 1 ∙ count-chips (liveAt n) tenSeats
+
+  -- the hand of seat x can be compared
   abbrev Shown : ℕ → Type 0
-  Shown i = isShown (seatOf t (suc i)) ≡ true
+  Shown x = both (partAt n x .live) (partAt n x .shown) ≡ true
 
-  -- one hand does not beat another exactly where its score is not higher
-  not-beaten : (i j : ℕ) → i < 10 → j < 10 → Shown i → Shown j → getD (scoresOf t) j 0 ≤ getD (scoresOf t) i 0 → beatsBy places (best j) (best i) ≡ false
-  not-beaten i j l m u v h =
-      scores-compare sheet es taken (suc j) (suc i) v u
-      ∙ le-ltb (scoreOf (t .board) (seatOf t (suc i))) (scoreOf (t .board) (seatOf t (suc j))) (omega (arith, score-at i l, score-at j m))
+  seen : (i : ℕ) → i < 10 → 2 ≤ liveBy n → bitAt (livesBy n) i ≡ 1 → Shown (suc i)
+  seen i l m e =
+      let live : liveAt n (suc i) ≡ true = one-true (liveAt n (suc i)) (sym (live-bit i l) ∙ e) in
+      let w : suc (i + 0) ≡ suc i = omega arith in
+      let none : bare (suc i) ≡ false = ap bare (sym w) ∙ none-counted bare 0 10 i (all-shown m) l in
+      both-are (liveAt n (suc i)) (partAt n (suc i) .shown) live none
+    where
+      both-are : (a b : Bool) → a ≡ true → both a (not b) ≡ false → both a b ≡ true
+      both-are true true p q = refl
+      both-are true false p q = absurd (true≢false q)
+      both-are false b p q = absurd (true≢false (sym p))
 
-  not-higher : (i j : ℕ) → i < 10 → j < 10 → Shown i → Shown j → beatsBy places (best j) (best i) ≡ false → getD (scoresOf t) j 0 ≤ getD (scoresOf t) i 0
-  not-higher i j l m u v h =
-      omega (
-        arith,
-        score-at i l,
-        score-at j m,
-        ltb-false (scoreOf (t .board) (seatOf t (suc i))) (scoreOf (t .board) (seatOf t (suc j))) (sym (scores-compare sheet es taken (suc j) (suc i) v u) ∙ h),
-      )
+  -- one best hand beats another exactly where it counts more
+  compare : (x y : ℕ) → Shown x → Shown y → beatsBy ranking52 (bestAt n x) (bestAt n y) ≡ ltb (scoreBy (n .board .cards) (partAt n y)) (scoreBy (n .board .cards) (partAt n x))
+  unfolding scoreOf handScore scoreBy
+  compare x y p q =
+      sym (ap₂ (λ (a b : List ℕ). beatsBy ranking52 (bestOf ranking52 a) (bestOf ranking52 b)) (same-cards x) (same-cards y))
+      ∙ scores-compare sheet es (taken .1) x y (shown-at x ∙ p) (shown-at y ∙ q)
+      ∙ ap₂ ltb (score-at y) (score-at x)
+    where
+      same-cards : (x : ℕ) → cardsOf (run sheet es) x ≡ (partAt (notebook sheet es) x .first ∷ partAt (notebook sheet es) x .second ∷ notebook sheet es .board .cards)
+      same-cards x =
+          ap₂ (λ (c : Part) (b : List ℕ). c .first ∷ c .second ∷ b) (says .chairs x .part) (cards-is (notebook sheet es) (run sheet es) says)
 
-  -- the winners among the contenders `who` of a pot
-  pub better-wins : (who i : ℕ) → who < 2 ^ 10 → 0 < ones 10 who → i < 10 → ((j : ℕ) → j < 10 → bitAt who j ≡ 1 → Shown j)
-      → (bitAt (winnersOf (scoresOf t) who) i ≡ 1 → (bitAt who i ≡ 1) × ((j : ℕ) → j < 10 → bitAt who j ≡ 1 → beatsBy places (best j) (best i) ≡ false))
-      × ((bitAt who i ≡ 1) × ((j : ℕ) → j < 10 → bitAt who j ≡ 1 → beatsBy places (best j) (best i) ≡ false) → bitAt (winnersOf (scoresOf t) who) i ≡ 1)
-  better-wins who i w p l s =
-      let a = winners-are (scoresOf t) who i (rw ten w) (rw ten p) (omega (arith, ten)) in (
-        λ e. let q = a .0 e in (q .0, λ j m c. not-beaten i j l m (s i l (q .0)) (s j m c) (q .1 j (omega (arith, ten)) c)),
-        λ q. a .1 (q .0, λ j m c. let k : j < 10 = omega (arith, ten) in not-higher i j l k (s i l (q .0)) (s j k c) (q .1 j k c)),
-      )
+      shown-at : (x : ℕ) → isShown (seatOf (run sheet es) x) ≡ both (partAt (notebook sheet es) x .live) (partAt (notebook sheet es) x .shown)
+      shown-at x = ap (λ (c : Part). both (c .live) (c .shown)) (says .chairs x .part)
+
+      score-at : (x : ℕ) → scoreOf (run sheet es .board) (seatOf (run sheet es) x) ≡ scoreBy (notebook sheet es .board .cards) (partAt (notebook sheet es) x)
+      score-at x = ap₂ (λ (c : Part) (b : List ℕ). scoreBy b c) (says .chairs x .part) (cards-is (notebook sheet es) (run sheet es) says)
+
+  abbrev score : ℕ → ℕ
+  score i = getD (scoresBy n) i 0
+
+  abbrev told : ℕ → ℕ
+  told i = scoreBy (n .board .cards) (partAt n (suc i))
+
+  score-is : (i : ℕ) → i < 10 → score i ≡ told i
+  score-is i l = at-seat (λ x. scoreBy (n .board .cards) (partAt n x)) i l
+
+  -- ---- one pot
+  module _ (p : Pot) (low : p .who < 2 ^ 10) (some : 0 < ones 10 (p .who)) (few : ones 10 (p .who) ≤ liveBy n) (live : (i : ℕ) → bitAt (livesBy n) i ≡ 0 → bitAt (p .who) i ≡ 0) where
+    is-live : (i : ℕ) → i < 10 → Contends p i → bitAt (livesBy n) i ≡ 1
+    is-live i l c = go (liveAt n (suc i)) refl
+      where
+        go : (b : Bool) → liveAt n (suc i) ≡ b → bitAt (livesBy n) i ≡ 1
+        go true e = live-bit i l ∙ ap one e
+        go false e = absurd (omega (arith, c, live i (live-bit i l ∙ ap one e)))
+
+    -- a contender among several is shown
+    shown : 2 ≤ ones 10 (p .who) → (i : ℕ) → i < 10 → Contends p i → Shown (suc i)
+    shown m i l c = seen i l (omega arith) (is-live i l c)
+
+    several : 2 ≤ ones 10 (p .who) → BestWin n p
+    several m =
+        record {
+          wins = λ i l e.
+              let q = winners-are (scoresBy n) (p .who) i low some l .0 e in
+              (q .0, λ j k c. compare (suc j) (suc i) (shown m j k c) (shown m i l (q .0)) ∙ le-ltb (told i) (told j) (omega (arith, q .1 j k c, score-is i l, score-is j k)));
+          unbeaten = λ i l q.
+              winners-are (scoresBy n) (p .who) i low some l .1
+              (q .0, λ j k c. omega (arith, score-is i l, score-is j k, ltb-false (told i) (told j) (sym (compare (suc j) (suc i) (shown m j k c) (shown m i l (q .0))) ∙ q .1 j k c)));
+          sole = λ e. absurd (omega arith);
+        }
+
+    alone : ones 10 (p .who) ≡ 1 → BestWin n p
+    alone m =
+        record {
+          wins = λ i l e.
+              let q = winners-are (scoresBy n) (p .who) i low some l .0 e in
+              (q .0, λ j k c. subst (λ (z : ℕ). beatsBy ranking52 (bestAt n (suc j)) (bestAt n (suc z)) ≡ false) (only-bit 10 (p .who) j i k l c (q .0) (omega arith)) (beats-irrefl ranking52 (bestAt n (suc j))));
+          unbeaten = λ i l q. ap (λ (w : ℕ). bitAt w i) (winners-sole (scoresBy n) (p .who) m) ∙ q .0;
+          sole = λ e scores len. winners-sole scores (p .who) (ap (λ (k : ℕ). ones k (p .who)) len ∙ e);
+        }
+
+    one-pot : BestWin n p
+    one-pot = ⊎-elim (λ (m : 2 ≤ ones 10 (p .who)). several m) (λ (m : ones 10 (p .who) < 2). alone (omega arith)) (le-or-lt 2 (ones 10 (p .who)))
+
+  -- every pot
+  abbrev Fits : ℕ → Type 0
+  Fits m = (m < 2 ^ 10) × ((i : ℕ) → bitAt (livesBy n) i ≡ 0 → bitAt m i ≡ 0)
+
+  each-pot : (ps : List Pot) → Manned 10 ps → All (λ (p : Pot). ones 10 (p .who) ≤ ones 10 (livesBy n)) ps → All (λ (p : Pot). Fits (p .who)) ps → All (BestWin n) ps
+  each-pot [] m f a = tt
+  each-pot (p ∷ ps) (manned some m) f a = (one-pot p (a .0 .0) some (omega (arith, f .0, lives-are)) (a .0 .1), each-pot ps m (f .1) (a .1))
+
+  pub better-wins : All (BestWin n) (potsBy n)
+  unfolding potsBy
+  better-wins =
+      each-pot (potsOf (putsBy n) (livesBy n)) (pots-manned (putsBy n) (livesBy n)) (contenders-few (putsBy n) (livesBy n))
+      (pots-all Fits (putsBy n) (livesBy n) (λ h p. (low-contest (putsBy n) (livesBy n) h, λ i e. contender-live (putsBy n) (livesBy n) h i p e)))

@@ -6,9 +6,9 @@ use native.Mathlib.Numerals.{add-one}
 use native.Mathlib.Omega.{arith}
 use lib.ListN.{length, take, set, getD}
 use lib.Seq.{take-suc, take-all}
-use Rattle.picture.specs.Sheet.{Put}
+use Rattle.figures.specs.Sheet.{Put}
 use Rattle.picture.specs.Rows.{visibleOf, visibleAll}
-use Rattle.picture.proofs.Puts.{put-none, put-byte}
+use Rattle.figures.proofs.Puts.{put-none, put-byte}
 
 pub visible-start : (bs l : List ℕ) (a : ℕ) → a ≤ length l → Put (visibleAll (take 0 bs)) a l l (a + 0)
 visible-start bs l a h =

@@ -10,13 +10,14 @@ use lib.Seq.{take-suc-set, take-set-le, length-take-le}
 use lib.Dec.{eqb}
 use borrow.Author.Tests.{eq-eqb, ne-eqb, lt-ltb, le-ltb}
 use Rattle.laws.specs.Tests.{pick, both, either}
-use Rattle.picture.specs.Sheet.{Put}
-use Rattle.picture.specs.Words.{rule}
-use Rattle.picture.specs.Rows.{halfRow, numbered, leftOf, frontOf, completes, startRow, restRow, columnNumber, lineDrawn, markOf, visibleAll, foreignRow, countedOf}
+use Rattle.figures.specs.Sheet.{Put}
+use Rattle.figures.specs.Words.{rule}
+use Rattle.figures.specs.Row.{halfRow, leftOf, countedOf}
+use Rattle.picture.specs.Rows.{numbered, frontOf, completes, startRow, restRow, columnNumber, lineDrawn, markOf, visibleAll, foreignRow}
 use Rattle.picture.specs.Screen.{Kept, stateOf, saidOf, shownOf, stepOf, closeOf}
 use Rattle.picture.specs.declared.Line.{Line}
 use Rattle.picture.specs.declared.Screen.{Screen}
-use Rattle.picture.proofs.Puts.{next, put-none}
+use Rattle.figures.proofs.Puts.{next, put-none}
 
 -- a row that begins, by its three parts
 module _ (last kind n : ℕ) {h o k m : Bool} (e : h ≡ halfRow last) (f : o ≡ either (eqb kind 0) (eqb kind 1)) (g : k ≡ halfRow kind)

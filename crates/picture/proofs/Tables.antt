@@ -1,6 +1,6 @@
--- The code's tables are the definitions': at each row, by a test that antt computes. Assumes nothing.
+-- The code's table of keys is the definitions': at each row, by a test that antt computes. Assumes nothing.
 use mathlib.Core.Path.{_≡_, refl, ap, _∙_}
-use mathlib.Core.List.{List, [], _∷_, map}
+use mathlib.Core.List.{List, [], _∷_}
 use mathlib.Core.Bool.{Bool, true}
 use Prim.Native.Nat.{ℕ, _-_, _≤_, _<_}
 use native.Mathlib.Omega.{arith}
@@ -10,56 +10,14 @@ use borrow.Author.Tests.{leb-true, eqb-true}
 use Rattle.laws.specs.Tests.{both}
 use Rattle.laws.proofs.Tests.{both-true}
 use Rattle.laws.proofs.Rules.{allBelow, below-all}
-use Rattle.text.specs.Block.{eqList}
+use Rattle.text.specs.Bytes.{eqList}
 use Rattle.text.specs.Line.{lineNumber}
 use Rattle.text.specs.declared.Number.{Number}
-use Rattle.text.proofs.Blocks.{eq-list}
-use Rattle.picture.specs.Words.{bytes, labels, words}
+use Rattle.text.proofs.Bytes.{eq-list}
+use Rattle.figures.specs.Words.{bytes}
 use Rattle.picture.specs.Lines.{keys, mosts, lineWith, lineAt, Answering, noLine}
 use Rattle.picture.specs.declared.Line.{Line}
-use Rattle.picture.specs.declared.row.Label.{Label}
-use Rattle.picture.specs.declared.row.Words.{Words}
 use Rattle.picture.specs.declared.reading.Key.{Key}
-
--- ---- labels
-
-abbrev labelTable : List Label
-labelTable = map (λ (t : List ℕ). record { text = t }) labels
-
-abbrev pub labelAt : ℕ → Label
-labelAt k = getD labelTable k (record { text = [] })
-
-abbrev label-right : ℕ → Bool
-label-right k = both (eqb (length (labelAt k .text)) 12) (eqList (labelAt k .text) (getD labels k []))
-
-labels-right : allBelow 11 label-right ≡ true
-labels-right = refl
-
-pub label-row : (k : ℕ) → k < 11 → (length (labelAt k .text) ≡ 12) × (labelAt k .text ≡ getD labels k [])
-label-row k h =
-    let p = both-true _ _ (below-all 11 label-right labels-right k h) in
-    (eqb-true _ _ (p .0), eq-list _ _ (p .1))
-
--- ---- refusals in words
-
-abbrev wordTable : List Words
-wordTable = map (λ (t : List ℕ). record { text = t }) words
-
-abbrev pub wordsAt : ℕ → Words
-wordsAt k = getD wordTable k (record { text = [] })
-
-abbrev words-right : ℕ → Bool
-words-right k = both (eqb (length (wordsAt k .text)) 40) (eqList (wordsAt k .text) (getD words k []))
-
-all-words-right : allBelow 13 words-right ≡ true
-all-words-right = refl
-
-pub words-row : (k : ℕ) → k < 13 → (length (wordsAt k .text) ≡ 40) × (wordsAt k .text ≡ getD words k [])
-words-row k h =
-    let p = both-true _ _ (below-all 13 words-right all-words-right k h) in
-    (eqb-true _ _ (p .0), eq-list _ _ (p .1))
-
--- ---- keys
 
 abbrev key : List ℕ → ℕ → ℕ → Key
 key letters count most = record { letters = letters; count = count; most = most }

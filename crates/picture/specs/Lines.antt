@@ -8,7 +8,7 @@ use Rattle.laws.specs.Tests.{pick}
 use Rattle.text.specs.Line.{lineNumber}
 use Rattle.text.specs.declared.Number.{Number}
 use Rattle.text.specs.declared.Number.the-variants.{Value, Bad}
-use Rattle.picture.specs.Words.{bytes}
+use Rattle.figures.specs.Words.{bytes}
 use Rattle.picture.specs.declared.Line.{Line}
 
 abbrev pub keys : List (List ℕ)

@@ -1,63 +1,12 @@
 -- The rows that one line of an answer draws. A row has a left half, a label and a number column, and a right half, an amount or a word.
-use Prim.Native.Nat.{ℕ, _+_, min}
+use Prim.Native.Nat.{ℕ}
 use mathlib.Core.List.{List, [], _∷_, _++_, map}
 use mathlib.Core.Bool.{Bool, true, false}
-use lib.ListN.{getD}
 use lib.Dec.{eqb}
 use Rattle.laws.specs.Tests.{pick, both, either}
 use Rattle.paper.specs.SheetAndEntries.{between}
-use Rattle.picture.specs.Words.{rule, labels, words, gap, edge, bar, amber, red, off, taken, refused, nobody}
-use Rattle.picture.specs.Grouped.{groupedOf, columnOf}
-use Rattle.picture.specs.Lamp.{cellsOf}
-
--- the kinds of lines by their places in the answer block
-abbrev pub kindN : ℕ
-kindN = 0
-
-abbrev pub kindCode : ℕ
-kindCode = 1
-
-abbrev pub kindTurn : ℕ
-kindTurn = 2
-
-abbrev pub kindPot : ℕ
-kindPot = 4
-
-abbrev pub kindBack : ℕ
-kindBack = 5
-
-abbrev pub kindSitting : ℕ
-kindSitting = 7
-
-abbrev pub kindPaid : ℕ
-kindPaid = 8
-
-abbrev pub kindUnclaimed : ℕ
-kindUnclaimed = 9
-
--- no answer line
-abbrev pub kindNone : ℕ
-kindNone = 10
-
--- bytes in a colour, where there are colours
-unfoldable pub litOf : Bool → List ℕ → List ℕ → List ℕ
-litOf colour ink bs = pick colour ink [] ++ bs ++ pick colour off []
-
--- a right half with eleven bytes in the amount's place
-unfoldable pub cellOf : Bool → List ℕ → List ℕ → List ℕ
-cellOf colour ink bs = gap ++ litOf colour ink bs ++ edge
-
--- an amount, without colour
-unfoldable pub amountOf : ℕ → List ℕ
-amountOf n = cellOf false [] (groupedOf n)
-
--- a left half
-unfoldable pub leftOf : ℕ → Bool → ℕ → List ℕ
-leftOf kind shown n = getD labels kind [] ++ columnOf shown n
-
--- the row that gives a refusal in words
-unfoldable pub wordsRow : Bool → ℕ → List ℕ
-wordsRow colour code = bar ++ litOf colour red (getD words code []) ++ edge
+use Rattle.figures.specs.Words.{rule, red, taken, refused, nobody}
+use Rattle.figures.specs.Row.{kindN, kindCode, kindTurn, kindPot, kindBack, kindSitting, kindPaid, kindUnclaimed, kindNone, cellOf, amountOf, leftOf, wordsRow, lampCell, halfRow, countedOf}
 
 -- taken; or refused, and the refusal in words. A bad sheet has no other line, so a rule ends its picture
 unfoldable pub verdictOf : Bool → ℕ → List ℕ
@@ -65,9 +14,6 @@ verdictOf colour code =
     pick (eqb code 0) (cellOf false [] taken) (cellOf colour red refused ++ wordsRow colour code ++ pick (eqb code 11) rule [])
 
 -- the lamp: five rows, the first behind the label that the line has; dark where it is nobody's turn
-unfoldable pub lampCell : Bool → ℕ → ℕ → List ℕ
-lampCell colour seat row = cellOf colour amber (cellsOf seat row)
-
 unfoldable pub lampRow : Bool → ℕ → ℕ → List ℕ
 lampRow colour seat row = leftOf kindNone false 0 ++ lampCell colour seat row
 
@@ -76,17 +22,9 @@ lampOf colour seat =
     pick (eqb seat 0) (cellOf false [] nobody)
     (lampCell colour seat 0 ++ lampRow colour seat 1 ++ lampRow colour seat 2 ++ lampRow colour seat 3 ++ lampRow colour seat 4)
 
--- a line that draws a left half alone: an entry's number, which its code follows, and a sitting's, which what it is paid follows
-unfoldable pub halfRow : ℕ → Bool
-halfRow kind = either (eqb kind kindN) (eqb kind kindSitting)
-
 -- a line that is the right half of the line before
 unfoldable pub completes : ℕ → ℕ → Bool
 completes last kind = either (both (eqb last kindN) (eqb kind kindCode)) (both (eqb last kindSitting) (eqb kind kindPaid))
-
--- how many pots stand in a row after a line of this kind
-unfoldable pub countedOf : ℕ → ℕ → ℕ
-countedOf pots kind = pick (eqb kind kindPot) (min (pots + 1) 999_999_999) 0
 
 -- the number in a line's number column: a pot's is its place from the lowest, an entry's and a sitting's their own
 unfoldable pub columnNumber : ℕ → ℕ → ℕ → ℕ

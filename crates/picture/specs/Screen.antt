@@ -5,7 +5,8 @@ use mathlib.Core.Bool.{Bool, true, false}
 use lib.ListN.{length, take}
 use lib.Dec.{eqb, ltb}
 use Rattle.laws.specs.Tests.{pick}
-use Rattle.picture.specs.Rows.{kindNone, halfRow, countedOf, lineDrawn, foreignRow}
+use Rattle.figures.specs.Row.{kindNone, halfRow, countedOf}
+use Rattle.picture.specs.Rows.{lineDrawn, foreignRow}
 use Rattle.picture.specs.Lines.{answerLine, noLine}
 use Rattle.picture.specs.declared.Line.{Line}
 use Rattle.picture.specs.declared.Screen.{Screen}

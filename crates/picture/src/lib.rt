@@ -1,22 +1,20 @@
 // The picture of an answer block for a person: fixed-width rows, drawn line by line as the answer's lines arrive, in constant memory.
-mod font;
-mod grouped;
-mod put;
 mod reading;
-mod row;
 mod rows;
 
-use put::put;
-use put::put_if;
+use figures::put::put;
+use figures::put::put_if;
+use figures::row;
 use reading::read_line;
 use rows::put_answer;
 ghost use mathlib.Core.Path.{_≡_};
 ghost use mathlib.Core.Bool.{false};
 ghost use Prim.Native.Nat.{_+_, _≤_, _<_};
 ghost use lib.ListN.{length};
-ghost use Rattle.picture.specs.Sheet.{Put};
+ghost use Rattle.figures.specs.Sheet.{Put};
 ghost use Rattle.picture.specs.Lines.{Answering};
-ghost use Rattle.picture.specs.Rows.{visibleOf, visibleAll, markOf, foreignRow, countedOf};
+ghost use Rattle.picture.specs.Rows.{visibleOf, visibleAll, markOf, foreignRow};
+ghost use Rattle.figures.specs.Row.{countedOf};
 ghost use Rattle.picture.specs.Screen.{Held, stateOf, startOf, saidOf, shownOf, stepOf, closeOf};
 
 // What a line says: its kind, by its place in the table of keys, and its number; kind 10 for a line that is no answer line.

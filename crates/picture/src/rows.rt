@@ -1,20 +1,20 @@
 // The rows that an answer line draws.
 use crate::Line;
-use crate::put::put_if;
-use crate::row::counted;
-use crate::row::half;
-use crate::row::put_amount;
-use crate::row::put_cell;
-use crate::row::put_lamp_cell;
-use crate::row::put_left;
-use crate::row::put_rule_if;
-use crate::row::put_words;
+use figures::put::put_if;
+use figures::row::counted;
+use figures::row::half;
+use figures::row::put_amount;
+use figures::row::put_cell;
+use figures::row::put_lamp_cell;
+use figures::row::put_left;
+use figures::row::put_rule_if;
+use figures::row::put_words;
 use laws::both;
 use laws::chosen;
 use laws::either;
 ghost use Prim.Native.Nat.{_+_, _≤_, _<_};
 ghost use lib.ListN.{length};
-ghost use Rattle.picture.specs.Sheet.{Put};
+ghost use Rattle.figures.specs.Sheet.{Put};
 ghost use Rattle.picture.specs.Lines.{Answering};
 ghost use Rattle.picture.specs.Rows.{verdictOf, lampOf, lampRow, frontOf, startRow, restRow, lineDrawn};
 

@@ -1,11 +1,11 @@
 // Every answer of a log into every sheet that is too short for it: code 12, and no byte changes; and into the one that is just long enough.
 // Reads a log of at most 65,536 bytes on standard input, and says how many blocks it has, how many rooms were tried and how many went wrong.
+use blocks::rest;
 use desk::answer;
 use libc::STDIN_FILENO;
 use libc::STDOUT_FILENO;
 use table::table::Table;
 use table::take::new_table;
-use text::rest;
 use text::sheet::Opening;
 use text::sheet::after_sheet;
 use text::sheet::read_sheet;

@@ -8,7 +8,7 @@ use lib.ListN.{length, getD, take, drop, set, drop-of-length-le}
 use lib.Seq.{take-suc-set, drop-cons, length-take-le}
 use borrow.Author.Tests.{eq-eqb, ne-eqb, lt-ltb, le-ltb, le-leb, lt-leb}
 use Rattle.rounds.specs.declared.parts.Mark.{Mark}
-use Rattle.text.specs.Sheet.{Wrote}
+use Rattle.writing.specs.Sheet.{Wrote}
 use Rattle.rounds.specs.RoundAnswer.{answerBytes}
 use Rattle.rounds.specs.RoundParts.{Kept, keepOf, stateOf, Gathered, gatherOf, keptAfter, bytesAfter, closeBytes}
 

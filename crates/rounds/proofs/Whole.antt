@@ -12,8 +12,7 @@ use borrow.Author.Tests.{ne-eqb, leb-true, leb-false}
 use Rattle.laws.specs.Tests.{pick}
 use Rattle.laws.proofs.Tests.{test}
 use Rattle.text.specs.Number.{numberOf}
-use Rattle.text.specs.Line.{afterLine, lineNumber}
-use Rattle.text.specs.Block.{afterLines}
+use Rattle.text.specs.Line.{afterLine, lineNumber, afterLines}
 use Rattle.text.specs.declared.Number.{Number}
 use Rattle.cuts.proofs.Lines.{cap, lfs, keepAll, keep-append, cap-lf, cap-in, snoc, kept-bytes, lfs-lf, lfs-on, kept-lines, value-same, cap-after, cap-value, lfs-append, after-front, lfs-after, front-line, lines-none, lines-last}
 use Rattle.rounds.specs.RoundText.{keys, readings, goodForm, numbersOf}

@@ -7,8 +7,7 @@ use lib.Dec.{eqb}
 use lib.ListN.{length}
 use Rattle.laws.specs.Tests.{pick}
 use Rattle.paper.specs.RefusalNumbers.{malformed}
-use Rattle.text.specs.Block.{afterLines}
-use Rattle.text.specs.Line.{numberLine}
+use Rattle.text.specs.Line.{afterLines, numberLine}
 use Rattle.banked.specs.Rounds.{codeOfOutcome}
 use Rattle.banked.specs.declared.judged.Seven.{Seven}
 use Rattle.banked.specs.declared.judged.Settled.{Settled}

@@ -3,7 +3,7 @@ use crate::writing::answer;
 ghost use mathlib.Core.Path.{_≡_};
 ghost use Prim.Native.Nat.{_≤_, _<_};
 ghost use lib.ListN.{length, drop};
-ghost use Rattle.text.specs.Sheet.{Wrote};
+ghost use Rattle.writing.specs.Sheet.{Wrote};
 ghost use Rattle.rounds.specs.RoundParts.{stateOf, keepOf, gatherOf, Room, Held, keptAfter, bytesAfter, closeBytes};
 
 // How much is kept: its bytes, its LFs, and the bytes of the line that is not ended.

@@ -11,8 +11,8 @@ use lib.Dec.{eqb, leb}
 use borrow.Author.Tests.{ne-eqb, leb-true, leb-false}
 use Rattle.laws.specs.Tests.{pick, both}
 use Rattle.text.specs.Number.{numberOf, wellFormed}
-use Rattle.text.specs.Line.{lineLen, lineOf, lineEnded, hasKey, valueOf}
-use Rattle.text.specs.Block.{afterLines, restOf, blockOf}
+use Rattle.text.specs.Line.{lineLen, lineOf, lineEnded, hasKey, valueOf, afterLines}
+use Rattle.blocks.specs.Block.{restOf, blockOf}
 use Rattle.table.specs.declared.table.Table.{Table}
 use Rattle.desk.specs.declared.Judged.{Judged}
 use Rattle.desk.specs.Desk.{judgeBlock, judgedOf, blockBytes, shownOf}

@@ -10,7 +10,7 @@ use lib.Dec.{eqb}
 use borrow.Author.Tests.{eqb-true}
 use Rattle.laws.specs.Tests.{pick, both}
 use Rattle.laws.proofs.Tests.{test, both-true}
-use Rattle.text.specs.Sheet.{over}
+use Rattle.writing.specs.Sheet.{over}
 use Rattle.table.specs.declared.table.Table.{Table}
 use Rattle.stream.specs.declared.Clerk.{Clerk}
 use Rattle.stream.specs.declared.Mark.{Mark}

@@ -13,7 +13,7 @@ use borrow.Author.Tests.{leb-true, le-leb}
 use Rattle.laws.specs.Tests.{pick}
 use Rattle.laws.proofs.Tests.{test}
 use Rattle.laws.proofs.Sums.{le-or-lt}
-use Rattle.text.specs.Sheet.{over}
+use Rattle.writing.specs.Sheet.{over}
 use Rattle.table.specs.declared.table.Table.{Table}
 use Rattle.desk.specs.Desk.{judgedOf, blockBytes}
 use Rattle.desk.proofs.Whole.{answered-parts}

@@ -11,9 +11,9 @@ use lib.Dec.{eqb, ltb, leb}
 use borrow.Author.Tests.{leb-true, leb-false}
 use Rattle.laws.specs.Tests.{pick}
 use Rattle.laws.proofs.Tests.{test, both-true}
-use Rattle.text.specs.Line.{lineLen}
-use Rattle.text.specs.Block.{afterLines, restOf, blockOf}
-use Rattle.text.specs.Front.{blockEnded}
+use Rattle.text.specs.Line.{lineLen, afterLines}
+use Rattle.blocks.specs.Block.{restOf, blockOf}
+use Rattle.blocks.specs.Front.{blockEnded}
 use Rattle.table.specs.declared.table.Table.{Table}
 use Rattle.desk.specs.declared.Judged.{Judged}
 use Rattle.desk.specs.Desk.{judgedOf, blockBytes}

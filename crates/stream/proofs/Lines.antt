@@ -10,8 +10,8 @@ use lib.ListN.{length, drop, length-take, drop-of-length-le}
 use lib.Dec.{eqb, ltb, leb}
 use borrow.Author.Tests.{ne-eqb, ltb-true, ltb-false, lt-ltb, le-ltb, leb-true, leb-false, lt-leb}
 use Rattle.laws.specs.Tests.{pick, both}
-use Rattle.text.specs.Line.{lineLen, lineOf, afterLine, lineEnded, hasKey, valueOf}
-use Rattle.text.specs.Block.{afterLines, blockOf}
+use Rattle.text.specs.Line.{lineLen, lineOf, afterLine, lineEnded, hasKey, valueOf, afterLines}
+use Rattle.blocks.specs.Block.{blockOf}
 use Rattle.stream.specs.Stream.{Kept, keepOf}
 use Rattle.laws.proofs.Tests.{test}
 

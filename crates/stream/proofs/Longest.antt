@@ -10,13 +10,13 @@ use borrow.Author.Tests.{le-leb}
 use Rattle.laws.specs.Tests.{pick, both}
 use Rattle.laws.proofs.Conjunction.{both-end}
 use Rattle.laws.proofs.Sums.{map-length}
-use Rattle.text.specs.Block.{blockOf}
-use Rattle.text.specs.Entry.{parsedOf}
-use Rattle.text.specs.Front.{blockEnded}
-use Rattle.text.specs.declared.Block.{Block}
-use Rattle.text.specs.declared.Block.the-variants.{Raw, Malformed, Nothing}
-use Rattle.text.specs.declared.Parsed.{Parsed}
-use Rattle.text.specs.declared.Parsed.the-variants.{Read, OutOfRange}
+use Rattle.blocks.specs.Block.{blockOf}
+use Rattle.blocks.specs.Entry.{parsedOf}
+use Rattle.blocks.specs.Front.{blockEnded}
+use Rattle.blocks.specs.declared.Block.{Block}
+use Rattle.blocks.specs.declared.Block.the-variants.{Raw, Malformed, Nothing}
+use Rattle.blocks.specs.declared.Parsed.{Parsed}
+use Rattle.blocks.specs.declared.Parsed.the-variants.{Read, OutOfRange}
 use Rattle.paper.specs.declared.Entry.{Entry}
 use Rattle.paper.specs.declared.Entry.the-variants.{Sit, Leave, Hand, Hole, Fold, Check, Call, Wager, Board, Dead, Settle, Void}
 use Rattle.chairs.specs.Chairs.{columnOf}

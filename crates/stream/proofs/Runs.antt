@@ -14,14 +14,16 @@ use Rattle.laws.specs.Tests.{pick, both}
 use Rattle.laws.proofs.Tests.{test, both-true}
 use Rattle.laws.proofs.Conjunction.{both-none}
 use Rattle.laws.proofs.Sums.{le-or-lt}
-use Rattle.text.specs.Line.{lineLen, afterLine}
-use Rattle.text.specs.Block.{afterLines, restOf}
-use Rattle.text.specs.Front.{blockEnded, frontOf}
-use Rattle.text.specs.declared.front.Front.{Front}
-use Rattle.text.specs.declared.Written.the-variants.{Bytes, NoRoom}
-use Rattle.text.specs.Sheet.{Wrote, over, sheetAfter, writtenOf}
-use Rattle.text.proofs.Sheets.{then, part-is}
-use Rattle.text.proofs.Blocks.{rest-shorter, after-lines-no-longer}
+use Rattle.text.specs.Line.{lineLen, afterLine, afterLines}
+use Rattle.blocks.specs.Block.{restOf}
+use Rattle.blocks.specs.Front.{blockEnded, frontOf}
+use Rattle.blocks.specs.declared.front.Front.{Front}
+use Rattle.writing.specs.declared.Written.the-variants.{Bytes, NoRoom}
+use Rattle.writing.specs.Sheet.{Wrote, over, sheetAfter, writtenOf}
+use Rattle.writing.proofs.Sheets.{then}
+use Rattle.text.proofs.Parts.{part-is}
+use Rattle.blocks.proofs.Blocks.{rest-shorter}
+use Rattle.text.proofs.Lines.{after-lines-no-longer}
 use Rattle.table.specs.declared.table.Table.{Table}
 use Rattle.table.specs.Take.{Sound}
 use Rattle.desk.specs.declared.Answered.{Answered}

@@ -8,7 +8,7 @@ use lib.ListN.{length, take, drop}
 use lib.Dec.{leb, eqb}
 use borrow.Author.Tests.{eq-eqb, ne-eqb}
 use Rattle.laws.specs.Tests.{pick}
-use Rattle.text.specs.Sheet.{Wrote, over, sheetAfter}
+use Rattle.writing.specs.Sheet.{Wrote, over, sheetAfter}
 use Rattle.text.specs.TableSheet.{sheetOf}
 use Rattle.paper.specs.declared.Sheet.{Sheet}
 use Rattle.text.specs.declared.sheet.Opening.{Opening}

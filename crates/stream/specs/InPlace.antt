@@ -7,9 +7,9 @@ use mathlib.Core.Bool.{Bool, true, false}
 use lib.ListN.{length}
 use lib.Dec.{eqb, leb}
 use Rattle.laws.specs.Tests.{pick, both}
-use Rattle.text.specs.Block.{restOf}
-use Rattle.text.specs.Front.{blockEnded}
-use Rattle.text.specs.Sheet.{over}
+use Rattle.blocks.specs.Block.{restOf}
+use Rattle.blocks.specs.Front.{blockEnded}
+use Rattle.writing.specs.Sheet.{over}
 use Rattle.table.specs.declared.table.Table.{Table}
 use Rattle.desk.specs.Desk.{judgedOf, blockBytes}
 use Rattle.stream.specs.declared.Mark.{Mark}

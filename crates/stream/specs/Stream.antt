@@ -18,7 +18,7 @@ use Rattle.desk.specs.declared.Answered.{Answered}
 use Rattle.stream.specs.declared.Step.{Step}
 use Rattle.stream.specs.declared.Clerk.{Clerk}
 use Rattle.stream.specs.declared.Fed.{Fed}
-use Rattle.text.specs.Sheet.{sheetAfter}
+use Rattle.writing.specs.Sheet.{sheetAfter}
 use Rattle.stream.specs.declared.Mark.{Mark}
 
 -- what is kept of an unfinished block: bytes, how many LFs are among them, and how many bytes stand behind the last LF

@@ -1,11 +1,11 @@
 // A log that comes in parts: the unfinished sheet or block is kept, each line cut after 33 bytes, and answered at its last LF.
+use blocks::read_front;
 use desk::answer;
 use desk::answer_block;
 use desk::log::refuse_sheet;
 use paper::Sheet;
 use table::table::Table;
 use table::take::new_table;
-use text::read_front;
 use text::sheet::LINES;
 use text::sheet::Opening;
 use text::sheet::read_sheet;
@@ -13,7 +13,7 @@ ghost use mathlib.Core.Path.{_≡_};
 ghost use mathlib.Core.Bool.{true, false};
 ghost use Prim.Native.Nat.{ℕ, _+_, _-_, _*_, _≤_, _<_};
 ghost use lib.ListN.{length, take, drop};
-ghost use Rattle.text.specs.Sheet.{over, sheetAfter, Wrote};
+ghost use Rattle.writing.specs.Sheet.{over, sheetAfter, Wrote};
 ghost use Rattle.text.specs.TableSheet.{sheetLines};
 ghost use Rattle.desk.specs.Log.{fitting};
 ghost use Rattle.table.specs.Take.{Sound};

@@ -18,7 +18,7 @@ use Rattle.laws.specs.Lists.{sumOf}
 use Rattle.pots.specs.declared.Commission.{Commission}
 use Rattle.pots.specs.Hand.{feeOfHand, dueOf, paidOf, unclaimedOf}
 use Rattle.pots.proofs.Hands.{none-lost, map-length, paid-and-unclaimed, at-most-sum}
-use Rattle.cards.specs.Order.{places, bestOf, strengthBy}
+use Rattle.cards.specs.Order.{ranking52, bestOf, strengthBy}
 use Rattle.cards.proofs.Spelled.{strength-small}
 use Rattle.table.specs.Settle.{Payable, totalsOf, livesOf, hereOf, isShown, handScore, scoreOf, scoresOf, dueNow, commissionOf, payoutNow}
 use Rattle.table.specs.declared.table.Board.{Board}
@@ -117,8 +117,8 @@ score-small : (b : Board) (c : Chair) → scoreOf b c ≤ 100000000
 unfolding scoreOf handScore
 score-small b c = go (isShown c)
   where
-    go : (s : Bool) → pick s (strengthBy places (bestOf places (c .hole .first ∷ c .hole .second ∷ b .cards))) 0 ≤ 100000000
-    go true = omega (arith, strength-small places (bestOf places (c .hole .first ∷ c .hole .second ∷ b .cards)))
+    go : (s : Bool) → pick s (strengthBy ranking52 (bestOf ranking52 (c .hole .first ∷ c .hole .second ∷ b .cards))) 0 ≤ 100000000
+    go true = omega (arith, strength-small ranking52 (bestOf ranking52 (c .hole .first ∷ c .hole .second ∷ b .cards)))
     go false = omega arith
 
 score-at : (b : Board) (cs : List Chair) (i : ℕ) → getD (map (scoreOf b) cs) i 0 ≤ 100000000

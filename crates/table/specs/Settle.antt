@@ -8,7 +8,7 @@ use lib.Dec.{ltb, leb, eqb}
 use lib.ListN.{replicate}
 use Rattle.paper.specs.Paper.{when, orElse, isSheet}
 use Rattle.laws.specs.Tests.{both, either, pick}
-use Rattle.cards.specs.Order.{places, bestOf, strengthBy}
+use Rattle.cards.specs.Order.{ranking52, bestOf, strengthBy}
 use Rattle.pots.specs.Heights.{maskAt, backOf}
 use Rattle.pots.specs.Runs.{potsOf}
 use Rattle.pots.specs.Hand.{feeOfHand, dueOf, paidOf, unclaimedOf}
@@ -55,7 +55,7 @@ isShown c = both (c .dealt .live) (c .hole .entered)
 
 -- the number of the best hand of five among a seat's two hole and the five board cards
 unfoldable pub handScore : Board → Chair → ℕ
-handScore b c = strengthBy places (bestOf places (c .hole .first ∷ c .hole .second ∷ b .cards))
+handScore b c = strengthBy ranking52 (bestOf ranking52 (c .hole .first ∷ c .hole .second ∷ b .cards))
 
 -- what a seat's hand counts in a contest; 0 where there is none to compare ("A sole contender needs no cards")
 unfoldable pub scoreOf : Board → Chair → ℕ

@@ -11,8 +11,7 @@ use lib.ListN.{getD}
 use lib.Dec.{leb}
 use borrow.Author.Tests.{leb-true, le-leb}
 use Rattle.laws.specs.Tests.{pick, both}
-use Rattle.text.specs.Line.{afterLine, lineNumber}
-use Rattle.text.specs.Block.{afterLines}
+use Rattle.text.specs.Line.{afterLine, lineNumber, afterLines}
 use Rattle.paper.specs.Paper.{between, isSheet}
 use Rattle.paper.proofs.Codes.{between-in}
 use Rattle.text.specs.TableSheet.{sheetLines, sheetKeys, sheetFrom, sheetTo, ranged, sheetNumber, isValue, valueIn, allGood, sheetWith, sheetOf}

@@ -11,13 +11,13 @@ use borrow.Author.Tests.{leb-true, eqb-true}
 use Rattle.laws.specs.Tests.{both}
 use Rattle.laws.proofs.Tests.{both-true}
 use Rattle.laws.proofs.Rules.{allBelow, below-all}
-use Rattle.text.specs.Line.{lineNumber, numberLine}
+use Rattle.text.specs.Line.{lineNumber, numberLine, afterLines}
 use Rattle.text.specs.Number.{digits}
-use Rattle.text.specs.Block.{eqList, afterLines}
+use Rattle.text.specs.Bytes.{eqList}
 use Rattle.text.specs.declared.Number.{Number}
 use Rattle.text.specs.TableSheet.{sheetLines, sheetKeys, sheetFrom, sheetTo, ranged, sheetNumber}
 use Rattle.text.specs.declared.sheet.SheetLine.{SheetLine}
-use Rattle.text.proofs.Blocks.{eq-list}
+use Rattle.text.proofs.Bytes.{eq-list}
 use Rattle.text.proofs.Lines.{line-count}
 use Rattle.text.proofs.Numbers.{count-most}
 

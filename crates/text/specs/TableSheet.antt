@@ -7,8 +7,7 @@ use mathlib.Core.Bool.{Bool, true, false}
 use lib.ListN.{length, getD}
 use lib.Dec.{leb}
 use Rattle.laws.specs.Tests.{pick, both}
-use Rattle.text.specs.Line.{lineNumber}
-use Rattle.text.specs.Block.{afterLines}
+use Rattle.text.specs.Line.{afterLines, lineNumber}
 use Rattle.paper.specs.SheetAndEntries.{between}
 use Rattle.text.specs.declared.Number.{Number}
 use Rattle.text.specs.declared.Number.the-variants.{Value, Bad}

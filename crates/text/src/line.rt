@@ -4,8 +4,7 @@ use crate::decimal::number_in;
 ghost use mathlib.Core.Path.{_≡_};
 ghost use Prim.Native.Nat.{_≤_};
 ghost use lib.ListN.{length};
-ghost use Rattle.text.specs.Block.{afterLines};
-ghost use Rattle.text.specs.Line.{lineLen, afterLine, startsWith, valueStart, valueOf, lineNumber};
+ghost use Rattle.text.specs.Line.{lineLen, afterLine, afterLines, startsWith, valueStart, valueOf, lineNumber};
 
 // Where the log's first line ends: its LF's place, or the log's length.
 pub fn line_end(log: &[u8]) -> usize

@@ -1,17 +1,11 @@
 // The table sheet: its lines, by a table of keys and ranges.
 use crate::Number;
-use crate::decimal::digit_count;
 use crate::line::after_lines;
 use crate::line::read_key_number;
-use crate::writer::write_number_line;
 use paper::Sheet;
 ghost use mathlib.Core.Path.{_≡_};
-ghost use mathlib.Core.List.{[]};
-ghost use Prim.Native.Nat.{_≤_, _<_, _^_};
-ghost use lib.ListN.{length, getD};
-ghost use Rattle.text.specs.Line.{numberLine};
-ghost use Rattle.text.specs.Sheet.{Wrote};
-ghost use Rattle.text.specs.TableSheet.{sheetLines, sheetKeys, ranged, sheetNumber, isValue, valueIn, allGood, sheetOf, sheetEnd, sheetWith};
+ghost use Prim.Native.Nat.{_<_};
+ghost use Rattle.text.specs.TableSheet.{sheetLines, ranged, sheetNumber, isValue, valueIn, allGood, sheetOf, sheetEnd, sheetWith};
 
 // A sheet, or that one of its lines is missing, malformed or out of its range: code 11.
 pub enum Opening {
@@ -23,14 +17,14 @@ pub enum Opening {
 pub const LINES: usize = 6;
 
 // A line of the sheet: the letters of its key and how many they are, and the least and the greatest number that it may have.
-struct SheetLine {
-    key: [u8; 5],
-    letters: usize,
-    least: u32,
-    most: u32,
+pub struct SheetLine {
+    pub key: [u8; 5],
+    pub letters: usize,
+    pub least: u32,
+    pub most: u32,
 }
 
-const TABLE: [SheetLine; LINES] = [
+pub const TABLE: [SheetLine; LINES] = [
     SheetLine {
         key: *b"seats",
         letters: 5,
@@ -169,24 +163,4 @@ pub fn after_sheet(log: &[u8]) -> &[u8]
     ensures { λ r. ⌜ now r ≡ sheetEnd (now (log .entry)) ⌝ }
 {
     after_lines(log, LINES)
-}
-
-// How long the sheet's k-th line is with the number n.
-pub fn line_len(k: usize, n: u32) -> usize
-    requires { ⌜ k < sheetLines ⌝ }
-    ensures { λ r. ⌜ (r ≡ length (numberLine (getD sheetKeys k []) n)) × (r ≤ 16) ⌝ }
-{
-    let row = TABLE[k];
-    row.letters + digit_count(n) + 2
-}
-
-// The sheet's k-th line with the number n and its LF at the front of the buffer.
-pub fn put_line(buffer: &mut [u8], k: usize, n: u32) -> usize
-    requires { ⌜ (k < sheetLines) × (n < 10 ^ 9) × (length (numberLine (getD sheetKeys k []) n) ≤ length (now buffer)) ⌝ }
-    ensures { λ r. ⌜ Wrote (numberLine (getD sheetKeys k []) n) (now (buffer .entry)) (now (buffer .exit)) r ⌝ }
-{
-    let row = TABLE[k];
-    let key = row.key;
-    let letters = row.letters;
-    write_number_line(buffer, &key[0..letters], n)
 }

@@ -1,7 +1,7 @@
 use Rattle.desk.specs.Desk.{judgedOf, judgeBlock}
 use Rattle.desk.proofs.Laws.{block-small}
 use mathlib.Core.Path.{ap, _∙_}
-use Rattle.text.specs.declared.Block.{Block}
+use Rattle.blocks.specs.declared.Block.{Block}
 use borrow.Author.Needs.{needs}
 use Rattle.desk.proofs.judge.Statement.{statement}
 use Rattle.desk.proofs.judge.Tie as tie

@@ -1,5 +1,5 @@
 use Rattle.desk.proofs.Whole.{whole-part}
-use Rattle.text.proofs.Blocks.{rest-shorter}
+use Rattle.blocks.proofs.Blocks.{rest-shorter}
 use mathlib.Core.Path.{ap, _∙_}
 use Rattle.table.specs.Take.{Sound}
 use native.Mathlib.Omega.{arith}

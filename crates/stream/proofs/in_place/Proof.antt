@@ -6,8 +6,8 @@ use native.Mathlib.Omega.{arith}
 use lib.ListN.{length}
 use borrow.Author.Needs.{needs}
 use borrow.Author.Tests.{not-true, not-false}
-use Rattle.text.specs.declared.front.Front.{Front}
-use Rattle.text.proofs.Sheets.{part-is}
+use Rattle.blocks.specs.declared.front.Front.{Front}
+use Rattle.text.proofs.Parts.{part-is}
 use Rattle.desk.specs.Desk.{numberOfBlock}
 use Rattle.desk.proofs.Laws.{block-small}
 use Rattle.stream.proofs.Runs.{Running, run-start, run-out, run-used, run-moves, run-open, run-room, run-full, run-turn}

@@ -4,12 +4,12 @@ use borrow.Author.Needs.{needs}
 use Rattle.banked.proofs.hands.flop_hand_of.Statement.{statement}
 use Rattle.banked.proofs.hands.flop_hand_of.Tie as tie
 
-value-requires : tie.Need-value-requires
-value-requires c κs = search needs
+five-worth-requires : tie.Need-five-worth-requires
+five-worth-requires c κs = search needs
 
 returns : tie.Need-returns
 unfolding flopHandOf
-returns c = c .value .ensures
+returns c = c .five-worth .ensures
 
 pub flop-hand-of-spec : {M : Type 1} → statement M
-flop-hand-of-spec = tie.close (tie.spec value-requires returns)
+flop-hand-of-spec = tie.close (tie.spec five-worth-requires returns)

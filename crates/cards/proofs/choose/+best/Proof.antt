@@ -17,7 +17,7 @@ use Rattle.cards.proofs.choose.push.Reads as push-reads
 use Rattle.cards.proofs.choose.with_rest.Reads as with-rest-reads
 
 abbrev μ-best : Measures 1 best-kinds.ps ℕ
-μ-best κs a = length (a .0 .now) - a .1 .0
+μ-best κs a = length (a .1 .0 .now) - a .1 .1 .0
 
 abbrev best-at : ℕ → In 1 best-kinds.ps
 best-at t = and 1 best-kinds.ps (is 1 best-kinds.ps μ-best t) best.Pre
@@ -35,7 +35,7 @@ best-better-requires : (t : ℕ) → best-lts.Need-better-requires (
   best-below t,
   best.Post,
 ) (best-at t) best.Post
-best-better-requires t c κs = c .before .before .pre .1 .3
+best-better-requires t c κs = (c .before .before .pre .1 .3, c .before .before .pre .1 .4)
 
 best-returns : (t : ℕ) → best-lts.Need-returns (
   better-reads.Asked,
@@ -50,7 +50,7 @@ best-returns : (t : ℕ) → best-lts.Need-returns (
 best-returns t c =
     let s = c .before .before .before in
     let a = s .args in
-    (found-five (handIn (a .so-far)) _ (a .chosen) (a .have) (a .at) (a .cards .now) (c .before .if1 .taken) (c .better .ensures .0), c .better .ensures .1)
+    (found-five (a .ranking) (handIn (a .so-far)) _ (a .chosen) (a .have) (a .at) (a .cards .now) (c .before .if1 .taken) (c .better .ensures .0), c .better .ensures .1)
 
 best-sub-if2 : (t : ℕ) → best-lts.Need-sub-if2 (
   better-reads.Asked,
@@ -98,7 +98,7 @@ best-better-requires-2 : (t : ℕ) → best-lts.Need-better-requires-2 (
   best-below t,
   best.Post,
 ) (best-at t) best.Post
-best-better-requires-2 t c κs = c .before .before .before .before .pre .1 .3
+best-better-requires-2 t c κs = (c .before .before .before .before .pre .1 .3, c .before .before .before .before .pre .1 .4)
 
 best-returns-2 : (t : ℕ) → best-lts.Need-returns-2 (
   better-reads.Asked,
@@ -113,7 +113,7 @@ best-returns-2 : (t : ℕ) → best-lts.Need-returns-2 (
 best-returns-2 t c =
     let s = c .before .before .before .before .before in
     let a = s .args in (
-      found-rest (handIn (a .so-far)) _ (a .chosen) (a .have) (a .at) (a .cards .now) (c .before .with-rest .result) (s .pre .1 .1) (c .before .before .if2 .taken) (s .pre .1 .2)
+      found-rest (a .ranking) (handIn (a .so-far)) _ (a .chosen) (a .have) (a .at) (a .cards .now) (c .before .with-rest .result) (s .pre .1 .1) (c .before .before .if2 .taken) (s .pre .1 .2)
           (c .before .with-rest .ensures) (c .better2 .ensures .0),
       c .better2 .ensures .1,
     )
@@ -176,7 +176,8 @@ best-best-requires : (t : ℕ) → best-lts.Need-best-requires (
   best-below t,
   best.Post,
 ) (best-at t) best.Post
-best-best-requires t c κs = omega arith
+best-best-requires t c κs =
+    let s = c .before .before .before .before .before in (omega arith, (omega arith, omega arith, omega arith, s .pre .1 .3, s .pre .1 .4))
 
 best-add-best-3 : (t : ℕ) → best-lts.Need-add-best-3 (
   better-reads.Asked,
@@ -200,7 +201,8 @@ best-best-requires-2 : (t : ℕ) → best-lts.Need-best-requires-2 (
   best-below t,
   best.Post,
 ) (best-at t) best.Post
-best-best-requires-2 t c κs = omega arith
+best-best-requires-2 t c κs =
+    let s = c .before .before .before .before .before .before in (omega arith, (omega arith, omega arith, omega arith, s .pre .1 .3, c .best .ensures .1))
 
 best-returns-3 : (t : ℕ) → best-lts.Need-returns-3 (
   better-reads.Asked,
@@ -215,7 +217,7 @@ best-returns-3 : (t : ℕ) → best-lts.Need-returns-3 (
 best-returns-3 t c =
     let s = c .before .before .before .before .before .before .before in
     let a = s .args in (
-      found-more (handIn (a .so-far)) _ (a .chosen) (a .have) (a .at) (a .cards .now) (c .before .before .push .result) (handIn (c .before .best .result)) (s .pre .1 .1)
+      found-more (a .ranking) (handIn (a .so-far)) _ (a .chosen) (a .have) (a .at) (a .cards .now) (c .before .before .push .result) (handIn (c .before .best .result)) (s .pre .1 .1)
           (c .before .before .before .before .before .if1 .left) (omega arith) (c .before .before .push .ensures .0) (c .before .before .push .ensures .1) (c .before .best .ensures .0) (c .best2 .ensures .0),
       c .best2 .ensures .1,
     )

@@ -10,26 +10,23 @@ five-in-requires c κs = search needs
 last-requires : tie.Need-last-requires
 last-requires c κs = search needs
 
-sub-t6 : tie.Need-sub-t6
-sub-t6 c = search needs
+array-read-t8 : tie.Need-array-read-t8
+array-read-t8 c = search needs
 
-array-read-t9 : tie.Need-array-read-t9
-array-read-t9 c = search needs
+array-read-t11 : tie.Need-array-read-t11
+array-read-t11 c = search needs
 
-array-read-t12 : tie.Need-array-read-t12
-array-read-t12 c = search needs
+array-read-t14 : tie.Need-array-read-t14
+array-read-t14 c = search needs
 
-array-read-t15 : tie.Need-array-read-t15
-array-read-t15 c = search needs
+array-read-t17 : tie.Need-array-read-t17
+array-read-t17 c = search needs
 
-array-read-t18 : tie.Need-array-read-t18
-array-read-t18 c = search needs
-
-array-read-t21 : tie.Need-array-read-t21
-array-read-t21 c = search needs
+array-read-t20 : tie.Need-array-read-t20
+array-read-t20 c = search needs
 
 returns : tie.Need-returns
-returns c = hand-of _ _ _ (c .before .before .pre) (c .before .five-in .ensures) (c .last .ensures)
+returns c = hand-of _ _ _ (c .before .five-in .ensures) (c .last .ensures)
 
 pub hand-in-spec : {M : Type 1} → statement M
 hand-in-spec =
@@ -37,10 +34,9 @@ hand-in-spec =
     (tie.spec
     five-in-requires
     last-requires
-    sub-t6
-    array-read-t9
-    array-read-t12
-    array-read-t15
-    array-read-t18
-    array-read-t21
+    array-read-t8
+    array-read-t11
+    array-read-t14
+    array-read-t17
+    array-read-t20
     returns)

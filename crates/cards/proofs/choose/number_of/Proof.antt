@@ -5,17 +5,26 @@ use borrow.Author.Needs.{needs}
 use Rattle.cards.proofs.choose.number_of.Statement.{statement}
 use Rattle.cards.proofs.choose.number_of.Tie as tie
 
-sub-high : tie.Need-sub-high
-sub-high c = search needs
+place-requires : tie.Need-place-requires
+place-requires c κs = search needs
 
-cast-high : tie.Need-cast-high
-cast-high c = search needs
+cast-head : tie.Need-cast-head
+cast-head c = search needs
+
+mul-head : tie.Need-mul-head
+mul-head c = search needs
+
+cast-head-2 : tie.Need-cast-head-2
+cast-head-2 c = search needs
+
+add-head : tie.Need-add-head
+add-head c = search needs
 
 mul-high : tie.Need-mul-high
 mul-high c = search needs
 
-cast-high-2 : tie.Need-cast-high-2
-cast-high-2 c = search needs
+cast-high : tie.Need-cast-high
+cast-high c = search needs
 
 add-high : tie.Need-add-high
 add-high c = search needs
@@ -23,8 +32,8 @@ add-high c = search needs
 mul-high-2 : tie.Need-mul-high-2
 mul-high-2 c = search needs
 
-cast-high-3 : tie.Need-cast-high-3
-cast-high-3 c = search needs
+cast-high-2 : tie.Need-cast-high-2
+cast-high-2 c = search needs
 
 add-high-2 : tie.Need-add-high-2
 add-high-2 c = search needs
@@ -58,20 +67,23 @@ add-result-3 c = search needs
 
 returns : tie.Need-returns
 returns c =
-    let s = c .before .before .before .before .before .before in
-    number-hand _ (s .args .h) (s .pre) (omega arith) (omega arith) (omega arith) (omega arith) (omega arith) (omega arith)
+    let s = c .before .before .before .before .before .before .before in
+    number-hand (s .args .ranking) _ _ (s .args .h) (s .pre) (c .before .before .before .before .before .before .place .ensures) (omega arith) (omega arith) (omega arith) (omega arith) (omega arith) (omega arith) (omega arith)
 
 pub number-of-spec : {M : Type 1} → statement M
 number-of-spec =
     tie.close
     (tie.spec
-    sub-high
-    cast-high
+    place-requires
+    cast-head
+    mul-head
+    cast-head-2
+    add-head
     mul-high
-    cast-high-2
+    cast-high
     add-high
     mul-high-2
-    cast-high-3
+    cast-high-2
     add-high-2
     mul-result
     cast-result

@@ -1,7 +1,7 @@
 use Rattle.desk.proofs.Whole.{going-room, whole-part, Going, going-start, going-turn, going-done}
 use mathlib.Core.Path.{refl, ap, _∙_}
 use lib.ListN.{length}
-use Rattle.text.proofs.Blocks.{rest-shorter}
+use Rattle.blocks.proofs.Blocks.{rest-shorter}
 use borrow.Author.Needs.{needs}
 use native.Mathlib.Omega.{arith}
 use Rattle.desk.proofs.log.blocks.Statement.{statement}

@@ -1,7 +1,7 @@
 -- `copy_block` meets its contract: five numbers, or malformed.
 use Rattle.logs.proofs.Copies.{raw-copied, bad-copied}
 use Rattle.logs.specs.FairCopy.{formCopy, formCopied}
-use Rattle.text.specs.declared.Block.{Block}
+use Rattle.blocks.specs.declared.Block.{Block}
 use mathlib.Core.Path.{ap}
 use borrow.Author.Needs.{needs}
 use Rattle.logs.proofs.copy.copy_block.Statement.{statement}

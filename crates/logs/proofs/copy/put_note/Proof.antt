@@ -1,7 +1,7 @@
 -- `put_note` meets its contract: each writer writes behind the ones before it.
 use Rattle.logs.proofs.Copies.{note-parts}
 use Rattle.logs.specs.FairCopy.{noteText}
-use Rattle.text.proofs.Sheets.{then}
+use Rattle.writing.proofs.Sheets.{then}
 use native.Mathlib.Omega.{arith}
 use borrow.Author.Needs.{needs}
 use Rattle.logs.proofs.copy.put_note.Statement.{statement}

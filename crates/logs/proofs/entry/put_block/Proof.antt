@@ -1,6 +1,6 @@
 -- `put_block` meets its contract: each line is written behind the ones before it.
 use native.Mathlib.Omega.{arith}
-use Rattle.text.proofs.Sheets.{then}
+use Rattle.writing.proofs.Sheets.{then}
 use Rattle.logs.specs.LogText.{blockText}
 use Rattle.logs.proofs.KindRows.{block-parts}
 use borrow.Author.Needs.{needs}

@@ -1,5 +1,5 @@
 -- `put_lamp` meets its contract: its five rows stand one behind the other.
-use Rattle.picture.proofs.Puts.{next}
+use Rattle.figures.proofs.Puts.{next}
 use Rattle.picture.specs.Rows.{lampOf}
 use borrow.Author.Tests.{eq-eqb, ne-eqb}
 use native.Mathlib.Omega.{arith}

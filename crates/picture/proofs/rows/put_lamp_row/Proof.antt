@@ -1,5 +1,5 @@
 -- `put_lamp_row` meets its contract: a left half and a right half.
-use Rattle.picture.proofs.Puts.{next}
+use Rattle.figures.proofs.Puts.{next}
 use Rattle.picture.specs.Rows.{lampRow}
 use native.Mathlib.Omega.{arith}
 use borrow.Author.Needs.{needs}

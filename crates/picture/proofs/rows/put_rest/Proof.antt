@@ -1,5 +1,5 @@
 -- `put_rest` meets its contract, by the line's kind.
-use Rattle.picture.proofs.Puts.{put-none}
+use Rattle.figures.proofs.Puts.{put-none}
 use Rattle.picture.specs.Rows.{restRow}
 use borrow.Author.Tests.{eq-eqb, ne-eqb}
 use native.Mathlib.Omega.{arith}

@@ -1,5 +1,5 @@
 -- `put_verdict` meets its contract, by its test.
-use Rattle.picture.proofs.Puts.{next}
+use Rattle.figures.proofs.Puts.{next}
 use Rattle.picture.specs.Rows.{verdictOf}
 use borrow.Author.Tests.{eq-eqb, ne-eqb}
 use native.Mathlib.Omega.{arith}

@@ -1,7 +1,7 @@
 -- `rounds::writing::put_outcome` meets its contract. Assumes nothing.
 use Rattle.rounds.proofs.Lengths.{line-most, code-small, paid-bytes, two-bytes, eight-bytes}
 use Rattle.rounds.specs.RoundAnswer.{keyCode}
-use Rattle.text.proofs.Sheets.{then}
+use Rattle.writing.proofs.Sheets.{then}
 use native.Mathlib.Omega.{arith}
 use borrow.Author.Needs.{needs}
 use Rattle.rounds.proofs.writing.put_outcome.Statement.{statement}

@@ -1,6 +1,6 @@
 -- `rounds::writing::put_settled` meets its contract. Assumes nothing.
 use Rattle.rounds.specs.RoundAnswer.{settledBytes}
-use Rattle.text.proofs.Sheets.{then}
+use Rattle.writing.proofs.Sheets.{then}
 use native.Mathlib.Omega.{arith}
 use borrow.Author.Needs.{needs}
 use Rattle.rounds.proofs.writing.put_settled.Statement.{statement}

@@ -1,7 +1,7 @@
 -- `rounds::writing::put_two` meets its contract. Assumes nothing.
 use Rattle.rounds.proofs.Lengths.{line-most}
 use Rattle.rounds.specs.RoundAnswer.{twoBytes}
-use Rattle.text.proofs.Sheets.{then}
+use Rattle.writing.proofs.Sheets.{then}
 use native.Mathlib.Omega.{arith}
 use borrow.Author.Needs.{needs}
 use Rattle.rounds.proofs.writing.put_two.Statement.{statement}

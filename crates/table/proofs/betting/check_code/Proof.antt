@@ -20,7 +20,7 @@ or-else-requires c κs = search needs
 
 returns : tie.Need-returns
 unfolding checkCode
-returns c = cc
+returns c = rw (c .before .when .ensures, c .before .before .turn-code .ensures, c .before .before .before .before .round-of .ensures, c .before .before .before .before .before .seat-of .ensures) at (c .or-else .ensures)
 
 pub check-code-spec : {M : Type 1} → statement M
 check-code-spec =

@@ -14,7 +14,7 @@ after-act-requires c κs = search needs
 
 returns : tie.Need-returns
 unfolding checkedTo
-returns c = cc
+returns c = rw (c .before .acting .ensures, c .before .before .seat-of .ensures) at (c .after-act .ensures)
 
 pub checked-spec : {M : Type 1} → statement M
 checked-spec = tie.close (tie.spec seat-of-requires acting-requires after-act-requires returns)

@@ -23,7 +23,7 @@ or-else-requires c κs = search needs
 
 returns : tie.Need-returns
 unfolding deadCode
-returns c = cc
+returns c = rw (c .before .when2 .ensures, c .before .before .when .ensures, c .before .before .before .either .ensures, c .before .before .before .before .before .lives .ensures, c .before .before .before .before .before .before .before .seat-of .ensures) at (c .or-else .ensures)
 
 pub dead-code-spec : {M : Type 1} → statement M
 dead-code-spec =

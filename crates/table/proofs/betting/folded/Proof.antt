@@ -14,7 +14,7 @@ after-act-requires c κs = search needs
 
 returns : tie.Need-returns
 unfolding foldedTo
-returns c = cc
+returns c = rw (c .before .folded .ensures, c .before .before .seat-of .ensures) at (c .after-act .ensures)
 
 pub folded-spec : {M : Type 1} → statement M
 folded-spec = tie.close (tie.spec seat-of-requires folded-requires after-act-requires returns)

@@ -6,7 +6,7 @@ short-of-requires : tie.Need-short-of-requires
 short-of-requires c κs = search needs
 
 returns : tie.Need-returns
-returns c = cc
+returns c = rw (c .before .short-of .ensures)
 
 pub is-full-lift-spec : {M : Type 1} → statement M
 is-full-lift-spec = tie.close (tie.spec short-of-requires returns)

@@ -12,7 +12,7 @@ chosen-requires : tie.Need-chosen-requires
 chosen-requires c κs = search needs
 
 returns : tie.Need-returns
-returns c = cc
+returns c = rw (c .before .is-full-lift .ensures, c .before .before .short-of .ensures) at (c .chosen .ensures)
 
 pub lift-after-spec : {M : Type 1} → statement M
 lift-after-spec = tie.close (tie.spec short-of-requires is-full-lift-requires chosen-requires returns)

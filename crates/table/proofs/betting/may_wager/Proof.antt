@@ -29,7 +29,7 @@ both-requires-3 c κs = search needs
 
 returns : tie.Need-returns
 unfolding isWager
-returns c = cc
+returns c = rw (c .before .may-raise .ensures, c .before .before .both2 .ensures, c .before .before .before .both .ensures, c .before .before .before .before .either .ensures, c .before .before .before .before .before .before .before .full-lift .ensures, c .before .before .before .before .before .before .before .before .before .short-of .ensures, c .before .before .before .before .before .before .before .before .before .before .round-of .ensures) at (c .both3 .ensures)
 
 pub may-wager-spec : {M : Type 1} → statement M
 may-wager-spec =

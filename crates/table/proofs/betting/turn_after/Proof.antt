@@ -17,7 +17,7 @@ chosen-requires-2 c κs = search needs
 
 returns : tie.Need-returns
 unfolding turnAfter
-returns c = cc
+returns c = rw (c .before .first-owing2 .ensures, c .before .before .chosen .ensures, c .before .before .before .first-owing .ensures) at (c .chosen2 .ensures)
 
 pub turn-after-spec : {M : Type 1} → statement M
 turn-after-spec =

@@ -26,7 +26,7 @@ or-else-requires-2 c κs = search needs
 
 returns : tie.Need-returns
 unfolding turnCode
-returns c = cc
+returns c = rw (c .before .or-else .ensures, c .before .before .when3 .ensures, c .before .before .before .when2 .ensures, c .before .before .before .before .when .ensures, c .before .before .before .before .before .before .before .nobody-owes .ensures, c .before .before .before .before .before .before .before .before .seat-of .ensures) at (c .or-else2 .ensures)
 
 pub turn-code-spec : {M : Type 1} → statement M
 turn-code-spec =

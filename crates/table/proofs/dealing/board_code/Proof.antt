@@ -32,7 +32,7 @@ or-else-requires c κs = search needs
 
 returns : tie.Need-returns
 unfolding boardCode
-returns c = cc
+returns c = rw (c .before .when2 .ensures, c .before .before .when .ensures, c .before .before .before .either3 .ensures, c .before .before .before .before .either2 .ensures, c .before .before .before .before .before .either .ensures, c .before .before .before .before .before .before .used .ensures, c .before .before .before .before .before .before .before .before .lives .ensures, c .before .before .before .before .before .before .before .before .before .nobody-owes .ensures) at (c .or-else .ensures)
 
 pub board-code-spec : {M : Type 1} → statement M
 board-code-spec =

@@ -38,7 +38,7 @@ or-else-requires-2 c κs = search needs
 
 returns : tie.Need-returns
 unfolding holeCode
-returns c = cc
+returns c = rw (c .before .or-else .ensures, c .before .before .when3 .ensures, c .before .before .before .either3 .ensures, c .before .before .before .before .when2 .ensures, c .before .before .before .before .before .either2 .ensures, c .before .before .before .before .before .before .when .ensures, c .before .before .before .before .before .before .before .either .ensures, c .before .before .before .before .before .before .before .before .used2 .ensures, c .before .before .before .before .before .before .before .before .before .used .ensures, c .before .before .before .before .before .before .before .before .before .before .before .before .seat-of .ensures) at (c .or-else2 .ensures)
 
 pub hole-code-spec : {M : Type 1} → statement M
 hole-code-spec =

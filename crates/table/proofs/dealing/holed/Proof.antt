@@ -14,7 +14,7 @@ with-chair-requires c κs = search needs
 
 returns : tie.Need-returns
 unfolding heldTo
-returns c = cc
+returns c = rw (c .before .held .ensures, c .before .before .seat-of .ensures) at (c .with-chair .ensures)
 
 pub holed-spec : {M : Type 1} → statement M
 holed-spec = tie.close (tie.spec seat-of-requires held-requires with-chair-requires returns)

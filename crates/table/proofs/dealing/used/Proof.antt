@@ -14,7 +14,7 @@ either-requires c κs = search needs
 
 returns : tie.Need-returns
 unfolding inThisHand
-returns c = cc
+returns c = rw (c .before .count .ensures, c .before .before .on-board .ensures) at (c .either .ensures)
 
 pub used-spec : {M : Type 1} → statement M
 used-spec = tie.close (tie.spec on-board-requires count-requires either-requires returns)

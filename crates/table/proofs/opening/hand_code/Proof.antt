@@ -23,7 +23,7 @@ or-else-requires c κs = search needs
 
 returns : tie.Need-returns
 unfolding handCode
-returns c = cc
+returns c = rw (c .before .when2 .ensures, c .before .before .when .ensures, c .before .before .before .either .ensures, c .before .before .before .before .may-puck .ensures, c .before .before .before .before .before .count .ensures) at (c .or-else .ensures)
 
 pub hand-code-spec : {M : Type 1} → statement M
 hand-code-spec =

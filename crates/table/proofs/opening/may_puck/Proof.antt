@@ -17,7 +17,7 @@ both-requires c κs = search needs
 
 returns : tie.Need-returns
 unfolding isPuck
-returns c = cc
+returns c = rw (c .before .either .ensures, c .before .before .before .next-dealt-in .ensures, c .before .before .before .before .seat-of .ensures) at (c .both .ensures)
 
 pub may-puck-spec : {M : Type 1} → statement M
 may-puck-spec =

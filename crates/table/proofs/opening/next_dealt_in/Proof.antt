@@ -8,7 +8,7 @@ first-from-requires c κs = search needs
 
 returns : tie.Need-returns
 unfolding nextDealtIn
-returns c = cc
+returns c = c .first-from .ensures
 
 pub next-dealt-in-spec : {M : Type 1} → statement M
 next-dealt-in-spec = tie.close (tie.spec first-from-requires returns)

@@ -23,7 +23,7 @@ with-chair-requires c κs = search needs
 
 returns : tie.Need-returns
 unfolding postedTo
-returns c = cc
+returns c = rw (c .before .paid .ensures, c .before .before .seat-of .ensures) at (c .with-chair .ensures)
 
 pub posted-spec : {M : Type 1} → statement M
 posted-spec = tie.close (tie.spec seat-of-requires paid-requires with-chair-requires returns)

@@ -14,7 +14,7 @@ when-requires c κs = search needs
 
 returns : tie.Need-returns
 unfolding leaveCode
-returns c = cc
+returns c = rw (c .before .either .ensures, c .before .before .before .seat-of .ensures) at (c .when .ensures)
 
 pub leave-code-spec : {M : Type 1} → statement M
 leave-code-spec = tie.close (tie.spec seat-of-requires either-requires when-requires returns)

@@ -14,7 +14,7 @@ with-chair-requires c κs = search needs
 
 returns : tie.Need-returns
 unfolding leftTo
-returns c = cc
+returns c = rw (c .before .seated .ensures, c .before .before .seat-of .ensures) at (c .with-chair .ensures)
 
 pub left-spec : {M : Type 1} → statement M
 left-spec = tie.close (tie.spec seat-of-requires seated-requires with-chair-requires returns)

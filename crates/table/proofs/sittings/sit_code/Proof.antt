@@ -23,7 +23,7 @@ or-else-requires c κs = search needs
 
 returns : tie.Need-returns
 unfolding sitCode
-returns c = cc
+returns c = rw (c .before .when2 .ensures, c .before .before .when .ensures, c .before .before .before .too-many .ensures, c .before .before .before .before .chips .ensures, c .before .before .before .before .before .before .before .seat-of .ensures) at (c .or-else .ensures)
 
 pub sit-code-spec : {M : Type 1} → statement M
 sit-code-spec =

@@ -1,5 +1,5 @@
 -- `behind` meets its contract.
-use Rattle.text.proofs.Sheets.{part-is}
+use Rattle.text.proofs.Parts.{part-is}
 use Rattle.text.proofs.Lines.{after-none}
 use Rattle.text.specs.Line.{lineLen}
 use lib.ListN.{length, drop, drop-of-length-le}

@@ -1,0 +1,26 @@
+-- `ladder::four_place` meets its contract. Assumes nothing.
+use Rattle.ladder.specs.Reckoned.{fourPlace}
+use borrow.Author.Needs.{needs}
+use Rattle.ladder.proofs.four_place.Statement.{statement}
+use Rattle.ladder.proofs.four_place.Tie as tie
+
+both-requires : tie.Need-both-requires
+both-requires c κs = search needs
+
+both-requires-2 : tie.Need-both-requires-2
+both-requires-2 c κs = search needs
+
+beside-place-requires : tie.Need-beside-place-requires
+beside-place-requires c κs = search needs
+
+chosen-requires : tie.Need-chosen-requires
+chosen-requires c κs = search needs
+
+returns : tie.Need-returns
+unfolding fourPlace
+returns c = cc
+
+pub four-place-spec : {M : Type 1} → statement M
+four-place-spec =
+    tie.close
+    (tie.spec both-requires both-requires-2 beside-place-requires chosen-requires returns)

@@ -1,0 +1,60 @@
+// Lines written at the front of a lent sheet: each writer is lent the part that starts where the last one ended.
+use crate::Written;
+use crate::decimal::digit_count;
+use crate::decimal::put_digits;
+ghost use mathlib.Core.Path.{_≡_};
+ghost use mathlib.Core.List.{[], _∷_};
+ghost use Prim.Native.Nat.{_≤_, _<_, _^_};
+ghost use lib.ListN.{length};
+ghost use Rattle.text.specs.Line.{numberLine};
+ghost use Rattle.writing.specs.Sheet.{Wrote, sheetAfter, writtenOf};
+
+// One byte at the front of the sheet.
+fn put_byte(sheet: &mut [u8], b: u8) -> usize
+    requires { ⌜ 1 ≤ length (now sheet) ⌝ }
+    ensures { λ r. ⌜ Wrote (b ∷ []) (now (sheet .entry)) (now (sheet .exit)) r ⌝ }
+{
+    sheet[0] = b;
+    1
+}
+
+// The bytes of `bytes` at the front of the sheet.
+pub fn put_bytes(sheet: &mut [u8], bytes: &[u8]) -> usize
+    requires { ⌜ length (now bytes) ≤ length (now sheet) ⌝ }
+    ensures { λ r. ⌜ Wrote (now (bytes .entry)) (now (sheet .entry)) (now (sheet .exit)) r ⌝ }
+{
+    let mut i = 0;
+    while i < bytes.len() {
+        sheet[i] = bytes[i];
+        i += 1;
+    }
+    i
+}
+
+// The line `key=n` with its LF at the front of the sheet.
+pub fn write_number_line(sheet: &mut [u8], key: &[u8], n: u32) -> usize
+    requires { ⌜ (n < 10 ^ 9) × (length (numberLine (now key) n) ≤ length (now sheet)) ⌝ }
+    ensures { λ r. ⌜ Wrote (numberLine (now (key .entry)) n) (now (sheet .entry)) (now (sheet .exit)) r ⌝ }
+{
+    let a = put_bytes(sheet, key);
+    let b = a + put_byte(&mut sheet[a..], 61);
+    let c = b + put_digits(&mut sheet[b..], n);
+    c + put_byte(&mut sheet[c..], 10)
+}
+
+// The line `key=n` with its LF at the front of the sheet, where the sheet is long enough; else nothing: code 12.
+pub fn write_line(sheet: &mut [u8], key: &[u8], n: u32) -> Written
+    requires { ⌜ n < 10 ^ 9 ⌝ }
+    ensures answer { λ r. ⌜ r ≡ writtenOf (numberLine (now (key .entry)) n) (now (sheet .entry)) ⌝ }
+    ensures bytes { λ r. ⌜ now (sheet .exit) ≡ sheetAfter (numberLine (now (key .entry)) n) (now (sheet .entry)) ⌝ }
+{
+    let room = sheet.len();
+    let k = key.len();
+    if room < k {
+        return Written::NoRoom;
+    }
+    if room - k < digit_count(n) + 2 {
+        return Written::NoRoom;
+    }
+    Written::Bytes(write_number_line(sheet, key, n))
+}
