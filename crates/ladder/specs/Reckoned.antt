@@ -1,5 +1,5 @@
--- No section of the paper: how the code finds a hand's place without a ladder. The hands that stand lower are counted: those of lower classes, which
--- stand in a table of nine, and those of its own class, by the number of choices of k ranks of n. A hand whose ranks are not those of its class has
+-- No section of the paper: how the code finds a hand's place without a ladder. The hands that stand lower are counted: those of lower classes,
+-- nine constants, and those of its own class, by the number of choices of k ranks of n. A hand whose ranks are not those of its class has
 -- no place. proofs/Reckons.antt shows that this is the place on the ladder. Assumes nothing.
 use mathlib.Core.Bool.{Bool}
 use mathlib.Core.List.{List, [], _∷_}
@@ -11,7 +11,7 @@ use Rattle.cards.specs.Cards.{inRow}
 use Rattle.cards.specs.declared.Hand.{Hand}
 use Rattle.ladder.specs.Ladder.{ranksIn, isStraight}
 
--- how many choices of k there are of n, for n from 0 to 12, row by row from k = 0 to k = 5 (proofs/Reckons.antt: these are the binomials)
+-- how many choices of k there are of n, for n from 0 to 12, row by row from k = 0 to k = 5 (proofs/Steps.antt: these are the binomials)
 abbrev pub pascal : List ℕ
 pascal =
     1 ∷ 1 ∷ 1 ∷ 1 ∷ 1 ∷ 1 ∷ 1 ∷ 1 ∷ 1 ∷ 1 ∷ 1 ∷ 1 ∷ 1
@@ -73,7 +73,7 @@ fullPlace under h = pick (both (eqb (h .r1) (h .r2)) (both (eqb (h .r1) (h .r3))
 
 -- how many straights stand below five odd ranks, told of the highest: one for each lower rank from the six on; and 5-4-3-2-A below every ace
 unfoldable pub rowsBelow : ℕ → ℕ
-rowsBelow r = r - 6 + one (eqb r 14)
+rowsBelow r = pick (eqb r 14) (r - 6 + 1) (r - 6)
 
 unfoldable pub oddPlace : ℕ → Hand → ℕ
 oddPlace under h =

@@ -244,7 +244,8 @@ fn full_place(under: u32, h: Hand) -> u32
 fn rows_below(r: u8) -> u32
     ensures { λ n. ⌜ n ≡ rowsBelow r ⌝ }
 {
-    short_of(r as u32, 6) + one(r == 14)
+    let n = short_of(r as u32, 6);
+    chosen(r == 14, n + 1, n)
 }
 
 // Flushes and five odd cards: the choices of five ranks that stand below, but not the straights among them.
