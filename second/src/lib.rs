@@ -7,6 +7,7 @@ pub mod clerk;
 pub mod entries;
 pub mod hands;
 pub mod mend;
+pub mod pay;
 pub mod pots;
 pub mod random;
 pub mod refusals;
