@@ -8,6 +8,7 @@ pub mod crown;
 pub mod entries;
 pub mod hands;
 pub mod mend;
+pub mod pay;
 pub mod pots;
 pub mod random;
 pub mod refusals;

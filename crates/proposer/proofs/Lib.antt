@@ -1,0 +1,4 @@
+pub mod Steps
+pub mod Sittings
+pub mod Worths
+pub mod Payment

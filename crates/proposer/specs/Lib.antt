@@ -1,0 +1,2 @@
+-- Request No. 13, "Paying in real chips": the proposer.
+pub mod Proposer

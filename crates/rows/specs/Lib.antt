@@ -1,0 +1,2 @@
+-- Request No. 13, "Paying in real chips": the tray as a lent slice of row structs.
+pub mod Rows
