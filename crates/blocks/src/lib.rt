@@ -6,6 +6,7 @@ mod kind;
 mod reader;
 
 pub use front::Front;
+pub use front::front_rest;
 pub use front::read_front;
 pub use kind::entry_of;
 pub use reader::read_block;
