@@ -154,10 +154,7 @@ pub(crate) fn dead_code(t: Table, s: u32) -> u8
     let off = !t.play.opened;
     let few = lives(t) < 2;
     let out = !c.dealt.live;
-    or_else(
-        when(either(off, few), WRONG_MOMENT),
-        when(out, WRONG_SEAT),
-    )
+    or_else(when(either(off, few), WRONG_MOMENT), when(out, WRONG_SEAT))
 }
 
 // The turn after a hand was killed: on from the seat in turn; else kept, or ended where nobody owes.
