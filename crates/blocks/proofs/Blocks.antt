@@ -1,16 +1,18 @@
 -- Laws of words and blocks: a word's place in a table, a block from its five readings, and that reading it uses up bytes. Assumes nothing.
-use mathlib.Core.Path.{_≡_, _∙_}
+use mathlib.Core.Path.{_≡_, refl, sym, ap, _∙_}
+use mathlib.Core.Logic.{⊎-elim}
 use mathlib.Core.List.{List, [], _∷_}
 use mathlib.Core.Bool.{Bool, true, false}
-use Prim.Native.Nat.{ℕ, suc, _+_, _≤_, _<_}
+use Prim.Native.Nat.{ℕ, zero, suc, _+_, _-_, _≤_, _<_}
 use native.Mathlib.Numerals.{add-one}
 use native.Mathlib.Omega.{arith}
-use lib.ListN.{length, getD, drop, drop-of-length-le}
-use lib.Seq.{drop-cons}
+use lib.ListN.{length, getD, drop, length-drop, drop-of-length-le}
+use lib.Seq.{drop-cons, drop-drop}
 use borrow.Author.Tests.{eq-eqb, ne-eqb, le-leb, lt-leb}
 use Rattle.laws.specs.Tests.{pick}
+use Rattle.laws.proofs.Sums.{le-or-lt}
 use Rattle.text.specs.Bytes.{eqList}
-use Rattle.text.specs.Line.{afterLine, lineNumber}
+use Rattle.text.specs.Line.{lineLen, afterLine, afterLines, lineNumber}
 use Rattle.text.specs.declared.Number.{Number}
 use Rattle.text.specs.declared.Number.the-variants.{Value, Bad}
 use Rattle.text.proofs.Lines.{after-shorter, after-lines-no-longer}
@@ -80,3 +82,21 @@ block-five l h en e1 ek e2 es e3 ea e4 eb er =
 pub rest-shorter : (l : List ℕ) → 0 < length l → length (restOf l) < length l
 unfolding restOf
 rest-shorter l h = omega (arith, after-lines-no-longer 4 (afterLine l), after-shorter l h)
+
+-- what is left of a list, by its length
+pub drop-own : (n : ℕ) (l : List ℕ) → drop (length l - length (drop n l)) l ≡ drop n l
+drop-own n l = ⊎-elim
+    (λ h. let e : length l - length (drop n l) ≡ n = omega (arith, length-drop n l) in ap (λ (i : ℕ). drop i l) e)
+    (λ h. drop-of-length-le l {i = length l - length (drop n l)} (omega (arith, length-drop n l)) ∙ sym (drop-of-length-le l {i = n} (omega arith)))
+    (le-or-lt n (length l))
+
+lines-drop : (k : ℕ) (l : List ℕ) → (n : ℕ) × (afterLines k l ≡ drop n l)
+lines-drop zero l = (0, refl)
+lines-drop (suc k) l =
+    let r = lines-drop k (afterLine l) in
+    (suc (lineLen l) + r .0, r .1 ∙ drop-drop (r .0) (suc (lineLen l)) l)
+
+-- the rest of a log stands behind the bytes that its first block uses up
+pub rest-drop : (l : List ℕ) → drop (length l - length (restOf l)) l ≡ restOf l
+unfolding restOf
+rest-drop l = let r = lines-drop 5 l in ap (λ (x : List ℕ). drop (length l - length x) l) (r .1) ∙ drop-own (r .0) l ∙ sym (r .1)

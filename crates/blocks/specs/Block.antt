@@ -14,9 +14,13 @@ use Rattle.text.specs.declared.Number.the-variants.{Value, Bad}
 use Rattle.blocks.specs.declared.Block.{Block}
 use Rattle.blocks.specs.declared.Block.the-variants.{Raw, Malformed, Nothing}
 
+-- how many lines a block has: n, do, seat, a, b
+abbrev pub blockLines : ℕ
+blockLines = 5
+
 -- what is left of a log once a block is read: what follows its fifth LF
 unfoldable pub restOf : List ℕ → List ℕ
-restOf log = afterLines 5 log
+restOf log = afterLines blockLines log
 
 -- the place of a word in a table of words, counted from 0; the table's length where it is not in it
 abbrev pub placeIn : List (List ℕ) → List ℕ → ℕ

@@ -17,7 +17,7 @@ ghost use lib.ListN.{length, getD, take};
 ghost use Rattle.laws.specs.Tests.{both};
 ghost use Rattle.text.specs.Line.{lineLen, hasKey, lineNumber};
 ghost use Rattle.text.specs.Number.{numberOf, allDigits, valueFrom};
-ghost use Rattle.blocks.specs.Block.{allLetters, lineKind};
+ghost use Rattle.blocks.specs.Block.{allLetters, lineKind, restOf};
 ghost use Rattle.blocks.specs.Front.{frontOf, AtOneGo};
 ghost use Rattle.text.specs.declared.Number.the-variants.{Value};
 
@@ -226,4 +226,12 @@ pub fn read_front(log: &[u8]) -> Front
         return f;
     }
     line_by_line(log)
+}
+
+// What follows the block that was read: the log from the entry's end onward, handed on to the next reading.
+pub fn front_rest(log: &[u8], used: usize) -> &[u8]
+    requires { ⌜ used ≡ frontOf (now log) .used ⌝ }
+    ensures { λ r. ⌜ now r ≡ restOf (now (log .entry)) ⌝ }
+{
+    &log[used..]
 }

@@ -6,8 +6,10 @@ mod kind;
 mod reader;
 
 pub use front::Front;
+pub use front::front_rest;
 pub use front::read_front;
 pub use kind::entry_of;
+pub use reader::BLOCK_LINES;
 pub use reader::read_block;
 pub use reader::rest;
 

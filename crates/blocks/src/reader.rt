@@ -11,14 +11,14 @@ ghost use mathlib.Core.Path.{_≡_};
 ghost use Rattle.text.specs.Line.{lineLen};
 ghost use Rattle.blocks.specs.Block.{restOf, lineKind, blockFrom, blockOf};
 
-// How many lines an entry has.
-const LINES: usize = 5;
+// How many lines a block has: n, do, seat, a, b.
+pub const BLOCK_LINES: usize = 5;
 
 // What follows the first block, whatever its lines hold: the rest of the log.
 pub fn rest(log: &[u8]) -> &[u8]
     ensures { λ r. ⌜ now r ≡ restOf (now (log .entry)) ⌝ }
 {
-    after_lines(log, LINES)
+    after_lines(log, BLOCK_LINES)
 }
 
 // The kind of the log's first line, which ends at e.

@@ -2,7 +2,7 @@
 use mathlib.Core.Path.{_≡_, refl}
 use mathlib.Core.List.{List, [], _∷_}
 use Prim.Native.Nat.{ℕ}
-use Rattle.paper.specs.Paper.{isSeat, inRange}
+use Rattle.paper.specs.Paper.{isSheet, isSeat, inRange}
 use Rattle.text.specs.TableSheet.{sheetNumber, sheetWith, sheetOf, sheetEnd}
 use Rattle.text.specs.Line.{valueOf, numberLine}
 use Rattle.blocks.specs.Block.{restOf, kindOf, blockOf}
@@ -32,5 +32,5 @@ abbrev pub wanted : List ℕ
 wanted = 110 ∷ 61 ∷ 49 ∷ 10 ∷ 99 ∷ 111 ∷ 100 ∷ 101 ∷ 61 ∷ 48 ∷ 10 ∷ 116 ∷ 117 ∷ 114 ∷ 110 ∷ 61 ∷ 48 ∷ 10 ∷ 109 ∷ 97 ∷ 114 ∷ 107 ∷ 61 ∷ 48 ∷ 10 ∷ 98 ∷ 97 ∷ 99 ∷ 107 ∷ 61 ∷ 48 ∷ 10 ∷ 110 ∷ 61 ∷ 50 ∷ 10 ∷ 99 ∷ 111 ∷ 100 ∷ 101 ∷ 61 ∷ 48 ∷ 10 ∷ 116 ∷ 117 ∷ 114 ∷ 110 ∷ 61 ∷ 48 ∷ 10 ∷ 109 ∷ 97 ∷ 114 ∷ 107 ∷ 61 ∷ 48 ∷ 10 ∷ 98 ∷ 97 ∷ 99 ∷ 107 ∷ 61 ∷ 48 ∷ 10 ∷ 110 ∷ 61 ∷ 51 ∷ 10 ∷ 99 ∷ 111 ∷ 100 ∷ 101 ∷ 61 ∷ 48 ∷ 10 ∷ 116 ∷ 117 ∷ 114 ∷ 110 ∷ 61 ∷ 49 ∷ 10 ∷ 109 ∷ 97 ∷ 114 ∷ 107 ∷ 61 ∷ 49 ∷ 48 ∷ 10 ∷ 112 ∷ 111 ∷ 116 ∷ 61 ∷ 49 ∷ 48 ∷ 10 ∷ 98 ∷ 97 ∷ 99 ∷ 107 ∷ 61 ∷ 53 ∷ 10 ∷ 110 ∷ 61 ∷ 52 ∷ 10 ∷ 99 ∷ 111 ∷ 100 ∷ 101 ∷ 61 ∷ 48 ∷ 10 ∷ 116 ∷ 117 ∷ 114 ∷ 110 ∷ 61 ∷ 48 ∷ 10 ∷ 109 ∷ 97 ∷ 114 ∷ 107 ∷ 61 ∷ 49 ∷ 48 ∷ 10 ∷ 112 ∷ 111 ∷ 116 ∷ 61 ∷ 49 ∷ 48 ∷ 10 ∷ 98 ∷ 97 ∷ 99 ∷ 107 ∷ 61 ∷ 53 ∷ 10 ∷ 110 ∷ 61 ∷ 53 ∷ 10 ∷ 99 ∷ 111 ∷ 100 ∷ 101 ∷ 61 ∷ 48 ∷ 10 ∷ 116 ∷ 117 ∷ 114 ∷ 110 ∷ 61 ∷ 48 ∷ 10 ∷ 109 ∷ 97 ∷ 114 ∷ 107 ∷ 61 ∷ 48 ∷ 10 ∷ 98 ∷ 97 ∷ 99 ∷ 107 ∷ 61 ∷ 48 ∷ 10 ∷ 102 ∷ 101 ∷ 101 ∷ 61 ∷ 48 ∷ 10 ∷ 115 ∷ 105 ∷ 116 ∷ 116 ∷ 105 ∷ 110 ∷ 103 ∷ 61 ∷ 49 ∷ 10 ∷ 112 ∷ 97 ∷ 105 ∷ 100 ∷ 61 ∷ 48 ∷ 10 ∷ 115 ∷ 105 ∷ 116 ∷ 116 ∷ 105 ∷ 110 ∷ 103 ∷ 61 ∷ 50 ∷ 10 ∷ 112 ∷ 97 ∷ 105 ∷ 100 ∷ 61 ∷ 49 ∷ 53 ∷ 10 ∷ 117 ∷ 110 ∷ 99 ∷ 108 ∷ 97 ∷ 105 ∷ 109 ∷ 101 ∷ 100 ∷ 61 ∷ 48 ∷ 10 ∷ []
 
 pub p12 : outputOf log ≡ wanted
-unfolding isSeat inRange sheetNumber sheetWith sheetOf sheetEnd valueOf numberLine restOf kindOf blockOf wellFormed numberOf digits parsedOf liveHands onlyWithChips owes firstOwing afterAct nextDealtIn turnCode foldedTo sitCode satTo isPuck handCode postedTo openedTo settleCode potsNow backNow handScore scoreOf payoutNow settledTo codeOf nextOf payoutOf has chipsAt liveOf maskAt contenders contested contest over maxOf sumOf backAt backOf returnedOf join runs keyed potsOf padded uncutOf feeOf feesOf ones shareOut sharesOf winnersOf plus wonOf unclaimedOf before put inOrder ordered isWheel lowered inRow allAlike oneSuit classOf ranksOf classOfCards valueOfCards above betterBy keep choices bestOf spells strengthBy twoBytes rowBytes stateBytes payoutBytes tableBytes answerBytes shownOf judgedOf blockBytes outputOf
+unfolding isSheet isSeat inRange sheetNumber sheetWith sheetOf sheetEnd valueOf numberLine restOf kindOf blockOf wellFormed numberOf digits parsedOf liveHands onlyWithChips owes firstOwing afterAct nextDealtIn turnCode foldedTo sitCode satTo isPuck handCode postedTo openedTo settleCode potsNow backNow handScore scoreOf payoutNow settledTo codeOf nextOf payoutOf has chipsAt liveOf maskAt contenders contested contest over maxOf sumOf backAt backOf returnedOf join runs keyed potsOf padded uncutOf feeOf feesOf ones shareOut sharesOf winnersOf plus wonOf unclaimedOf before put inOrder ordered isWheel lowered inRow allAlike oneSuit classOf ranksOf classOfCards valueOfCards above betterBy keep choices bestOf spells strengthBy twoBytes rowBytes stateBytes payoutBytes tableBytes answerBytes shownOf judgedOf blockBytes outputOf
 p12 = refl

@@ -9,12 +9,13 @@ use native.Mathlib.Omega.{arith}
 use lib.ListN.{length, getD, replicate, take, drop, set, drop-of-length-le}
 use lib.Seq.{drop-cons, take-all}
 use lib.Dec.{eqb}
-use borrow.Author.Tests.{lt-leb}
+use borrow.Author.Tests.{le-leb, lt-leb, ne-eqb}
 use Rattle.laws.specs.Tests.{pick}
 use Rattle.text.specs.Line.{lineNumber, afterLine, valueOf}
 use Rattle.blocks.specs.Block.{blockOf, blockFrom, lineKind}
 use Rattle.blocks.specs.Entry.{parsedOf}
 use Rattle.writing.specs.Sheet.{fits, writtenOf, sheetAfter, over}
+use Rattle.blocks.specs.Codes.{codeOfBlock}
 use Rattle.text.proofs.Numbers.{number-back}
 use Rattle.text.specs.declared.Number.{Number}
 use Rattle.text.specs.declared.Number.the-variants.{Value, Bad}
@@ -30,7 +31,8 @@ use Rattle.chairs.specs.Chairs.{columnOf, Numbered}
 use Rattle.laws.specs.Lists.{All, sumOf}
 use Rattle.chairs.specs.declared.Chair.{Chair}
 use Rattle.table.specs.Settle.{totalsOf, livesOf, hereOf, scoresOf, dueNow, potsNow, backNow, payoutNow, noPayout, commissionOf}
-use Rattle.table.specs.Take.{Sound, codeOf, nextOf, payoutOf, payoutBy}
+use Rattle.table.specs.Take.{Sound, codeOf, nextOf, payoutOf, payoutBy, takenOf}
+use Rattle.table.specs.declared.table.Taken.{Taken}
 use Rattle.table.proofs.Laws.{totals-within, paid-at, due-small, sheet-rate}
 use Rattle.table.proofs.Refusals.{codes, refused-same}
 use Rattle.table.specs.declared.table.Table.{Table}
@@ -48,7 +50,7 @@ use Rattle.answers.specs.declared.Shown.{Shown}
 use Rattle.answers.specs.Answer.{SmallRow, Small, answerBytes}
 use Rattle.desk.specs.declared.Judged.{Judged}
 use Rattle.desk.specs.declared.Answered.{Answered}
-use Rattle.desk.specs.Desk.{rowsOf, payoutShown, shownOf, refusedAt, judgeParsed, judgeBlock, judgedOf, judgedBytes, blockBytes, answeredFrom, answeredOf, numberOfBlock, SmallPaid}
+use Rattle.desk.specs.Desk.{rowsOf, payoutShown, shownOf, refusedAt, noBlock, judgeParsed, judgeBlock, judgedOf, judgedBytes, blockBytes, answeredFrom, answeredOf, numberOfBlock, SmallPaid}
 use Rattle.chairs.specs.declared.What.the-variants as what
 
 -- ---- rows of sittings and what they are paid, one by one
@@ -233,10 +235,12 @@ twelve-when t log sheet h = rw (lt-leb (length (blockBytes t log)) (length sheet
 
 -- ---- for the proofs of the functions
 
-pub read-judged : (t : Table) (n : ℕ) (p : Parsed) {e : Entry} {code : ℕ} {next : Table} {paid : Paid} → p ≡ Read e
-    → (code ≡ codeOf t n e) × (next ≡ nextOf t n e) × (paid ≡ payoutOf t n e) × Sound next → Sound t
-    → (_≡_ {A = Judged} (record { n = n; code = code; table = next; payout = paid }) (judgeParsed t n p)) × Sound next × SmallPaid paid
-read-judged t n p {e} {code} {next} {paid} q f h = (rw (q, f .0, f .1, f .2) refl, f .3, subst SmallPaid (sym (f .2)) (small-payout t n e h))
+pub read-judged : (t : Table) (n : ℕ) (p : Parsed) {e : Entry} {k : Taken} → p ≡ Read e → (k ≡ takenOf t n e) × Sound (k .table) → Sound t
+    → (_≡_ {A = Judged} (record { block = true; n = n; code = k .code; table = k .table; payout = k .payout }) (judgeParsed t n p)) × Sound (k .table) × SmallPaid (k .payout)
+unfolding takenOf
+read-judged t n p {e} {k} q f h =
+    let m : k .payout ≡ payoutOf t n e = ap (λ (x : Taken). x .payout) (f .0) in
+    (ap (λ (x : Taken). record { block = true; n = n; code = x .code; table = x .table; payout = x .payout }) (f .0) ∙ ap (judgeParsed t n) (sym q), f .1, subst SmallPaid (sym m) (small-payout t n e h))
 
 pub refused-judged : (t : Table) (n code : ℕ) (p : Parsed) {r : Judged} → r ≡ refusedAt t n code → refusedAt t n code ≡ judgeParsed t n p → Sound t
     → (r ≡ judgeParsed t n p) × Sound (r .table) × SmallPaid (r .payout)
@@ -254,9 +258,67 @@ raw-judged t b {n} {k} {s} {a} {c} {p} {r} q e f h =
     let m : r .n ≡ n = ap (λ (j : Judged). j .n) (f .0) ∙ parsed-number t n p in
     (f .0 ∙ rw (q, e), f .1, f .2, omega arith)
 
-pub bad-judged : (t : Table) (b : Block) {r : Judged} → refusedAt t 0 1 ≡ judgeBlock t b → r ≡ refusedAt t 0 1 → Sound t
+pub bad-judged : (t : Table) (b : Block) {r : Judged} → refusedAt t 0 (codeOfBlock Malformed) ≡ judgeBlock t b → r ≡ refusedAt t 0 (codeOfBlock Malformed) → Sound t
     → (r ≡ judgeBlock t b) × Sound (r .table) × SmallPaid (r .payout) × (r .n < 10 ^ 9)
 bad-judged t b {r} q e h = (e ∙ q, rw e h, rw e small-none, rw e (omega arith))
+
+pub none-judged : (t : Table) (b : Block) {r : Judged} → noBlock t ≡ judgeBlock t b → r ≡ noBlock t → Sound t
+    → (r ≡ judgeBlock t b) × Sound (r .table) × SmallPaid (r .payout) × (r .n < 10 ^ 9)
+none-judged t b {r} q e h = (e ∙ q, rw e h, rw e small-none, rw e (omega arith))
+
+-- ---- where there are bytes there is a block
+
+from-some : (t : Table) (n k s a b : Number) → judgeBlock t (blockFrom n k s a b) .block ≡ true
+from-some t Bad k s a b = refl
+from-some t (Value n) Bad s a b = refl
+from-some t (Value n) (Value k) Bad a b = refl
+from-some t (Value n) (Value k) (Value s) Bad b = refl
+from-some t (Value n) (Value k) (Value s) (Value a) Bad = refl
+from-some t (Value n) (Value k) (Value s) (Value a) (Value b) = go (parsedOf k s a b)
+  where
+    go : (p : Parsed) → judgeParsed t n p .block ≡ true
+    go OutOfRange = refl
+    go (Read e) = refl
+
+pub some-block : (t : Table) (log : List ℕ) → 0 < length log → judgedOf t log .block ≡ true
+unfolding judgedOf blockOf
+some-block t log h =
+    ap (λ (z : Bool). judgeBlock t (pick z Nothing (read log)) .block) (ne-eqb (length log) 0 (λ z. omega arith))
+    ∙ from-some t (lineNumber (110 ∷ []) log) (lineKind (afterLine log)) (lineNumber (115 ∷ 101 ∷ 97 ∷ 116 ∷ []) (afterLine (afterLine log)))
+    (lineNumber (97 ∷ []) (afterLine (afterLine (afterLine log)))) (lineNumber (98 ∷ []) (afterLine (afterLine (afterLine (afterLine log)))))
+  where
+    read : List ℕ → Block
+    read l =
+        blockFrom
+        (lineNumber (110 ∷ []) l)
+        (lineKind (afterLine l))
+        (lineNumber (115 ∷ 101 ∷ 97 ∷ 116 ∷ []) (afterLine (afterLine l)))
+        (lineNumber (97 ∷ []) (afterLine (afterLine (afterLine l))))
+        (lineNumber (98 ∷ []) (afterLine (afterLine (afterLine (afterLine l)))))
+
+-- and its answer shows what was judged
+pub some-bytes : (t : Table) (log : List ℕ) → 0 < length log
+    → blockBytes t log ≡ answerBytes (shownOf (judgedOf t log .n) (judgedOf t log .code) (judgedOf t log .table) (judgedOf t log .payout))
+unfolding blockBytes
+some-bytes t log h =
+    ap (λ (z : Bool). pick z (answerBytes (shownOf (judgedOf t log .n) (judgedOf t log .code) (judgedOf t log .table) (judgedOf t log .payout))) []) (some-block t log h)
+
+-- ---- no bytes fit any sheet, and leave it as it is
+
+nothing-fits : (sheet : List ℕ) → fits [] sheet ≡ true
+nothing-fits sheet = le-leb 0 (length sheet) (omega arith)
+
+writes-none : (sheet : List ℕ) → writtenOf [] sheet ≡ Bytes 0
+writes-none sheet = ap (λ (b : Bool). pick b (Bytes 0) NoRoom) (nothing-fits sheet)
+
+keeps-all : (sheet : List ℕ) → sheetAfter [] sheet ≡ sheet
+keeps-all sheet = ap (λ (b : Bool). pick b (over [] sheet) sheet) (nothing-fits sheet)
+
+-- "No bytes left means no block": the caller is told, nothing is written, and the table and every byte of the sheet are as they were
+pub nothing-answered : (t : Table) (sheet : List ℕ)
+    → (answeredOf t [] sheet ≡ record { block = false; code = codeOfBlock Nothing; table = t; written = 0 }) × (sheetAfter (blockBytes t []) sheet ≡ sheet)
+unfolding answeredOf blockBytes judgedOf blockOf
+nothing-answered t sheet = (ap (answeredFrom t (noBlock t)) (writes-none sheet), keeps-all sheet)
 
 rows-small : (ss ps : List ℕ) (k : ℕ) → ((i : ℕ) → getD ss i 0 < 10 ^ 9) → ((i : ℕ) → getD ps i 0 < 10 ^ 9) → SmallRow (getD (rowsOf ss ps) k (record { sitting = 0; paid = 0 }))
 rows-small [] ps k h q = record { sitting = omega arith; paid = omega arith }
@@ -297,14 +359,29 @@ made-shown n code t p {ps} {back} {k} {po} v b o kc r h w =
     pots-eq z e f = rw (e, f)
 
 pub answered-is : (t : Table) (k : Judged) (sheet : List ℕ) {j : Judged} {s : Shown} {w : Written} {r : Answered} {out : List ℕ}
-    → j ≡ k → s ≡ shownOf (j .n) (j .code) (j .table) (j .payout) → w ≡ writtenOf (answerBytes s) sheet → out ≡ sheetAfter (answerBytes s) sheet
+    → j ≡ k → j .block ≡ true → s ≡ shownOf (j .n) (j .code) (j .table) (j .payout) → w ≡ writtenOf (answerBytes s) sheet → out ≡ sheetAfter (answerBytes s) sheet
     → r ≡ answeredFrom t j w → Sound (r .table)
     → (r ≡ answeredFrom t k (writtenOf (judgedBytes k) sheet)) × ((out ≡ sheetAfter (judgedBytes k) sheet) × Sound (r .table))
-answered-is t k sheet {j} {s} {w} {r} {out} p q e f g h =
-    let b : answerBytes s ≡ judgedBytes k = ap answerBytes q ∙ ap judgedBytes p in
+answered-is t k sheet {j} {s} {w} {r} {out} p o q e f g h =
+    let shown : answerBytes s ≡ judgedBytes j =
+    ap answerBytes q ∙ sym (ap (λ (z : Bool). pick z (answerBytes (shownOf (j .n) (j .code) (j .table) (j .payout))) []) o) in
+    let b : answerBytes s ≡ judgedBytes k = shown ∙ ap judgedBytes p in
     let e' : w ≡ writtenOf (judgedBytes k) sheet = e ∙ ap (λ (x : List ℕ). writtenOf x sheet) b in
     let f' : out ≡ sheetAfter (judgedBytes k) sheet = f ∙ ap (λ (x : List ℕ). sheetAfter x sheet) b in
     (g ∙ ap (λ (x : Judged). answeredFrom t x w) p ∙ ap (answeredFrom t k) e', (f', h))
+
+-- where there is no block nothing is written
+pub none-answered : (t : Table) (k : Judged) (sheet : List ℕ) {j : Judged} → j ≡ k → j .block ≡ false → Sound (j .table)
+    → (_≡_ {A = Answered} (record { block = false; code = j .code; table = j .table; written = 0 }) (answeredFrom t k (writtenOf (judgedBytes k) sheet)))
+    × ((sheet ≡ sheetAfter (judgedBytes k) sheet) × Sound (j .table))
+none-answered t k sheet {j} p o h =
+    let none : judgedBytes k ≡ [] =
+    ap judgedBytes (sym p) ∙ ap (λ (z : Bool). pick z (answerBytes (shownOf (j .n) (j .code) (j .table) (j .payout))) []) o in
+    let said : _≡_ {A = Answered} (record { block = false; code = j .code; table = j .table; written = 0 }) (answeredFrom t j (Bytes 0)) =
+    ap (λ (z : Bool). record { block = z; code = j .code; table = j .table; written = 0 }) (sym o) in (
+      said ∙ ap (λ (x : Judged). answeredFrom t x (Bytes 0)) p ∙ ap (answeredFrom t k) (sym (writes-none sheet) ∙ ap (λ (x : List ℕ). writtenOf x sheet) (sym none)),
+      (sym (keeps-all sheet) ∙ ap (λ (x : List ℕ). sheetAfter x sheet) (sym none), h),
+    )
 
 -- what is answered to a block that was read is what the log that it was read from is answered
 pub read-answered : (t : Table) (log sheet : List ℕ) {b : Block} → b ≡ blockOf log

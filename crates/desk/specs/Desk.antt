@@ -1,8 +1,10 @@
 -- Document 01, "The answer block" and "Refusal numbers": one block read, taken and answered.
 -- "12 stands in place of any of 0 to 10. After any of 1 to 10, or 12, the table and the count of taken entries equal those before."
 use Prim.Native.Nat.{ℕ, _≤_, _<_, _^_}
+use mathlib.Core.Bool.{true, false}
 use mathlib.Core.List.{List, [], _∷_}
 use lib.ListN.{length, getD}
+use Rattle.laws.specs.Tests.{pick}
 use Rattle.blocks.specs.Block.{blockOf}
 use Rattle.blocks.specs.Entry.{parsedOf}
 use Rattle.writing.specs.Sheet.{writtenOf, sheetAfter}
@@ -12,6 +14,8 @@ use Rattle.blocks.specs.declared.Parsed.{Parsed}
 use Rattle.blocks.specs.declared.Parsed.the-variants.{Read, OutOfRange}
 use Rattle.writing.specs.declared.Written.{Written}
 use Rattle.writing.specs.declared.Written.the-variants.{Bytes, NoRoom}
+use Rattle.blocks.specs.Codes.{codeOfBlock, codeOfParsed}
+use Rattle.writing.specs.Codes.{codeOfWritten}
 use Rattle.table.specs.declared.table.Table.{Table}
 use Rattle.table.specs.declared.table.Payout.{Payout as Paid}
 use Rattle.table.specs.Settle.{potsNow, backNow, noPayout}
@@ -48,26 +52,30 @@ shownOf n code t p = record {
 
 -- a refusal keeps the table and pays nothing
 abbrev pub refusedAt : Table → ℕ → ℕ → Judged
-refusedAt t n code = record { n = n; code = code; table = t; payout = noPayout }
+refusedAt t n code = record { block = true; n = n; code = code; table = t; payout = noPayout }
+
+-- "No bytes left means no block": nothing is judged, and the table stays
+abbrev pub noBlock : Table → Judged
+noBlock t = record { block = false; n = 0; code = codeOfBlock Nothing; table = t; payout = noPayout }
 
 -- refusal 2, or the table's own answer
 abbrev pub judgeParsed : Table → ℕ → Parsed → Judged
-judgeParsed t n OutOfRange = refusedAt t n 2
-judgeParsed t n (Read e) = record { n = n; code = codeOf t n e; table = nextOf t n e; payout = payoutOf t n e }
+judgeParsed t n OutOfRange = refusedAt t n (codeOfParsed OutOfRange)
+judgeParsed t n (Read e) = record { block = true; n = n; code = codeOf t n e; table = nextOf t n e; payout = payoutOf t n e }
 
 -- refusal 1; n is 0 after it
 abbrev pub judgeBlock : Table → Block → Judged
 judgeBlock t (Raw n kind seat a b) = judgeParsed t n (parsedOf kind seat a b)
-judgeBlock t Malformed = refusedAt t 0 1
-judgeBlock t Nothing = refusedAt t 0 1
+judgeBlock t Malformed = refusedAt t 0 (codeOfBlock Malformed)
+judgeBlock t Nothing = noBlock t
 
 -- the number, the code, the table after the block at the front of a log, and what it paid
 unfoldable pub judgedOf : Table → List ℕ → Judged
 judgedOf t log = judgeBlock t (blockOf log)
 
--- the block that shows what was judged
+-- the block that shows what was judged; where there was no block there is no answer
 abbrev pub judgedBytes : Judged → List ℕ
-judgedBytes j = answerBytes (shownOf (j .n) (j .code) (j .table) (j .payout))
+judgedBytes j = pick (j .block) (answerBytes (shownOf (j .n) (j .code) (j .table) (j .payout))) []
 
 -- the block that answers it
 unfoldable pub blockBytes : Table → List ℕ → List ℕ
@@ -75,8 +83,8 @@ blockBytes t log = judgedBytes (judgedOf t log)
 
 -- refusal 12: a block whose answer was not written is not taken
 abbrev pub answeredFrom : Table → Judged → Written → Answered
-answeredFrom t j (Bytes k) = record { code = j .code; table = j .table; written = k }
-answeredFrom t j NoRoom = record { code = 12; table = t; written = 0 }
+answeredFrom t j (Bytes k) = record { block = j .block; code = j .code; table = j .table; written = k }
+answeredFrom t j NoRoom = record { block = j .block; code = codeOfWritten NoRoom; table = t; written = 0 }
 
 unfoldable pub answeredOf : Table → List ℕ → List ℕ → Answered
 answeredOf t log sheet = answeredFrom t (judgedOf t log) (writtenOf (blockBytes t log) sheet)

@@ -9,6 +9,7 @@ use lib.Dec.{eqb, leb}
 use Rattle.laws.specs.Tests.{pick}
 use Rattle.blocks.specs.Block.{restOf}
 use Rattle.text.specs.TableSheet.{sheetOf, sheetEnd}
+pub use Rattle.text.specs.Codes.{eleven}
 use Rattle.text.specs.declared.sheet.Opening.{Opening}
 use Rattle.text.specs.declared.sheet.Opening.the-variants.{Read, Bad}
 use Rattle.table.specs.declared.table.Table.{Table}
@@ -19,10 +20,6 @@ use Rattle.desk.specs.Desk.{judgedOf, blockBytes}
 abbrev pub blocksFrom : ℕ → Table → List ℕ → List ℕ
 blocksFrom zero t log = []
 blocksFrom (suc k) t log = pick (eqb (length log) 0) [] (blockBytes t log ++ blocksFrom k (judgedOf t log .table) (restOf log))
-
--- `code=11` and one LF
-abbrev pub eleven : List ℕ
-eleven = 99 ∷ 111 ∷ 100 ∷ 101 ∷ 61 ∷ 49 ∷ 49 ∷ 10 ∷ []
 
 abbrev pub outputFrom : Opening → List ℕ → List ℕ
 outputFrom (Read s) log = blocksFrom (length log) (freshTable s) (sheetEnd log)

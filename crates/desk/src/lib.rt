@@ -5,6 +5,9 @@ use answers::Shown;
 use answers::write_answer;
 use blocks::Block;
 use blocks::Parsed;
+use paper::MALFORMED;
+use paper::NO_ROOM;
+use paper::OUT_OF_RANGE;
 use table::table::Table;
 use writing::Written;
 ghost use mathlib.Core.Path.{_≡_};
@@ -15,7 +18,7 @@ ghost use Rattle.writing.specs.Sheet.{sheetAfter, writtenOf};
 ghost use Rattle.blocks.specs.Block.{blockOf, restOf};
 ghost use Rattle.answers.specs.Answer.{Small};
 ghost use Rattle.table.specs.Take.{Sound};
-ghost use Rattle.desk.specs.Desk.{rowsOf, payoutShown, shownOf, judgeParsed, refusedAt, judgeBlock, judgedOf, judgedBytes, blockBytes, answeredFrom, answeredOf, numberOfBlock, SmallPaid};
+ghost use Rattle.desk.specs.Desk.{rowsOf, payoutShown, shownOf, judgeParsed, refusedAt, noBlock, judgeBlock, judgedOf, judgedBytes, blockBytes, answeredFrom, answeredOf, numberOfBlock, SmallPaid};
 
 pub mod log;
 
@@ -79,8 +82,9 @@ fn shown_of(n: u32, code: u8, t: Table, paid: table::table::Payout) -> Shown
     }
 }
 
-// A block's number, its code, the table after it, and what it paid.
+// Whether there was a block, its number, its code, the table after it, and what it paid.
 pub struct Judged {
+    pub block: bool,
     pub n: u32,
     pub code: u8,
     pub table: Table,
@@ -92,8 +96,23 @@ fn refused(t: Table, n: u32, code: u8) -> Judged
 {
     let none = table::settle::no_payout();
     Judged {
+        block: true,
         n: n,
         code: code,
+        table: t,
+        payout: none,
+    }
+}
+
+// No bytes are left, so there is no block: nothing is judged.
+fn no_block(t: Table) -> Judged
+    ensures { λ r. ⌜ r ≡ noBlock t ⌝ }
+{
+    let none = table::settle::no_payout();
+    Judged {
+        block: false,
+        n: 0,
+        code: MALFORMED,
         table: t,
         payout: none,
     }
@@ -104,12 +123,13 @@ fn judge_parsed(t: Table, n: u32, p: Parsed) -> Judged
     ensures { λ r. ⌜ (r ≡ judgeParsed t n p) × Sound (r .table) × SmallPaid (r .payout) ⌝ }
 {
     match p {
-        Parsed::OutOfRange => refused(t, n, 2),
+        Parsed::OutOfRange => refused(t, n, OUT_OF_RANGE),
         Parsed::Read(e) => {
             let k = t.take(n, e);
             let u = k.table;
             let paid = k.payout;
             Judged {
+                block: true,
                 n: n,
                 code: k.code,
                 table: u,
@@ -134,8 +154,8 @@ fn judge_block(t: Table, b: Block) -> Judged
             let p = blocks::entry_of(kind, seat, a, b);
             judge_parsed(t, n, p)
         }
-        Block::Malformed => refused(t, 0, 1),
-        Block::Nothing => refused(t, 0, 1),
+        Block::Malformed => refused(t, 0, MALFORMED),
+        Block::Nothing => no_block(t),
     }
 }
 
@@ -147,8 +167,10 @@ pub fn judge(t: Table, log: &[u8]) -> Judged
     judge_block(t, blocks::read_block(log))
 }
 
-// What the answer to a block says to the caller.
+// What the answer to a block says to the caller: whether there was a block, its code, the table after it, and how many bytes were written. Where no bytes
+// are left there is no block and no answer: nothing is written, and the table is the one before.
 pub struct Answered {
+    pub block: bool,
     pub code: u8,
     pub table: Table,
     pub written: usize,
@@ -163,17 +185,27 @@ pub fn answer_block(table: Table, b: Block, sheet: &mut [u8]) -> Answered
 {
     let j = judge_block(table, b);
     let u = j.table;
+    if !j.block {
+        return Answered {
+            block: false,
+            code: j.code,
+            table: u,
+            written: 0,
+        };
+    }
     let paid = j.payout;
     let s = shown_of(j.n, j.code, u, paid);
     let w = write_answer(sheet, s);
     let Written::Bytes(k) = w else {
         return Answered {
-            code: 12,
+            block: j.block,
+            code: NO_ROOM,
             table,
             written: 0,
         };
     };
     Answered {
+        block: j.block,
         code: j.code,
         table: u,
         written: k,

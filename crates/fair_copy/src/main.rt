@@ -9,6 +9,7 @@ use logs::copy::next_number;
 use logs::copy::write_note;
 use output::ahead;
 use output::flush;
+use paper::STAND_IN;
 use paper::Sheet;
 use stream::Mark;
 use text::sheet::Opening;
@@ -32,19 +33,11 @@ struct Copier {
 fn start() -> Copier
     ensures { λ r. ⌜ Between r ⌝ }
 {
-    let s = Sheet {
-        seats: 2,
-        small: 1,
-        big: 1,
-        rate: 0,
-        cap: 0,
-        step: 1,
-    };
     let z = stream::empty();
     Copier {
         opened: false,
         shut: false,
-        sheet: s,
+        sheet: STAND_IN,
         count: 0,
         mark: z,
     }

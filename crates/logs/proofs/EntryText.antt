@@ -17,6 +17,7 @@ use Rattle.paper.specs.declared.Sheet.{Sheet}
 use Rattle.paper.specs.declared.Numbers.{Numbers}
 use Rattle.paper.specs.declared.Entry.{Entry}
 use Rattle.paper.proofs.Codes.{between-in}
+use Rattle.paper.proofs.Sheets.{good-ranged}
 use Rattle.paper.proofs.Rows.{used-tests}
 use Rattle.text.specs.Line.{afterLine, lineNumber, numberLine, valueOf, afterLines}
 use Rattle.blocks.specs.Block.{restOf, placeIn, allLetters, isWord, kindOf, lineKind, blockFrom, blockOf}
@@ -32,7 +33,6 @@ use Rattle.text.proofs.Lines.{line-count}
 use Rattle.blocks.proofs.Entries.{numbers-back, entry-back, read-is, kind-known}
 use Rattle.text.proofs.RoundTrip.{NoLF, no-append, value-is, after-is, read-line, read-rest}
 use Rattle.text.proofs.ReadBack.{value-back, line-back}
-use Rattle.text.proofs.SheetLaws.{good-ranged}
 use Rattle.logs.specs.LogText.{wordLine, blockText, entryText, isEntry, Small}
 use Rattle.logs.proofs.SheetText.{letters-no}
 

@@ -8,7 +8,8 @@ use lib.ListN.{length, getD, drop, length-append, length-drop}
 use borrow.Author.Tests.{le-leb, lt-leb}
 use borrow.Rule.Slice.PartMut.{midOf, putMid}
 use Rattle.laws.specs.Tests.{both}
-use Rattle.paper.specs.Paper.{isSheet, inRange}
+use Rattle.paper.specs.Paper.{sheetValues, isSheet, inRange}
+use Rattle.paper.proofs.Sheets.{good-small}
 use Rattle.paper.specs.declared.Sheet.{Sheet}
 use Rattle.paper.specs.declared.Entry.{Entry}
 use Rattle.text.specs.Line.{numberLine}
@@ -17,8 +18,8 @@ use Rattle.text.specs.TableSheet.{sheetLines, sheetKeys}
 use Rattle.writing.proofs.Sheets.{then}
 use Rattle.text.proofs.Parts.{part-is}
 use Rattle.logs.specs.declared.Put.the-variants.{Bytes, OutOfRange, NoRoom}
-use Rattle.logs.specs.LogText.{sheetValues, linesOf, sheetText, isEntry, putOf, putAfter}
-use Rattle.logs.proofs.SheetText.{lines-on, lines-end, sheet-small}
+use Rattle.logs.specs.LogText.{linesOf, sheetText, isEntry, putOf, putAfter}
+use Rattle.logs.proofs.SheetText.{lines-on, lines-end}
 
 -- ---- the sheet: the lines from the k-th on, by the numbers of the sheet
 abbrev pub linesFrom : List ℕ → ℕ → List ℕ
@@ -41,7 +42,7 @@ pub values-count : (s : Sheet) {vs : List ℕ} → vs ≡ sheetValues s → leng
 values-count s e = ap length e
 
 pub values-small : (s : Sheet) {vs : List ℕ} → isSheet s ≡ true → vs ≡ sheetValues s → (k : ℕ) → k < sheetLines → getD vs k 0 < 10 ^ 9
-values-small s good e k h = subst (λ (l : List ℕ). getD l k 0 < 10 ^ 9) (sym e) (sheet-small s good k h)
+values-small s good e k h = subst (λ (l : List ℕ). getD l k 0 < 10 ^ 9) (sym e) (good-small s good k)
 
 -- a line more is counted
 pub count-on : (vs : List ℕ) (k at : ℕ) {r : ℕ} → length vs ≡ sheetLines → k < sheetLines → at + length (linesFrom vs k) ≡ length (linesFrom vs 0) → r ≡ length (lineAt vs k)

@@ -13,19 +13,19 @@ use borrow.Author.Tests.{le-leb, leb-true, ltb-true}
 use Rattle.laws.specs.Tests.{pick, both}
 use Rattle.laws.proofs.Tests.{both-true}
 use Rattle.laws.proofs.Rules.{allBelow, below-all}
-use Rattle.paper.specs.Paper.{between, isSheet}
+use Rattle.paper.specs.Paper.{between, sheetValues, sheetBy, isSheet}
 use Rattle.paper.specs.declared.Sheet.{Sheet}
 use Rattle.paper.proofs.Codes.{between-in}
+use Rattle.paper.proofs.Sheets.{good-small, sheet-made}
 use Rattle.text.specs.Line.{afterLine, lineNumber, numberLine, afterLines}
 use Rattle.blocks.specs.Block.{allLetters}
-use Rattle.text.specs.TableSheet.{sheetLines, sheetKeys, sheetFrom, sheetTo, ranged, sheetNumber, isValue, valueIn, allGood, sheetWith, sheetOf, sheetEnd}
+use Rattle.text.specs.TableSheet.{sheetLines, sheetKeys, sheetNumber, isValue, valueIn, allGood, valuesFrom, sheetWith, sheetOf, sheetEnd}
 use Rattle.text.specs.declared.Number.{Number}
 use Rattle.text.specs.declared.Number.the-variants.{Value, Bad}
-use Rattle.blocks.proofs.Entries.{in-range}
 use Rattle.text.proofs.RoundTrip.{NoLF, read-line, read-rest}
 use Rattle.text.proofs.ReadBack.{line-back}
-use Rattle.text.proofs.SheetLaws.{InRange, good-ranged, good-each, sheet-good}
-use Rattle.logs.specs.LogText.{sheetValues, linesOf, sheetText}
+use Rattle.text.proofs.SheetLaws.{good-each, value-at, sheet-good, sheet-said}
+use Rattle.logs.specs.LogText.{linesOf, sheetText}
 use Rattle.text.specs.declared.sheet.Opening.the-variants as opening
 
 -- ---- lines by a table of keys, of any length
@@ -77,44 +77,23 @@ letters-no (b ∷ w) e =
 
 -- ---- the sheet's table: a row of the paper for each line
 
--- the keys are letters, few of them, and the greatest numbers have at most nine digits
+-- the keys are letters, few of them
 abbrev right : ℕ → Bool
-right k = both (allLetters (getD sheetKeys k [])) (both (leb (length (getD sheetKeys k [])) 22) (ltb (getD sheetTo k 0) 1000000000))
+right k = both (allLetters (getD sheetKeys k [])) (leb (length (getD sheetKeys k [])) 22)
 
 all-right : allBelow sheetLines right ≡ true
 all-right = refl
 
-row-is : (k : ℕ) → k < sheetLines → (allLetters (getD sheetKeys k []) ≡ true) × (length (getD sheetKeys k []) ≤ 22) × (getD sheetTo k 0 < 1000000000)
+row-is : (k : ℕ) → k < sheetLines → (allLetters (getD sheetKeys k []) ≡ true) × (length (getD sheetKeys k []) ≤ 22)
 row-is k h =
     let few = leb (length (getD sheetKeys k [])) 22 in
-    let low = ltb (getD sheetTo k 0) 1000000000 in
-    let p = both-true (allLetters (getD sheetKeys k [])) (both few low) (below-all sheetLines right all-right k h) in
-    let q = both-true few low (p .1) in
-    (p .0, leb-true _ _ (q .0), ltb-true _ _ (q .1))
+    let p = both-true (allLetters (getD sheetKeys k [])) few (below-all sheetLines right all-right k h) in
+    (p .0, leb-true _ _ (p .1))
 
--- each number of a good sheet is in the range of its row
-in-row : (s : Sheet) → InRange s → (k : ℕ) → k < sheetLines → (getD sheetFrom k 0 ≤ getD (sheetValues s) k 0) × (getD (sheetValues s) k 0 ≤ getD sheetTo k 0)
-in-row s r zero h = r .seats
-in-row s r (suc zero) h = r .small
-in-row s r (suc (suc zero)) h = (omega (arith, r .small, r .big), r .big .1)
-in-row s r (suc (suc (suc zero))) h = (omega arith, r .rate)
-in-row s r (suc (suc (suc (suc zero)))) h = (omega arith, r .cap)
-in-row s r (suc (suc (suc (suc (suc zero))))) h = r .step
-in-row s r (suc (suc (suc (suc (suc (suc k)))))) h = absurd (omega arith)
-
-module _ (s : Sheet) (good : isSheet s ≡ true) where
-  pub sheet-row : (k : ℕ) → k < sheetLines → (getD sheetFrom k 0 ≤ getD (sheetValues s) k 0) × (getD (sheetValues s) k 0 ≤ getD sheetTo k 0)
-  sheet-row k h = in-row s (good-ranged s good) k h
-
-  pub sheet-small : (k : ℕ) → k < sheetLines → getD (sheetValues s) k 0 < 10 ^ 9
-  sheet-small k h =
-      let most : getD sheetTo k 0 < 1000000000 = row-is k h .2 in
-      omega (arith, sheet-row k h .1)
-
-  fit : Fit sheetKeys (sheetValues s)
-  fit k h =
-      let p = row-is k h in
-      (letters-no (getD sheetKeys k []) (p .0), p .1, sheet-small k h, h)
+fit : (s : Sheet) → isSheet s ≡ true → Fit sheetKeys (sheetValues s)
+fit s good k h =
+    let p = row-is k h in
+    (letters-no (getD sheetKeys k []) (p .0), p .1, good-small s good k, h)
 
 -- ---- reading what was written
 
@@ -122,22 +101,28 @@ module _ (s : Sheet) (good : isSheet s ≡ true) (rest : List ℕ) where
   number-read : (k : ℕ) → k < sheetLines → sheetNumber k (sheetText s ++ rest) ≡ Value (getD (sheetValues s) k 0)
   unfolding sheetNumber sheetText
   number-read k h =
-      let r = sheet-row s good k h in
-      rw (after-lines k sheetKeys (sheetValues s) rest (fit s good) (omega arith), line-number k sheetKeys (sheetValues s) rest (fit s good) h, in-range (getD sheetFrom k 0) (getD sheetTo k 0) (getD (sheetValues s) k 0) (r .0) (r .1))
+      rw (after-lines k sheetKeys (sheetValues s) rest (fit s good) (omega arith), line-number k sheetKeys (sheetValues s) rest (fit s good) h)
 
   all-read : (n : ℕ) → n ≤ sheetLines → allGood n (sheetText s ++ rest) ≡ true
   all-read zero h = refl
   all-read (suc n) h = rw (number-read n (omega arith), all-read n (omega arith))
 
+  values-read : (n k : ℕ) → k + n ≡ sheetLines → valuesFrom n k (sheetText s ++ rest) ≡ drop k (sheetValues s)
+  values-read zero k h = sym (drop-of-length-le (sheetValues s) {i = k} (omega arith))
+  values-read (suc n) k h =
+      ap (λ (x : Number). valueIn x ∷ valuesFrom n (k + 1) (sheetText s ++ rest)) (number-read k (omega arith))
+      ∙ ap (λ (vs : List ℕ). getD (sheetValues s) k 0 ∷ vs) (values-read n (k + 1) (omega arith) ∙ ap (λ (i : ℕ). drop i (sheetValues s)) (add-one k))
+      ∙ sym (drop-cons (sheetValues s) k 0 (omega arith))
+
   with-read : sheetWith (sheetText s ++ rest) ≡ s
   unfolding sheetWith
-  with-read = rw (number-read 0 (omega arith), number-read 1 (omega arith), number-read 2 (omega arith), number-read 3 (omega arith), number-read 4 (omega arith), number-read 5 (omega arith))
+  with-read = ap sheetBy (values-read sheetLines 0 refl) ∙ sheet-made s
 
   -- the same sheet
   pub sheet-read : sheetOf (sheetText s ++ rest) ≡ opening.Read s
   sheet-read =
       let e = with-read in
-      sheet-good (sheetText s ++ rest) (all-read sheetLines (omega arith)) (rw e (le-leb _ _ (good-ranged s good .big .0))) ∙ ap opening.Read e
+      sheet-good (sheetText s ++ rest) (all-read sheetLines (omega arith)) (ap isSheet e ∙ good) ∙ ap opening.Read e
 
   -- and the rest
   pub sheet-rest : sheetEnd (sheetText s ++ rest) ≡ rest
@@ -146,34 +131,14 @@ module _ (s : Sheet) (good : isSheet s ≡ true) (rest : List ℕ) where
 
 -- ---- a sheet that was read is written back
 
-value-was : (lo hi : ℕ) (x : Number) → isValue (ranged lo hi x) ≡ true → x ≡ Value (valueIn (ranged lo hi x))
-value-was lo hi Bad e = absurd (true≢false (sym e))
-value-was lo hi (Value v) e = go (between lo hi v) e
-  where
-    go : (t : Bool) → isValue (pick t (Value v) Bad) ≡ true → Value v ≡ Value (valueIn (pick t (Value v) Bad))
-    go true e = refl
-    go false e = absurd (true≢false (sym e))
+value-was : (x : Number) → isValue x ≡ true → x ≡ Value (valueIn x)
+value-was Bad e = absurd (true≢false (sym e))
+value-was (Value v) e = refl
 
--- what a sheet that was read says: each line is good, and the numbers are the sheet's
-sheet-said : (log : List ℕ) (s : Sheet) → sheetOf log ≡ opening.Read s → (allGood sheetLines log ≡ true) × (sheetWith log ≡ s)
-unfolding sheetOf
-sheet-said log s e = go (both (allGood sheetLines log) (leb (valueIn (sheetNumber 1 log)) (valueIn (sheetNumber 2 log)))) refl e
-  where
-    go : (t : Bool) → both (allGood sheetLines log) (leb (valueIn (sheetNumber 1 log)) (valueIn (sheetNumber 2 log))) ≡ t
-        → pick t (opening.Read (sheetWith log)) opening.Bad ≡ opening.Read s → (allGood sheetLines log ≡ true) × (sheetWith log ≡ s)
-    go true w v = (both-true (allGood sheetLines log) (leb (valueIn (sheetNumber 1 log)) (valueIn (sheetNumber 2 log))) w .0, cc)
-    go false w v = let z : _≡_ {A = ℕ} 0 1 = cc in absurd (omega arith)
-
--- row by row, the sheet's number is that of the line
+-- the sheet's k-th number is that of the k-th line
 with-row : (log : List ℕ) (k : ℕ) → k < sheetLines → getD (sheetValues (sheetWith log)) k 0 ≡ valueIn (sheetNumber k log)
 unfolding sheetWith
-with-row log zero h = refl
-with-row log (suc zero) h = refl
-with-row log (suc (suc zero)) h = refl
-with-row log (suc (suc (suc zero))) h = refl
-with-row log (suc (suc (suc (suc zero)))) h = refl
-with-row log (suc (suc (suc (suc (suc zero))))) h = refl
-with-row log (suc (suc (suc (suc (suc (suc k)))))) h = absurd (omega arith)
+with-row log k h = let z : 0 + k ≡ k = omega arith in value-at sheetLines 0 k log h ∙ ap (λ (i : ℕ). valueIn (sheetNumber i log)) z
 
 after-next : (k : ℕ) (log : List ℕ) → afterLine (afterLines k log) ≡ afterLines (suc k) log
 after-next zero log = refl
@@ -184,7 +149,7 @@ module _ (log : List ℕ) (s : Sheet) (e : sheetOf log ≡ opening.Read s) where
   unfolding sheetNumber
   line-was k h =
       let p = sheet-said log s e in
-      value-was (getD sheetFrom k 0) (getD sheetTo k 0) (lineNumber (getD sheetKeys k []) (afterLines k log)) (good-each sheetLines k log h (p .0))
+      value-was (lineNumber (getD sheetKeys k []) (afterLines k log)) (good-each sheetLines k log h (p .0))
       ∙ ap Value (sym (with-row log k h))
       ∙ ap (λ (t : Sheet). Value (getD (sheetValues t) k 0)) (p .1)
 

@@ -7,13 +7,15 @@ use mathlib.Core.Bool.{Bool, not}
 use lib.ListN.{length}
 use lib.Dec.{eqb, leb}
 use Rattle.laws.specs.Tests.{pick}
-use Rattle.paper.specs.RefusalNumbers.{taken, malformed, outOfRange, noRoom, when}
+use Rattle.paper.specs.RefusalNumbers.{taken, outOfRange, when}
 use Rattle.paper.specs.declared.Sheet.{Sheet}
 use Rattle.text.specs.Number.{digits}
 use Rattle.text.specs.Line.{numberLine}
 use Rattle.blocks.specs.Block.{blockOf, restOf}
 use Rattle.blocks.specs.Entry.{parsedOf}
 use Rattle.text.specs.TableSheet.{sheetOf, sheetEnd}
+use Rattle.text.specs.Codes.{eleven}
+use Rattle.blocks.specs.Codes.{codeOfBlock, codeOfParsed}
 use Rattle.blocks.specs.declared.Block.{Block}
 use Rattle.blocks.specs.declared.Block.the-variants.{Raw, Malformed, Nothing}
 use Rattle.blocks.specs.declared.Parsed.{Parsed}
@@ -23,19 +25,19 @@ use Rattle.text.specs.declared.sheet.Opening.the-variants as opening
 use Rattle.logs.specs.declared.Put.{Put}
 use Rattle.logs.specs.declared.Put.the-variants.{Bytes, OutOfRange, NoRoom}
 use Rattle.logs.specs.declared.copy.Copied.{Copied}
-use Rattle.logs.specs.LogText.{sheetText, entryText, isEntry, putOf}
+use Rattle.logs.specs.LogText.{sheetText, entryText, isEntry, putOf, codeOfPut}
 
 -- ---- one block
 
 -- its code as to form and ranges: 1, 2, or 0 where it is an entry in range
 abbrev pub entryCode : Sheet → ℕ → Parsed → ℕ
 entryCode sheet n (parsed.Read e) = when (not (isEntry sheet n e)) outOfRange
-entryCode sheet n parsed.OutOfRange = outOfRange
+entryCode sheet n parsed.OutOfRange = codeOfParsed parsed.OutOfRange
 
 abbrev pub formCode : Sheet → Block → ℕ
 formCode sheet (Raw n kind seat a b) = entryCode sheet n (parsedOf kind seat a b)
-formCode sheet Malformed = malformed
-formCode sheet Nothing = malformed
+formCode sheet Malformed = codeOfBlock Malformed
+formCode sheet Nothing = codeOfBlock Nothing
 
 unfoldable pub blockCode : Sheet → List ℕ → ℕ
 blockCode sheet log = formCode sheet (blockOf log)
@@ -99,7 +101,7 @@ notesFrom (suc k) count sheet log =
 -- a bad sheet: `code=11` and one LF
 abbrev pub saidFrom : Opening → List ℕ → List ℕ
 saidFrom (opening.Read s) log = notesFrom (length log) 0 s (sheetEnd log)
-saidFrom opening.Bad log = 99 ∷ 111 ∷ 100 ∷ 101 ∷ 61 ∷ 49 ∷ 49 ∷ 10 ∷ []
+saidFrom opening.Bad log = eleven
 
 unfoldable pub leftOut : List ℕ → List ℕ
 leftOut log = saidFrom (sheetOf log) log
@@ -107,21 +109,21 @@ leftOut log = saidFrom (sheetOf log) log
 -- ---- one block into a lent buffer: its code and how much was written; 12 where it is too short
 
 abbrev pub copiedAs : Put → Copied
-copiedAs (Bytes k) = record { code = taken; written = k }
-copiedAs OutOfRange = record { code = outOfRange; written = 0 }
-copiedAs NoRoom = record { code = noRoom; written = 0 }
+copiedAs (Bytes k) = record { code = codeOfPut (Bytes k); written = k }
+copiedAs OutOfRange = record { code = codeOfPut OutOfRange; written = 0 }
+copiedAs NoRoom = record { code = codeOfPut NoRoom; written = 0 }
 
 abbrev pub leftAs : ℕ → Copied
 leftAs code = record { code = code; written = 0 }
 
 abbrev pub entryCopied : Sheet → ℕ → Parsed → List ℕ → Copied
 entryCopied sheet n (parsed.Read e) buffer = copiedAs (putOf (isEntry sheet n e) (entryText n e) buffer)
-entryCopied sheet n parsed.OutOfRange buffer = leftAs outOfRange
+entryCopied sheet n parsed.OutOfRange buffer = leftAs (codeOfParsed parsed.OutOfRange)
 
 abbrev pub formCopied : Sheet → Block → List ℕ → Copied
 formCopied sheet (Raw n kind seat a b) buffer = entryCopied sheet n (parsedOf kind seat a b) buffer
-formCopied sheet Malformed buffer = leftAs malformed
-formCopied sheet Nothing buffer = leftAs malformed
+formCopied sheet Malformed buffer = leftAs (codeOfBlock Malformed)
+formCopied sheet Nothing buffer = leftAs (codeOfBlock Nothing)
 
 unfoldable pub copiedOf : Sheet → List ℕ → List ℕ → Copied
 copiedOf sheet log buffer = formCopied sheet (blockOf log) buffer

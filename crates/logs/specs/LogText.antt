@@ -7,7 +7,7 @@ use mathlib.Core.Bool.{Bool}
 use lib.ListN.{length, getD}
 use Rattle.laws.specs.Tests.{pick, both}
 use Rattle.paper.specs.RefusalNumbers.{taken, outOfRange, noRoom}
-use Rattle.paper.specs.SheetAndEntries.{kindNames, numbersOf, isSheet, inRange}
+use Rattle.paper.specs.SheetAndEntries.{kindNames, numbersOf, sheetValues, isSheet, inRange}
 use Rattle.paper.specs.declared.Sheet.{Sheet}
 use Rattle.paper.specs.declared.Numbers.{Numbers}
 use Rattle.paper.specs.declared.Entry.{Entry}
@@ -18,10 +18,6 @@ use Rattle.logs.specs.declared.Put.{Put}
 use Rattle.logs.specs.declared.Put.the-variants.{Bytes, OutOfRange, NoRoom}
 
 -- ---- the sheet: its lines are those of text's one table
-
--- a sheet's numbers in the order of its lines
-abbrev pub sheetValues : Sheet → List ℕ
-sheetValues s = s .seats ∷ s .small ∷ s .big ∷ s .rate ∷ s .cap ∷ s .step ∷ []
 
 -- a line for each key with its number
 abbrev pub linesOf : List (List ℕ) → List ℕ → List ℕ

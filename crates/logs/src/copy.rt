@@ -7,7 +7,11 @@ use blocks::Parsed;
 use blocks::entry_of;
 use blocks::read_block;
 use laws::least;
+use paper::MALFORMED;
+use paper::NO_ROOM;
+use paper::OUT_OF_RANGE;
 use paper::Sheet;
+use paper::TAKEN;
 use writing::put_bytes;
 use writing::put_digits;
 use writing::write_number_line;
@@ -36,11 +40,11 @@ fn told(p: Put) -> Copied
 {
     match p {
         Put::Bytes(k) => Copied {
-            code: 0,
+            code: TAKEN,
             written: k,
         },
-        Put::OutOfRange => left_out(2),
-        Put::NoRoom => left_out(12),
+        Put::OutOfRange => left_out(OUT_OF_RANGE),
+        Put::NoRoom => left_out(NO_ROOM),
     }
 }
 
@@ -49,7 +53,7 @@ fn copy_entry(sheet: Sheet, n: u32, p: Parsed, buffer: &mut [u8]) -> Copied
     ensures bytes { λ r. ⌜ now (buffer .exit) ≡ sheetAfter (entryCopy sheet n p) (now (buffer .entry)) ⌝ }
 {
     match p {
-        Parsed::OutOfRange => left_out(2),
+        Parsed::OutOfRange => left_out(OUT_OF_RANGE),
         Parsed::Read(e) => told(write_entry(sheet, n, e, buffer)),
     }
 }
@@ -80,8 +84,8 @@ pub fn copy_block(sheet: Sheet, log: &[u8], buffer: &mut [u8]) -> Copied
             let p = entry_of(kind, seat, a, b);
             copy_entry(sheet, n, p, buffer)
         }
-        Block::Malformed => left_out(1),
-        Block::Nothing => left_out(1),
+        Block::Malformed => left_out(MALFORMED),
+        Block::Nothing => left_out(MALFORMED),
     }
 }
 
@@ -114,7 +118,7 @@ pub fn write_note(number: u32, code: u8, buffer: &mut [u8]) -> usize
     ensures bytes { λ r. ⌜ Wrote (noteIn number code (length (now (buffer .entry)))) (now (buffer .entry)) (now (buffer .exit)) r ⌝ }
     ensures within { λ r. ⌜ r ≤ length (now (buffer .entry)) ⌝ }
 {
-    if code == 0 {
+    if code == TAKEN {
         return 0;
     }
     if buffer.len() < 31 {

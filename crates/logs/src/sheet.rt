@@ -9,9 +9,9 @@ ghost use mathlib.Core.Path.{_≡_};
 ghost use mathlib.Core.Bool.{true};
 ghost use Prim.Native.Nat.{_≤_};
 ghost use lib.ListN.{length};
-ghost use Rattle.paper.specs.Paper.{isSheet};
+ghost use Rattle.paper.specs.Paper.{sheetValues, isSheet};
 ghost use Rattle.writing.specs.Sheet.{Wrote};
-ghost use Rattle.logs.specs.LogText.{sheetValues, sheetText, putOf, putAfter};
+ghost use Rattle.logs.specs.LogText.{sheetText, putOf, putAfter};
 
 // A sheet's numbers in the order of its lines.
 fn values_of(s: Sheet) -> [u32; LINES]

@@ -1,6 +1,7 @@
 -- Document 01, "Refusal numbers, in the order they are tested": each number by a name, and the first that applies. Assumes nothing.
 use Prim.Native.Nat.{ℕ, zero, suc}
 use mathlib.Core.Bool.{Bool}
+use mathlib.Core.List.{List, [], _∷_}
 use Rattle.laws.specs.Tests.{pick}
 
 -- taken
@@ -54,6 +55,24 @@ badSheet = 11
 -- the lent answer sheet is shorter than the block to be written; none of it changes
 abbrev pub noRoom : ℕ
 noRoom = 12
+
+-- the table's first column, from the top
+abbrev pub column : List ℕ
+column =
+    taken
+    ∷ malformed
+    ∷ outOfRange
+    ∷ notNext
+    ∷ wrongMoment
+    ∷ wrongSeat
+    ∷ notInTurn
+    ∷ notAllowed
+    ∷ cardTwice
+    ∷ tooManyChips
+    ∷ cardsMissing
+    ∷ badSheet
+    ∷ noRoom
+    ∷ []
 
 -- the number k, if it applies
 abbrev pub when : Bool → ℕ → ℕ

@@ -16,12 +16,40 @@ use Rattle.paper.specs.declared.Entry.the-variants.{Sit, Leave, Hand, Ho
 abbrev pub between : ℕ → ℕ → ℕ → Bool
 between lo hi x = both (leb lo x) (leb x hi)
 
--- seats (2 to 10), small, big (1 ≤ small ≤ big ≤ 10,000), rate (0 to 100, thousandths), cap (0 to 1,000,000); request No. 3: "a sixth sheet line `step` (1 to 1,000)"
+-- each of some tests holds
+abbrev pub allOf : List Bool → Bool
+allOf [] = true
+allOf (t ∷ []) = t
+allOf (t ∷ u ∷ ts) = both t (allOf (u ∷ ts))
+
+-- ---- the sheet
+
+-- its numbers in the order of its lines, and the sheet of such numbers
+abbrev pub sheetValues : Sheet → List ℕ
+sheetValues s = s .seats ∷ s .small ∷ s .big ∷ s .rate ∷ s .cap ∷ s .step ∷ []
+
+abbrev pub sheetBy : List ℕ → Sheet
+sheetBy vs = record { seats = getD vs 0 0; small = getD vs 1 0; big = getD vs 2 0; rate = getD vs 3 0; cap = getD vs 4 0; step = getD vs 5 0 }
+
+-- seats (2 to 10), small, big (1 ≤ small ≤ big ≤ 10,000), rate (0 to 100, thousandths), cap (0 to 1,000,000); request No. 3: "a sixth sheet line `step` (1 to 1,000)".
+-- All that is asked of a sheet's numbers, one by one and of some together, stands here
 unfoldable pub isSheet : Sheet → Bool
 isSheet s =
-    both (between 2 10 (s .seats))
-    (both (both (leb 1 (s .small)) (both (leb (s .small) (s .big)) (leb (s .big) 10000)))
-    (both (leb (s .rate) 100) (both (leb (s .cap) 1000000) (between 1 1000 (s .step)))))
+    allOf
+    (between 2 10 (s .seats)
+    ∷ leb 1 (s .small)
+    ∷ leb (s .small) (s .big)
+    ∷ leb (s .big) 10000
+    ∷ leb (s .rate) 100
+    ∷ leb (s .cap) 1000000
+    ∷ between 1 1000 (s .step)
+    ∷ [])
+
+-- a sheet that stands in where none is read yet
+abbrev pub standIn : Sheet
+standIn = sheetBy (2 ∷ 1 ∷ 1 ∷ 0 ∷ 0 ∷ 1 ∷ [])
+
+-- ---- the numbers of an entry
 
 -- a used seat is 1 to `seats`
 unfoldable pub isSeat : Sheet → ℕ → Bool
@@ -122,11 +150,6 @@ spared row x = both (spare (row .seat) (x .seat)) (both (spare (row .a .used) (x
 abbrev pub ifUsed : Bool → Bool → List Bool → List Bool
 ifUsed true t ts = t ∷ ts
 ifUsed false t ts = ts
-
-abbrev pub allOf : List Bool → Bool
-allOf [] = true
-allOf (t ∷ []) = t
-allOf (t ∷ u ∷ ts) = both t (allOf (u ∷ ts))
 
 -- each number that is used is in its range
 abbrev pub inSpan : Span → ℕ → Bool

@@ -4,7 +4,7 @@ use mathlib.Core.Path.{_≡_, refl, sym, ap, subst, _∙_}
 use mathlib.Core.List.{List, [], _∷_, _++_, append-nil}
 use mathlib.Core.Bool.{Bool, true, false}
 use mathlib.Core.Logic.{⊎-elim}
-use Prim.Native.Nat.{ℕ, zero, suc, _+_, _≤_, _<_}
+use Prim.Native.Nat.{ℕ, zero, suc, _+_, _-_, _≤_, _<_}
 use native.Mathlib.Omega.{arith}
 use lib.ListN.{length, getD, drop, length-append, length-take, drop-of-length-le}
 use lib.Dec.{eqb, leb}
@@ -15,12 +15,12 @@ use Rattle.text.specs.Line.{lineLen, lineOf, lineEnded, hasKey, valueOf, afterL
 use Rattle.blocks.specs.Block.{restOf, blockOf}
 use Rattle.table.specs.declared.table.Table.{Table}
 use Rattle.desk.specs.declared.Judged.{Judged}
-use Rattle.desk.specs.Desk.{judgeBlock, judgedOf, blockBytes, shownOf}
+use Rattle.desk.specs.Desk.{judgeBlock, judgedOf, judgedBytes, blockBytes}
 use Rattle.desk.specs.Log.{blocksFrom, outputFrom, outputOf}
 use Rattle.table.specs.Take.{freshTable}
 use Rattle.answers.specs.Answer.{answerBytes}
-use Rattle.text.specs.TableSheet.{sheetLines, sheetKeys, sheetFrom, sheetTo, ranged, sheetNumber, isValue, sheetWith, sheetOf, sheetEnd}
-use Rattle.text.proofs.SheetLaws.{good-not, sheet-bad}
+use Rattle.text.specs.TableSheet.{sheetLines, sheetKeys, sheetNumber, isValue, sheetOf, sheetEnd}
+use Rattle.text.proofs.SheetLaws.{good-not, sheet-bad, sheet-same}
 use Rattle.text.specs.declared.sheet.Opening.{Opening}
 use Rattle.text.specs.declared.sheet.Opening.the-variants.{Read, Bad}
 use Rattle.desk.proofs.Whole.{fuel-free, end-within}
@@ -36,7 +36,7 @@ judged-same t x y e = ap (judgeBlock t) e
 
 pub bytes-same : (t : Table) (x y : List ℕ) → blockOf x ≡ blockOf y → blockBytes t x ≡ blockBytes t y
 unfolding blockBytes
-bytes-same t x y e = ap (λ (j : Judged). answerBytes (shownOf (j .n) (j .code) (j .table) (j .payout))) (judged-same t x y e)
+bytes-same t x y e = ap judgedBytes (judged-same t x y e)
 
 -- ---- the answers to a log that comes byte by byte are those of the whole log
 
@@ -160,13 +160,10 @@ part-kept t k (b ∷ bs) more p = ⊎-elim
 
 pub cap-sheet-number : (k : ℕ) (l : List ℕ) → sheetNumber k (cap 0 l) ≡ sheetNumber k l
 unfolding sheetNumber
-cap-sheet-number k l =
-    ap (λ (v : List ℕ). ranged (getD sheetFrom k 0) (getD sheetTo k 0) (numberOf v))
-    (ap (valueOf (getD sheetKeys k [])) (cap-lines k l) ∙ cap-value (getD sheetKeys k []) (afterLines k l))
+cap-sheet-number k l = ap numberOf (ap (valueOf (getD sheetKeys k [])) (cap-lines k l) ∙ cap-value (getD sheetKeys k []) (afterLines k l))
 
 pub cap-sheet : (l : List ℕ) → sheetOf (cap 0 l) ≡ sheetOf l
-unfolding sheetOf sheetWith
-cap-sheet l = rw (cap-sheet-number 0 l, cap-sheet-number 1 l, cap-sheet-number 2 l, cap-sheet-number 3 l, cap-sheet-number 4 l, cap-sheet-number 5 l)
+cap-sheet l = sheet-same (cap 0 l) l (λ k h. cap-sheet-number k l)
 
 -- ---- the sheet, and so the whole output
 
@@ -188,7 +185,7 @@ number-open : (k : ℕ) (l : List ℕ) → lfs l ≡ k → isValue (sheetNumber 
 unfolding sheetNumber numberOf wellFormed
 number-open k l h =
     let z : lfs (afterLines k l) ≡ 0 = omega (arith, lines-lfs k l (omega arith)) in
-    ap (λ (v : List ℕ). isValue (ranged (getD sheetFrom k 0) (getD sheetTo k 0) (numberOf v))) (value-open (getD sheetKeys k []) (afterLines k l) (none-ended (afterLines k l) z))
+    ap (λ (v : List ℕ). isValue (numberOf v)) (value-open (getD sheetKeys k []) (afterLines k l) (none-ended (afterLines k l) z))
 
 -- a sheet without the LFs of all its lines is bad
 sheet-open : (l : List ℕ) → lfs l < sheetLines → sheetOf l ≡ Bad
@@ -198,13 +195,11 @@ front-number : (k : ℕ) (xs rest : List ℕ) → k < sheetLines → sheetLines 
 unfolding sheetNumber
 front-number k xs rest i h =
     let r = front-line (afterLines k xs) rest (omega (arith, lines-lfs k xs (omega arith))) in
-    ap (λ (v : List ℕ). ranged (getD sheetFrom k 0) (getD sheetTo k 0) (numberOf v))
+    ap numberOf
     (ap (valueOf (getD sheetKeys k [])) (lines-front k xs rest (omega arith)) ∙ value-same (getD sheetKeys k []) (afterLines k xs ++ rest) (afterLines k xs) (r .0) (r .1) (r .2))
 
 front-sheet : (xs rest : List ℕ) → sheetLines ≤ lfs xs → sheetOf (xs ++ rest) ≡ sheetOf xs
-unfolding sheetOf sheetWith
-front-sheet xs rest h =
-    rw (front-number 0 xs rest (omega arith) h, front-number 1 xs rest (omega arith) h, front-number 2 xs rest (omega arith) h, front-number 3 xs rest (omega arith) h, front-number 4 xs rest (omega arith) h, front-number 5 xs rest (omega arith) h)
+front-sheet xs rest h = sheet-same (xs ++ rest) xs (λ k i. front-number k xs rest i h)
 
 opened-is : (o : Opening) (log bs : List ℕ) → sheetEnd log ≡ bs → openedFrom o bs ≡ outputFrom o log
 opened-is Bad log bs e = refl
@@ -225,8 +220,8 @@ bytewise-is raw (b ∷ bs) h =
     (λ e.
     let all : sheetLines ≤ lfs more = omega (arith, leb-true sheetLines (keepAll nothing more .lines) e) in
     let lf : eqb b 10 ≡ true = last-lf raw b h all in
-    let but-one : lfs raw ≡ 5 = omega (arith, lfs-append raw (b ∷ []), lfs-lf b [] lf) in
-    let rest : sheetEnd (raw ++ (b ∷ bs)) ≡ bs = lines-last 5 b raw bs lf but-one in
+    let but-one : lfs raw ≡ sheetLines - 1 = omega (arith, lfs-append raw (b ∷ []), lfs-lf b [] lf) in
+    let rest : sheetEnd (raw ++ (b ∷ bs)) ≡ bs = lines-last (sheetLines - 1) b raw bs lf but-one in
     let sheet : sheetOf (keepAll nothing more .bytes) ≡ sheetOf (raw ++ (b ∷ bs)) =
     ap sheetOf (kept-cap more) ∙ cap-sheet more ∙ sym (front-sheet more bs all) ∙ ap sheetOf (snoc raw bs b) in
     ap (λ (x : Bool). pick x (openedFrom (sheetOf (keepAll nothing more .bytes)) bs) (bytewise (keepAll nothing more) bs)) e

@@ -1,4 +1,4 @@
--- No answer of a sound table is longer than 562 bytes, so a sheet with so much room takes the answer to any block. Assumes nothing.
+-- No answer of a sound table is longer than `longest` bytes, so a sheet with so much room takes the answer to any block. Assumes nothing.
 use mathlib.Core.Path.{_≡_, ap, _∙_}
 use mathlib.Core.List.{List, [], _∷_}
 use mathlib.Core.Bool.{Bool, true, false}
@@ -25,6 +25,7 @@ use Rattle.table.specs.declared.table.Table.{Table}
 use Rattle.table.specs.Settle.{totalsOf, livesOf, potsNow, payoutNow, noPayout}
 use Rattle.table.specs.Take.{Sound, codeOf, nextOf, payoutOf, payoutBy}
 use Rattle.table.proofs.Standing.{standing-next}
+use Rattle.answers.specs.Answer.{answerBytes}
 use Rattle.answers.proofs.Blocks.{answer-most}
 use Rattle.desk.specs.declared.Judged.{Judged}
 use Rattle.desk.specs.Desk.{rowsOf, shownOf, judgeParsed, judgeBlock, judgedOf, judgedBytes, blockBytes}
@@ -45,7 +46,11 @@ pub record Few (j : Judged) : Type 0 where
 
 judged-within : (j : Judged) → Few j → length (judgedBytes j) ≤ 562
 unfolding shownOf
-judged-within j f = answer-most (shownOf (j .n) (j .code) (j .table) (j .payout)) (f .pots) (omega (arith, f .rows, rows-within (j .payout .sittings) (j .payout .paid)))
+judged-within j f = go (j .block)
+  where
+    go : (b : Bool) → length (pick b (answerBytes (shownOf (j .n) (j .code) (j .table) (j .payout))) []) ≤ 562
+    go true = answer-most (shownOf (j .n) (j .code) (j .table) (j .payout)) (f .pots) (omega (arith, f .rows, rows-within (j .payout .sittings) (j .payout .paid)))
+    go false = omega arith
 
 pots-within : (t : Table) → length (t .chairs) ≡ 10 → length (potsNow t) ≤ 9
 unfolding potsNow

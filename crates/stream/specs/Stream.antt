@@ -7,8 +7,10 @@ use mathlib.Core.Bool.{Bool, true, false}
 use lib.ListN.{length, take, drop}
 use lib.Dec.{eqb, ltb, leb}
 use Rattle.laws.specs.Tests.{pick}
+use Rattle.paper.specs.Paper.{standIn}
+use Rattle.blocks.specs.Block.{blockLines}
 use Rattle.table.specs.declared.table.Table.{Table}
-use Rattle.text.specs.TableSheet.{sheetLines, sheetOf}
+use Rattle.text.specs.TableSheet.{sheetLines, sheetRoom, sheetOf}
 use Rattle.text.specs.declared.sheet.Opening.{Opening}
 use Rattle.text.specs.declared.sheet.Opening.the-variants.{Read, Bad}
 use Rattle.desk.specs.Desk.{judgedOf, blockBytes, answeredOf}
@@ -42,7 +44,7 @@ pub record Gathered : Type 0 where
 
 -- how many lines are read together: before the sheet was read the sheet's, then a block's five
 abbrev pub linesOf : Bool → ℕ
-linesOf opened = pick opened 5 sheetLines
+linesOf opened = pick opened blockLines sheetLines
 
 -- up to the LF of the last of so many lines, or all
 abbrev pub gatherOf : ℕ → Kept → List ℕ → Gathered
@@ -52,12 +54,12 @@ gatherOf want k (b ∷ bs) = pick (leb want (keepOf k b .lines)) (record { kept 
 abbrev pub stateOf : Mark → List ℕ → Kept
 stateOf m buf = record { bytes = take (m .count) buf; lines = m .lines; width = m .width }
 
--- what is kept fits into 204 bytes: the sheet's lines, each with 33 bytes and its LF
+-- what is kept fits into the sheet's room
 pub record Room (m : Mark) : Type 0 where
   pub count : m .count ≤ m .lines * 34 + m .width
   pub width : m .width ≤ 33
   pub lines : m .lines ≤ sheetLines
-  pub most : m .count ≤ 204
+  pub most : m .count ≤ sheetRoom
 
 -- the answers of a table to bytes that come one by one, and at the close to what is left of an unfinished block
 abbrev pub streamFrom : Table → Kept → List ℕ → List ℕ
@@ -96,7 +98,7 @@ abbrev pub startOf : Clerk
 startOf = record {
   opened = false;
   shut = false;
-  table = freshTable (record { seats = 2; small = 1; big = 1; rate = 0; cap = 0; step = 1 });
+  table = freshTable standIn;
   mark = record { count = 0; lines = 0; width = 0 };
 }
 

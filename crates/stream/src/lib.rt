@@ -1,9 +1,11 @@
 // A log that comes in parts: the unfinished sheet or block is kept, each line cut after 33 bytes, and answered at its last LF.
+use blocks::BLOCK_LINES;
 use blocks::read_front;
 use desk::answer;
 use desk::answer_block;
 use desk::log::refuse_sheet;
-use paper::Sheet;
+use paper::NO_ROOM;
+use paper::STAND_IN;
 use table::table::Table;
 use table::take::new_table;
 use text::sheet::LINES;
@@ -14,7 +16,7 @@ ghost use mathlib.Core.Bool.{true, false};
 ghost use Prim.Native.Nat.{ℕ, _+_, _-_, _*_, _≤_, _<_};
 ghost use lib.ListN.{length, take, drop};
 ghost use Rattle.writing.specs.Sheet.{over, sheetAfter, Wrote};
-ghost use Rattle.text.specs.TableSheet.{sheetLines};
+ghost use Rattle.text.specs.TableSheet.{sheetLines, sheetRoom};
 ghost use Rattle.desk.specs.Log.{fitting};
 ghost use Rattle.table.specs.Take.{Sound};
 ghost use Rattle.stream.specs.Stream.{linesOf, stateOf, keepOf, gatherOf, Room, Held, FedAs, startOf, stepOf, stepBytes, closeBytes};
@@ -29,7 +31,7 @@ pub struct Mark {
 
 // One byte more.
 fn keep(buf: &mut [u8], m: Mark, b: u8) -> Mark
-    requires { ⌜ Room m × (m .lines < sheetLines) × (204 ≤ length (now buf)) ⌝ }
+    requires { ⌜ Room m × (m .lines < sheetLines) × (sheetRoom ≤ length (now buf)) ⌝ }
     ensures { λ r. ⌜ (stateOf r (now (buf .exit)) ≡ keepOf (stateOf m (now (buf .entry))) b) × Room r ⌝ }
 {
     let at = m.count;
@@ -61,12 +63,12 @@ pub struct Got {
 pub fn lines_of(opened: bool) -> usize
     ensures { λ r. ⌜ (r ≡ linesOf opened) × (r ≤ sheetLines) ⌝ }
 {
-    if opened { 5 } else { LINES }
+    if opened { BLOCK_LINES } else { LINES }
 }
 
 // The bytes of a part up to the LF of the last of so many lines, or all of them.
 pub fn gather(buf: &mut [u8], m: Mark, part: &[u8], want: usize) -> Got
-    requires { ⌜ Room m × (m .lines < want) × (want ≤ sheetLines) × (204 ≤ length (now buf)) ⌝ }
+    requires { ⌜ Room m × (m .lines < want) × (want ≤ sheetLines) × (sheetRoom ≤ length (now buf)) ⌝ }
     ensures kept { λ r. ⌜ (stateOf (r .mark) (now (buf .exit)) ≡ gatherOf want (stateOf m (now (buf .entry))) (now (part .entry)) .kept) × (drop (r .used) (now (part .entry)) ≡ gatherOf want (stateOf m (now (buf .entry))) (now (part .entry)) .left) ⌝ }
     ensures room { λ r. ⌜ Room (r .mark) × (r .used ≤ length (now (part .entry))) × (0 < length (now (part .entry)) → 0 < r .used) ⌝ }
 {
@@ -151,7 +153,7 @@ fn whole(opened: bool, t: Table, block: &[u8], out: &mut [u8]) -> Step
 
 // A part of the log by way of the buffer: its bytes are kept up to the end of the sheet or of a block, which is answered, or all of them.
 fn feed_kept(opened: bool, t: Table, m: Mark, buf: &mut [u8], part: &[u8], out: &mut [u8]) -> Fed
-    requires { ⌜ Sound t × Room m × (m .lines < linesOf opened) × (204 ≤ length (now buf)) ⌝ }
+    requires { ⌜ Sound t × Room m × (m .lines < linesOf opened) × (sheetRoom ≤ length (now buf)) ⌝ }
     ensures fed { λ r. ⌜ FedAs (record { opened = opened; shut = false; table = t; mark = m }) (now (buf .entry)) (now (part .entry)) (now (out .entry)) (now (buf .exit)) (now (out .exit)) r ⌝ }
     ensures held { λ r. ⌜ Held (r .clerk) × (r .used ≤ length (now (part .entry))) × (0 < length (now (part .entry)) → 0 < r .used) × (r .written ≤ length (now (out .entry))) ⌝ }
 {
@@ -217,7 +219,7 @@ pub fn in_place(t: Table, part: &[u8], out: &mut [u8]) -> Ran
         }
         let b = f.block;
         let a = answer_block(table, b, &mut out[at..]);
-        if a.code == 12 {
+        if a.code == NO_ROOM {
             return Ran {
                 table,
                 used,
@@ -250,7 +252,7 @@ fn awaits_block(opened: bool, m: Mark) -> bool
 
 // A part of the log where a block is awaited: the whole blocks at its front where they lie; where there is none, by way of the buffer.
 fn feed_awaiting(t: Table, m: Mark, buf: &mut [u8], part: &[u8], out: &mut [u8]) -> Fed
-    requires { ⌜ Sound t × Room m × (awaitsBlock true m ≡ true) × (204 ≤ length (now buf)) ⌝ }
+    requires { ⌜ Sound t × Room m × (awaitsBlock true m ≡ true) × (sheetRoom ≤ length (now buf)) ⌝ }
     ensures fed { λ r. ⌜ FedEither (record { opened = true; shut = false; table = t; mark = m }) (now (buf .entry)) (now (part .entry)) (now (out .entry)) (now (buf .exit)) (now (out .exit)) r ⌝ }
     ensures held { λ r. ⌜ Held (r .clerk) × (r .used ≤ length (now (part .entry))) × (0 < length (now (part .entry)) → 0 < r .used) × (r .written ≤ length (now (out .entry))) ⌝ }
 {
@@ -276,7 +278,7 @@ fn feed_awaiting(t: Table, m: Mark, buf: &mut [u8], part: &[u8], out: &mut [u8])
 // A part of the log: where a block is awaited, the whole blocks at its front, answered where they lie; else its bytes up to the end of the
 // sheet or of a block, which is answered, or all of them.
 pub fn feed(c: Clerk, buf: &mut [u8], part: &[u8], out: &mut [u8]) -> Fed
-    requires { ⌜ Held c × (204 ≤ length (now buf)) ⌝ }
+    requires { ⌜ Held c × (sheetRoom ≤ length (now buf)) ⌝ }
     ensures fed { λ r. ⌜ FedEither c (now (buf .entry)) (now (part .entry)) (now (out .entry)) (now (buf .exit)) (now (out .exit)) r ⌝ }
     ensures held { λ r. ⌜ Held (r .clerk) × (r .used ≤ length (now (part .entry))) × (0 < length (now (part .entry)) → 0 < r .used) × (r .written ≤ length (now (out .entry))) ⌝ }
 {
@@ -299,15 +301,7 @@ pub fn feed(c: Clerk, buf: &mut [u8], part: &[u8], out: &mut [u8]) -> Fed
 pub fn start() -> Clerk
     ensures { λ r. ⌜ (r ≡ startOf) × Held r ⌝ }
 {
-    let s = Sheet {
-        seats: 2,
-        small: 1,
-        big: 1,
-        rate: 0,
-        cap: 0,
-        step: 1,
-    };
-    let t = new_table(s);
+    let t = new_table(STAND_IN);
     let z = empty();
     Clerk {
         opened: false,
@@ -319,7 +313,7 @@ pub fn start() -> Clerk
 
 // The end of the log: a sheet that is not whole is bad, and a block that is not whole is malformed.
 pub fn close(c: Clerk, buf: &[u8], out: &mut [u8]) -> usize
-    requires { ⌜ Held c × (204 ≤ length (now buf)) ⌝ }
+    requires { ⌜ Held c × (sheetRoom ≤ length (now buf)) ⌝ }
     ensures bytes { λ r. ⌜ Wrote (fitting (closeBytes c (now (buf .entry))) (length (now (out .entry)))) (now (out .entry)) (now (out .exit)) r ⌝ }
     ensures within { λ r. ⌜ r ≤ length (now (out .entry)) ⌝ }
 {

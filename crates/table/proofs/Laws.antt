@@ -8,11 +8,12 @@ use native.Mathlib.Omega.{arith}
 use lib.ListN.{length, getD, drop}
 use lib.Seq.{drop-cons}
 use lib.Dec.{eqb, leb, ltb}
-use borrow.Author.Tests.{le-leb, lt-leb, leb-false, leb-true}
+use borrow.Author.Tests.{le-leb, lt-leb, leb-false}
+use Rattle.paper.proofs.Sheets.{good-ranged}
 use Rattle.paper.specs.Paper.{when, isSheet}
-use Rattle.laws.specs.Tests.{both, either, pick}
+use Rattle.laws.specs.Tests.{either, pick}
 use Rattle.paper.proofs.Codes.{or-zero, when-zero}
-use Rattle.laws.proofs.Tests.{either-false, both-true}
+use Rattle.laws.proofs.Tests.{either-false}
 use Rattle.paper.specs.declared.Sheet.{Sheet}
 use Rattle.laws.specs.Lists.{sumOf}
 use Rattle.pots.specs.declared.Commission.{Commission}
@@ -82,35 +83,17 @@ totals-within [] = omega arith
 totals-within (c ∷ cs) = omega (arith, totals-within cs)
 
 -- what is used of a good sheet: the bounds of its seats, big, rate and step
-sheet-bounds : (s : Sheet) → isSheet s ≡ true → (s .seats ≤ 10) × (s .big ≤ 10000) × (s .rate ≤ 100) × (1 ≤ s .step)
-unfolding isSheet
-sheet-bounds s h =
-    let big = both (leb (s .small) (s .big)) (leb (s .big) 10000) in
-    let blinds = both (leb 1 (s .small)) big in
-    let steps = both (leb 1 (s .step)) (leb (s .step) 1000) in
-    let charge = both (leb (s .cap) 1000000) steps in
-    let rest = both (leb (s .rate) 100) charge in
-    let p = both-true (both (leb 2 (s .seats)) (leb (s .seats) 10)) (both blinds rest) h in
-    let q = both-true blinds rest (p .1) in
-    let r = both-true (leb 1 (s .small)) big (q .0) in
-    let c = both-true (leb (s .rate) 100) charge (q .1) in (
-      leb-true (s .seats) 10 (both-true (leb 2 (s .seats)) (leb (s .seats) 10) (p .0) .1),
-      leb-true (s .big) 10000 (both-true (leb (s .small) (s .big)) (leb (s .big) 10000) (r .1) .1),
-      leb-true (s .rate) 100 (c .0),
-      leb-true 1 (s .step) (both-true (leb 1 (s .step)) (leb (s .step) 1000) (both-true (leb (s .cap) 1000000) steps (c .1) .1) .0),
-    )
-
 pub sheet-seats : (s : Sheet) → isSheet s ≡ true → s .seats ≤ 10
-sheet-seats s h = sheet-bounds s h .0
+sheet-seats s h = good-ranged s h .seats .1
 
 pub sheet-big : (s : Sheet) → isSheet s ≡ true → s .big ≤ 10000
-sheet-big s h = sheet-bounds s h .1
+sheet-big s h = good-ranged s h .big
 
 pub sheet-rate : (s : Sheet) → isSheet s ≡ true → s .rate ≤ 100
-sheet-rate s h = sheet-bounds s h .2
+sheet-rate s h = good-ranged s h .rate
 
 pub sheet-step : (s : Sheet) → isSheet s ≡ true → 1 ≤ s .step
-sheet-step s h = sheet-bounds s h .3
+sheet-step s h = good-ranged s h .step .0
 
 -- ---- what a settle pays
 score-small : (b : Board) (c : Chair) → scoreOf b c ≤ 100000000

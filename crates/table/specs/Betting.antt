@@ -3,7 +3,7 @@ use Prim.Native.Nat.{ℕ, zero, suc, _+_, _-_}
 use mathlib.Core.Bool.{Bool, true, false, not}
 use mathlib.Core.List.{map}
 use lib.Dec.{ltb, leb, eqb}
-use Rattle.paper.specs.Paper.{when, orElse}
+use Rattle.paper.specs.Paper.{wrongMoment, wrongSeat, notInTurn, notAllowed, when, orElse}
 use Rattle.laws.specs.Tests.{both, either, pick}
 use Rattle.chairs.specs.Chairs.{isOwing, wantOf, countOf, firstOf, clockwise, sweepOf, roundOf, foldedOf, actedOf, paidOf}
 use Rattle.chairs.specs.declared.Chair.{Chair}
@@ -35,7 +35,9 @@ nobodyOwes t = eqb (firstOwing t 0) 0
 
 -- fold, check, call and wager: "someone owes"; the seat is "live, in turn"
 unfoldable pub turnCode : Table → ℕ → ℕ
-turnCode t s = orElse (when (nobodyOwes t) 4) (orElse (when (not (seatOf t s .dealt .live)) 5) (when (not (eqb (t .play .turn) s)) 6))
+turnCode t s =
+    orElse (when (nobodyOwes t) wrongMoment)
+    (orElse (when (not (seatOf t s .dealt .live)) wrongSeat) (when (not (eqb (t .play .turn) s)) notInTurn))
 
 -- "After fold, check, call, wager, or `dead` for the seat in turn, the turn is the first owing seat clockwise from that seat."
 -- Seat s has acted, and its chair is now c
@@ -48,14 +50,14 @@ foldedTo t s = afterAct t s (foldedOf (seatOf t s))
 
 -- "check: round total equals the mark."
 unfoldable pub checkCode : Table → ℕ → ℕ
-checkCode t s = orElse (turnCode t s) (when (not (eqb (roundOf (seatOf t s)) (t .play .mark))) 7)
+checkCode t s = orElse (turnCode t s) (when (not (eqb (roundOf (seatOf t s)) (t .play .mark))) notAllowed)
 
 unfoldable pub checkedTo : Table → ℕ → Table
 checkedTo t s = afterAct t s (actedOf (seatOf t s))
 
 -- "call: it is below; the seat pays the difference or its whole stack."
 unfoldable pub callCode : Table → ℕ → ℕ
-callCode t s = orElse (turnCode t s) (when (not (ltb (roundOf (seatOf t s)) (t .play .mark))) 7)
+callCode t s = orElse (turnCode t s) (when (not (ltb (roundOf (seatOf t s)) (t .play .mark))) notAllowed)
 
 unfoldable pub calledTo : Table → ℕ → Table
 calledTo t s = afterAct t s (actedOf (paidOf (seatOf t s) (t .play .mark - roundOf (seatOf t s))))
@@ -75,7 +77,7 @@ isWager t c a =
     (either (eqb (a - roundOf c) (c .stack)) (leb (t .play .mark + t .play .lift) a))))
 
 unfoldable pub wagerCode : Table → ℕ → ℕ → ℕ
-wagerCode t s a = orElse (turnCode t s) (when (not (isWager t (seatOf t s) a)) 7)
+wagerCode t s a = orElse (turnCode t s) (when (not (isWager t (seatOf t s) a)) notAllowed)
 
 -- a full lift: the mark rises by at least the lift. "Several short lifts don't add up to a full one": the rise is this wager's own
 abbrev pub isFullLift : Table → ℕ → Bool
@@ -93,7 +95,7 @@ wageredTo t s a =
 
 -- dead: "a hand is open, two live or more"; the seat is "live"
 unfoldable pub deadCode : Table → ℕ → ℕ
-deadCode t s = orElse (when (either (not (t .play .opened)) (ltb (liveHands t) 2)) 4) (when (not (seatOf t s .dealt .live)) 5)
+deadCode t s = orElse (when (either (not (t .play .opened)) (ltb (liveHands t) 2)) wrongMoment) (when (not (seatOf t s .dealt .live)) wrongSeat)
 
 -- "Any other `dead` keeps the turn, or ends it if nobody owes." The turn after `dead` at seat s made t to u
 unfoldable pub turnAfter : Table → Table → ℕ → ℕ

@@ -4,7 +4,7 @@ use mathlib.Core.Bool.{Bool, true, false, not}
 use mathlib.Core.List.{List, [], _∷_}
 use lib.ListN.{take}
 use lib.Dec.{ltb, leb, eqb}
-use Rattle.paper.specs.Paper.{when, orElse}
+use Rattle.paper.specs.Paper.{wrongMoment, wrongSeat, cardTwice, when, orElse}
 use Rattle.laws.specs.Tests.{either, pick}
 use Rattle.chairs.specs.Chairs.{countOf, wantOf, heldOf}
 use Rattle.chairs.specs.declared.Who.the-variants.{Holding}
@@ -23,9 +23,9 @@ inThisHand t k = either (hasCard k (take (t .board .count) (t .board .cards))) (
 -- hole: "a hand is open"; the seat is "live, no cards yet"; 8: "a card already in this hand, or a = b in `hole`"
 unfoldable pub holeCode : Table → ℕ → ℕ → ℕ → ℕ
 holeCode t s a b =
-    orElse (when (not (t .play .opened)) 4)
-    (orElse (when (either (not (seatOf t s .dealt .live)) (seatOf t s .hole .entered)) 5)
-    (when (either (eqb a b) (either (inThisHand t a) (inThisHand t b))) 8))
+    orElse (when (not (t .play .opened)) wrongMoment)
+    (orElse (when (either (not (seatOf t s .dealt .live)) (seatOf t s .hole .entered)) wrongSeat)
+    (when (either (eqb a b) (either (inThisHand t a) (inThisHand t b))) cardTwice))
 
 unfoldable pub heldTo : Table → ℕ → ℕ → ℕ → Table
 heldTo t s a b = withChair t s (heldOf (seatOf t s) a b)
@@ -33,8 +33,8 @@ heldTo t s a b = withChair t s (heldOf (seatOf t s) a b)
 -- board: "nobody owes, two live or more, under five board cards"
 unfoldable pub boardCode : Table → ℕ → ℕ
 boardCode t k =
-    orElse (when (either (not (t .play .opened)) (either (not (nobodyOwes t)) (either (ltb (liveHands t) 2) (leb 5 (t .board .count))))) 4)
-    (when (inThisHand t k) 8)
+    orElse (when (either (not (t .play .opened)) (either (not (nobodyOwes t)) (either (ltb (liveHands t) 2) (leb 5 (t .board .count))))) wrongMoment)
+    (when (inThisHand t k) cardTwice)
 
 -- "When three, four and five board cards lie, a new round opens"
 unfoldable pub boardedTo : Table → ℕ → Table

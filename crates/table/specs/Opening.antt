@@ -3,7 +3,7 @@ use Prim.Native.Nat.{ℕ}
 use mathlib.Core.Bool.{Bool, true, not}
 use mathlib.Core.List.{map}
 use lib.Dec.{ltb, eqb}
-use Rattle.paper.specs.Paper.{when, orElse}
+use Rattle.paper.specs.Paper.{wrongMoment, wrongSeat, when, orElse}
 use Rattle.laws.specs.Tests.{both, either}
 use Rattle.chairs.specs.Chairs.{isDealtIn, countOf, wantOf, firstOf, clockwise, sweepOf, paidOf}
 use Rattle.chairs.specs.declared.Who.the-variants.{Chips}
@@ -22,7 +22,8 @@ isPuck t s = both (isDealtIn (seatOf t s)) (either (eqb (t .play .puck) 0) (eqb 
 
 -- hand: "no hand, and two seats or more hold chips"
 unfoldable pub handCode : Table → ℕ → ℕ
-handCode t s = orElse (when (either (t .play .opened) (ltb (countOf (wantOf Chips) (t .chairs)) 2)) 4) (when (not (isPuck t s)) 5)
+handCode t s =
+    orElse (when (either (t .play .opened) (ltb (countOf (wantOf Chips) (t .chairs)) 2)) wrongMoment) (when (not (isPuck t s)) wrongSeat)
 
 -- seat s posts a blind of a, "at most its stack"
 unfoldable pub postedTo : Table → ℕ → ℕ → Table

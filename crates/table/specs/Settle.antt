@@ -6,7 +6,7 @@ use mathlib.Core.List.{List, [], _∷_, map}
 use mathlib.Core.Path.{_≡_}
 use lib.Dec.{ltb, leb, eqb}
 use lib.ListN.{replicate}
-use Rattle.paper.specs.Paper.{when, orElse, isSheet}
+use Rattle.paper.specs.Paper.{wrongMoment, cardsMissing, when, orElse, isSheet}
 use Rattle.laws.specs.Tests.{both, either, pick}
 use Rattle.cards.specs.Order.{ranking52, bestOf, strengthBy}
 use Rattle.pots.specs.Heights.{maskAt, backOf}
@@ -28,8 +28,8 @@ use Rattle.table.specs.declared.table.Payout.{Payout}
 -- settle: one live; or nobody owes and five board cards lie. With two live or more, each live seat has its cards entered
 unfoldable pub settleCode : Table → ℕ
 settleCode t =
-    orElse (when (not (both (t .play .opened) (either (eqb (liveHands t) 1) (both (nobodyOwes t) (eqb (t .board .count) 5))))) 4)
-    (when (both (leb 2 (liveHands t)) (not (eqb (countOf (wantOf Bare) (t .chairs)) 0))) 10)
+    orElse (when (not (both (t .play .opened) (either (eqb (liveHands t) 1) (both (nobodyOwes t) (eqb (t .board .count) 5))))) wrongMoment)
+    (when (both (leb 2 (liveHands t)) (not (eqb (countOf (wantOf Bare) (t .chairs)) 0))) cardsMissing)
 
 -- what each sitting dealt in has put in, and the live ones as a mask of dealt-in seats
 abbrev pub totalsOf : Table → List ℕ

@@ -5,7 +5,7 @@ use mathlib.Core.Bool.{Bool, true, false, not}
 use mathlib.Core.Path.{_≡_}
 use lib.Dec.{ltb, leb, eqb}
 use lib.ListN.{replicate}
-use Rattle.paper.specs.Paper.{when, orElse, isSheet, inRange}
+use Rattle.paper.specs.Paper.{taken, outOfRange, notNext, wrongMoment, when, orElse, isSheet, inRange}
 use Rattle.paper.specs.declared.Sheet.{Sheet}
 use Rattle.paper.specs.declared.Entry.{Entry}
 use Rattle.paper.specs.declared.Entry.the-variants.{Sit, Leave, Hand, Hole, Fold, Check, Call, Wager, Board, Dead, Settle, Void}
@@ -21,6 +21,7 @@ use Rattle.table.specs.Settle.{Payable, settleCode, settledTo, payoutNow
 use Rattle.table.specs.Standing.{Standing}
 use Rattle.table.specs.declared.table.Table.{Table}
 use Rattle.table.specs.declared.table.Payout.{Payout}
+use Rattle.table.specs.declared.table.Taken.{Taken}
 
 -- what every table keeps: `new_table` establishes it and `take` keeps it
 pub record Sound (t : Table) : Type 0 where
@@ -45,7 +46,7 @@ kindCode t (Wager s a) = wagerCode t s a
 kindCode t (Board k) = boardCode t k
 kindCode t (Dead s) = deadCode t s
 kindCode t Settle = settleCode t
-kindCode t Void = 4
+kindCode t Void = wrongMoment
 
 -- the table after an entry that is taken
 abbrev pub appliedTo : Table → Entry → Table
@@ -79,14 +80,18 @@ payoutBy t Void = noPayout
 
 -- 2: a number outside its range, a seat above `seats`; 3: n is not the next; 4 to 10 by the table's state
 unfoldable pub codeOf : Table → ℕ → Entry → ℕ
-codeOf t n e = orElse (when (not (inRange (t .sheet) n e)) 2) (orElse (when (not (eqb (t .taken + 1) n)) 3) (kindCode t e))
+codeOf t n e = orElse (when (not (inRange (t .sheet) n e)) outOfRange) (orElse (when (not (eqb (t .taken + 1) n)) notNext) (kindCode t e))
 
 -- after a refusal the table and the count of taken entries equal those before
 unfoldable pub nextOf : Table → ℕ → Entry → Table
-nextOf t n e = pick (eqb (codeOf t n e) 0) (withTaken (appliedTo t e) n) t
+nextOf t n e = pick (eqb (codeOf t n e) taken) (withTaken (appliedTo t e) n) t
 
 unfoldable pub payoutOf : Table → ℕ → Entry → Payout
-payoutOf t n e = pick (eqb (codeOf t n e) 0) (payoutBy t e) noPayout
+payoutOf t n e = pick (eqb (codeOf t n e) taken) (payoutBy t e) noPayout
+
+-- what an entry gets: its code, the next table, and what is paid
+unfoldable pub takenOf : Table → ℕ → Entry → Taken
+takenOf t n e = record { code = codeOf t n e; table = nextOf t n e; payout = payoutOf t n e }
 
 -- a table with nobody seated, and no entry taken
 abbrev pub freshTable : Sheet → Table

@@ -6,6 +6,10 @@ use chairs::Sweep;
 use chairs::Who;
 use laws::both;
 use laws::either;
+use paper::NOT_ALLOWED;
+use paper::NOT_IN_TURN;
+use paper::WRONG_MOMENT;
+use paper::WRONG_SEAT;
 use paper::or_else;
 use paper::when;
 ghost use mathlib.Core.Path.{_≡_};
@@ -24,7 +28,10 @@ pub(crate) fn turn_code(t: Table, s: u32) -> u8
     let none = nobody_owes(t);
     let out = !c.dealt.live;
     let other = t.play.turn != s;
-    or_else(when(none, 4), or_else(when(out, 5), when(other, 6)))
+    or_else(
+        when(none, WRONG_MOMENT),
+        or_else(when(out, WRONG_SEAT), when(other, NOT_IN_TURN)),
+    )
 }
 
 // The round total equals the mark.
@@ -34,7 +41,7 @@ pub(crate) fn check_code(t: Table, s: u32) -> u8
 {
     let c = table::seat_of(t, s);
     let short = chairs::round_of(c) != t.play.mark;
-    or_else(turn_code(t, s), when(short, 7))
+    or_else(turn_code(t, s), when(short, NOT_ALLOWED))
 }
 
 // The round total is below the mark.
@@ -44,7 +51,7 @@ pub(crate) fn call_code(t: Table, s: u32) -> u8
 {
     let c = table::seat_of(t, s);
     let below = chairs::round_of(c) < t.play.mark;
-    or_else(turn_code(t, s), when(!below, 7))
+    or_else(turn_code(t, s), when(!below, NOT_ALLOWED))
 }
 
 pub(crate) fn folded(t: Table, s: u32) -> Table
@@ -105,7 +112,7 @@ pub(crate) fn wager_code(t: Table, s: u32, a: u32) -> u8
 {
     let c = table::seat_of(t, s);
     let ok = may_wager(t, c, a);
-    or_else(turn_code(t, s), when(!ok, 7))
+    or_else(turn_code(t, s), when(!ok, NOT_ALLOWED))
 }
 
 // Whether a wager to a, above the mark, is a full lift.
@@ -147,7 +154,7 @@ pub(crate) fn dead_code(t: Table, s: u32) -> u8
     let off = !t.play.opened;
     let few = lives(t) < 2;
     let out = !c.dealt.live;
-    or_else(when(either(off, few), 4), when(out, 5))
+    or_else(when(either(off, few), WRONG_MOMENT), when(out, WRONG_SEAT))
 }
 
 // The turn after a hand was killed: on from the seat in turn; else kept, or ended where nobody owes.

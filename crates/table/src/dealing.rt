@@ -4,6 +4,9 @@ use crate::table;
 use crate::table::Table;
 use chairs::Who;
 use laws::either;
+use paper::CARD_TWICE;
+use paper::WRONG_MOMENT;
+use paper::WRONG_SEAT;
 use paper::or_else;
 use paper::when;
 ghost use mathlib.Core.Path.{_≡_};
@@ -24,8 +27,11 @@ pub(crate) fn hole_code(t: Table, s: u32, a: u32, b: u32) -> u8
     let same = a == b;
     let old = either(used(t, a), used(t, b));
     or_else(
-        when(off, 4),
-        or_else(when(either(out, full), 5), when(either(same, old), 8)),
+        when(off, WRONG_MOMENT),
+        or_else(
+            when(either(out, full), WRONG_SEAT),
+            when(either(same, old), CARD_TWICE),
+        ),
     )
 }
 
@@ -48,8 +54,8 @@ pub(crate) fn board_code(t: Table, k: u32) -> u8
     let full = 5 <= t.board.count;
     let old = used(t, k);
     or_else(
-        when(either(off, either(owed, either(few, full))), 4),
-        when(old, 8),
+        when(either(off, either(owed, either(few, full))), WRONG_MOMENT),
+        when(old, CARD_TWICE),
     )
 }
 

@@ -7,6 +7,8 @@ use chairs::Sweep;
 use chairs::Who;
 use laws::both;
 use laws::either;
+use paper::WRONG_MOMENT;
+use paper::WRONG_SEAT;
 use paper::or_else;
 use paper::when;
 ghost use mathlib.Core.Path.{_≡_};
@@ -34,7 +36,10 @@ pub(crate) fn hand_code(t: Table, s: u32) -> u8
     let cs = t.chairs;
     let few = chairs::seats::count(cs, t.sheet.seats, Who::Chips) < 2;
     let ok = may_puck(t, s);
-    or_else(when(either(t.play.opened, few), 4), when(!ok, 5))
+    or_else(
+        when(either(t.play.opened, few), WRONG_MOMENT),
+        when(!ok, WRONG_SEAT),
+    )
 }
 
 // A seat posts a blind, at most its stack.

@@ -11,6 +11,8 @@ use chairs::Who;
 use chairs::seats::PutIn;
 use laws::both;
 use laws::either;
+use paper::CARDS_MISSING;
+use paper::WRONG_MOMENT;
 use paper::or_else;
 use paper::when;
 use pots::Commission;
@@ -43,7 +45,10 @@ pub(crate) fn settle_code(t: Table) -> u8
     let five = t.board.count == 5;
     let now = both(t.play.opened, either(live == 1, both(none, five)));
     let bare = chairs::seats::count(cs, t.sheet.seats, Who::Bare) != 0;
-    or_else(when(!now, 4), when(both(2 <= live, bare), 10))
+    or_else(
+        when(!now, WRONG_MOMENT),
+        when(both(2 <= live, bare), CARDS_MISSING),
+    )
 }
 
 // What each sitting dealt in has put in, and which hands are live.

@@ -2,6 +2,8 @@
 use crate::table;
 use crate::table::Table;
 use laws::either;
+use paper::TOO_MANY_CHIPS;
+use paper::WRONG_SEAT;
 use paper::or_else;
 use paper::when;
 ghost use mathlib.Core.Path.{_≡_};
@@ -30,7 +32,7 @@ pub(crate) fn sit_code(t: Table, s: u32, a: u32) -> u8
     let cs = t.chairs;
     let taken = c.sitting != 0;
     let over = too_many(chairs::seats::chips(cs, t.sheet.seats), a);
-    or_else(when(taken, 5), when(over, 9))
+    or_else(when(taken, WRONG_SEAT), when(over, TOO_MANY_CHIPS))
 }
 
 pub(crate) fn sat(t: Table, s: u32, a: u32) -> Table
@@ -49,7 +51,7 @@ pub(crate) fn leave_code(t: Table, s: u32) -> u8
 {
     let c = table::seat_of(t, s);
     let empty = c.sitting == 0;
-    when(either(empty, c.dealt.live), 5)
+    when(either(empty, c.dealt.live), WRONG_SEAT)
 }
 
 pub(crate) fn left(t: Table, s: u32) -> Table

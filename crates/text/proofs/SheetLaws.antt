@@ -1,22 +1,17 @@
 -- Laws of the table sheet: lines used up, all lines good, and that a sheet that was read is a good one. Assumes nothing.
-use mathlib.Core.Path.{_≡_, refl, sym}
-use mathlib.Core.List.{List, []}
-use mathlib.Core.Bool.{Bool, true, false, true≢false}
+use mathlib.Core.Path.{_≡_, refl, sym, ap, _∙_}
+use mathlib.Core.List.{List}
+use mathlib.Core.Bool.{Bool, true, false}
 use mathlib.Core.Logic.{⊎-elim}
 use native.Mathlib.Nat.{eq-or-lt-of-le, le-of-suc-le-suc}
-use Prim.Native.Nat.{ℕ, zero, suc, _+_, _-_, _≤_, _<_}
+use Prim.Native.Nat.{ℕ, zero, suc, _+_, _-_, _<_}
 use native.Mathlib.Numerals.{add-one}
 use native.Mathlib.Omega.{arith}
 use lib.ListN.{getD}
-use lib.Dec.{leb}
-use borrow.Author.Tests.{leb-true, le-leb}
 use Rattle.laws.specs.Tests.{pick, both}
-use Rattle.text.specs.Line.{afterLine, lineNumber, afterLines}
-use Rattle.paper.specs.Paper.{between, isSheet}
-use Rattle.paper.proofs.Codes.{between-in}
-use Rattle.text.specs.TableSheet.{sheetLines, sheetKeys, sheetFrom, sheetTo, ranged, sheetNumber, isValue, valueIn, allGood, sheetWith, sheetOf}
-use Rattle.text.specs.declared.Number.{Number}
-use Rattle.text.specs.declared.Number.the-variants.{Value, Bad}
+use Rattle.text.specs.Line.{afterLine, afterLines}
+use Rattle.paper.specs.Paper.{sheetBy, isSheet}
+use Rattle.text.specs.TableSheet.{sheetLines, sheetNumber, isValue, valueIn, allGood, valuesFrom, sheetWith, sheetOf}
 use Rattle.paper.specs.declared.Sheet.{Sheet}
 use Rattle.laws.proofs.Tests.{both-true}
 use Rattle.text.specs.declared.sheet.Opening.the-variants as opening
@@ -43,25 +38,42 @@ good-not (suc n) k l h e =
     go true r = r
     go false r = refl
 
--- ---- what a sheet that was read tells: each number is in its range
-
-value-ranged : (from to : ℕ) (x : Number) → isValue (ranged from to x) ≡ true → (from ≤ valueIn (ranged from to x)) × (valueIn (ranged from to x) ≤ to)
-value-ranged from to Bad e = absurd (true≢false (sym e))
-value-ranged from to (Value v) e = go (between from to v) refl e
-  where
-    go : (t : Bool) → between from to v ≡ t → isValue (pick t (Value v) Bad) ≡ true → (from ≤ valueIn (pick t (Value v) Bad)) × (valueIn (pick t (Value v) Bad) ≤ to)
-    go true w e = between-in from to v w
-    go false w e = absurd (true≢false (sym e))
-
-pub number-ranged : (k : ℕ) (l : List ℕ) → isValue (sheetNumber k l) ≡ true → (getD sheetFrom k 0 ≤ valueIn (sheetNumber k l)) × (valueIn (sheetNumber k l) ≤ getD sheetTo k 0)
-unfolding sheetNumber
-number-ranged k l e = value-ranged (getD sheetFrom k 0) (getD sheetTo k 0) (lineNumber (getD sheetKeys k []) (afterLines k l)) e
-
 pub good-each : (n k : ℕ) (l : List ℕ) → k < n → allGood n l ≡ true → isValue (sheetNumber k l) ≡ true
 good-each zero k l h e = absurd (omega arith)
 good-each (suc n) k l h e =
     let p = both-true (isValue (sheetNumber n l)) (allGood n l) e in
     ⊎-elim (λ q. rw q (p .0)) (λ q. good-each n k l q (p .1)) (eq-or-lt-of-le (le-of-suc-le-suc h))
+
+-- ---- the numbers of some lines
+
+pub value-at : (n j k : ℕ) (l : List ℕ) → k < n → getD (valuesFrom n j l) k 0 ≡ valueIn (sheetNumber (j + k) l)
+value-at zero j k l h = absurd (omega arith)
+value-at (suc n) j zero l h = let e : j ≡ j + 0 = omega arith in ap (λ (i : ℕ). valueIn (sheetNumber i l)) e
+value-at (suc n) j (suc k) l h =
+    let e : j + 1 + k ≡ j + suc k = omega arith in
+    value-at n (j + 1) k l (omega arith) ∙ ap (λ (i : ℕ). valueIn (sheetNumber i l)) e
+
+-- lines with the same numbers make the same sheet
+module _ (x y : List ℕ) where
+  good-same : (n : ℕ) → ((k : ℕ) → k < n → sheetNumber k x ≡ sheetNumber k y) → allGood n x ≡ allGood n y
+  good-same zero e = refl
+  good-same (suc n) e = rw (e n (omega arith), good-same n (λ k h. e k (omega arith)))
+
+  values-same : (n j : ℕ) → ((k : ℕ) → k < n → sheetNumber (j + k) x ≡ sheetNumber (j + k) y) → valuesFrom n j x ≡ valuesFrom n j y
+  values-same zero j e = refl
+  values-same (suc n) j e =
+      let z : j + 0 ≡ j = omega arith in
+      let here : sheetNumber j x ≡ sheetNumber j y = rw z at (e 0 (omega arith)) in
+      let next : (k : ℕ) → k < n → sheetNumber (j + 1 + k) x ≡ sheetNumber (j + 1 + k) y =
+      λ k h. let s : j + suc k ≡ j + 1 + k = omega arith in rw s at (e (suc k) (omega arith)) in
+      rw (here, values-same n (j + 1) next)
+
+  pub sheet-same : ((k : ℕ) → k < sheetLines → sheetNumber k x ≡ sheetNumber k y) → sheetOf x ≡ sheetOf y
+  unfolding sheetOf sheetWith
+  sheet-same e =
+      let v : valuesFrom sheetLines 0 x ≡ valuesFrom sheetLines 0 y = values-same sheetLines 0 (λ k h. let z : 0 + k ≡ k = omega arith in rw z (e k h)) in
+      ap (λ (b : Bool). pick (both b (isSheet (sheetWith x))) (opening.Read (sheetWith x)) opening.Bad) (good-same sheetLines e)
+      ∙ ap (λ (vs : List ℕ). pick (both (allGood sheetLines y) (isSheet (sheetBy vs))) (opening.Read (sheetBy vs)) opening.Bad) v
 
 -- ---- the three answers of reading a sheet
 
@@ -70,73 +82,27 @@ module _ (l : List ℕ) where
   unfolding sheetOf
   sheet-bad e = rw e
 
-  pub sheet-crossed : allGood sheetLines l ≡ true → leb (sheetWith l .small) (sheetWith l .big) ≡ false → sheetOf l ≡ opening.Bad
-  unfolding sheetOf sheetWith
+  pub sheet-crossed : allGood sheetLines l ≡ true → isSheet (sheetWith l) ≡ false → sheetOf l ≡ opening.Bad
+  unfolding sheetOf
   sheet-crossed e f = rw (e, f)
 
-  pub sheet-good : allGood sheetLines l ≡ true → leb (sheetWith l .small) (sheetWith l .big) ≡ true → sheetOf l ≡ opening.Read (sheetWith l)
-  unfolding sheetOf sheetWith
+  pub sheet-good : allGood sheetLines l ≡ true → isSheet (sheetWith l) ≡ true → sheetOf l ≡ opening.Read (sheetWith l)
+  unfolding sheetOf
   sheet-good e f = rw (e, f)
 
--- a sheet that was read has each number in its range
-pub record InRange (s : Sheet) : Type 0 where
-  pub seats : (2 ≤ s .seats) × (s .seats ≤ 10)
-  pub small : (1 ≤ s .small) × (s .small ≤ 10000)
-  pub big : (s .small ≤ s .big) × (s .big ≤ 10000)
-  pub rate : s .rate ≤ 100
-  pub cap : s .cap ≤ 1000000
-  pub step : (1 ≤ s .step) × (s .step ≤ 1000)
-
-pub sheet-ranged : (l : List ℕ) (s : Sheet) → sheetOf l ≡ opening.Read s → InRange s
-unfolding sheetOf sheetWith
-sheet-ranged l s e = go (both (allGood sheetLines l) (leb (valueIn (sheetNumber 1 l)) (valueIn (sheetNumber 2 l)))) refl e
+-- what a sheet that was read says: each line is good, the numbers are the sheet's, and they passed paper's test
+pub sheet-said : (l : List ℕ) (s : Sheet) → sheetOf l ≡ opening.Read s → (allGood sheetLines l ≡ true) × (sheetWith l ≡ s) × (isSheet s ≡ true)
+unfolding sheetOf
+sheet-said l s e = go (both (allGood sheetLines l) (isSheet (sheetWith l))) refl e
   where
-    go : (t : Bool) → both (allGood sheetLines l) (leb (valueIn (sheetNumber 1 l)) (valueIn (sheetNumber 2 l))) ≡ t → pick t (opening.Read (sheetWith l)) opening.Bad ≡ opening.Read s → InRange s
+    go : (t : Bool) → both (allGood sheetLines l) (isSheet (sheetWith l)) ≡ t
+        → pick t (opening.Read (sheetWith l)) opening.Bad ≡ opening.Read s → (allGood sheetLines l ≡ true) × (sheetWith l ≡ s) × (isSheet s ≡ true)
     go false w v = let z : _≡_ {A = ℕ} 0 1 = cc in absurd (omega arith)
     go true w v =
-        let p = both-true (allGood sheetLines l) (leb (valueIn (sheetNumber 1 l)) (valueIn (sheetNumber 2 l))) w in
+        let p = both-true (allGood sheetLines l) (isSheet (sheetWith l)) w in
         let m : sheetWith l ≡ s = cc in
-        let each : (k : ℕ) → k < sheetLines → (getD sheetFrom k 0 ≤ valueIn (sheetNumber k l)) × (valueIn (sheetNumber k l) ≤ getD sheetTo k 0) =
-        λ k h. number-ranged k l (good-each sheetLines k l h (p .0)) in
-        let r : InRange (sheetWith l) = record {
-          seats = each 0 (omega arith);
-          small = each 1 (omega arith);
-          big = (leb-true _ _ (p .1), each 2 (omega arith) .1);
-          rate = each 3 (omega arith) .1;
-          cap = each 4 (omega arith) .1;
-          step = each 5 (omega arith);
-        } in
-        rw m at r
+        (p .0, m, sym (ap isSheet m) ∙ p .1)
 
--- so it is a good sheet
+-- so it is a good sheet: that is the test itself
 pub sheet-is : (l : List ℕ) (s : Sheet) → sheetOf l ≡ opening.Read s → isSheet s ≡ true
-unfolding isSheet
-sheet-is l s e =
-    let r = sheet-ranged l s e in
-    rw (le-leb 2 (s .seats) (r .seats .0), le-leb (s .seats) 10 (r .seats .1), le-leb 1 (s .small) (r .small .0), le-leb (s .small) (s .big) (r .big .0), le-leb (s .big) 10000 (r .big .1), le-leb (s .rate) 100 (r .rate), le-leb (s .cap) 1000000 (r .cap), le-leb 1 (s .step) (r .step .0), le-leb (s .step) 1000 (r .step .1))
-
--- and each number of a good sheet is in its range
-pub good-ranged : (s : Sheet) → isSheet s ≡ true → InRange s
-unfolding isSheet
-good-ranged s h =
-    let seats = between 2 10 (s .seats) in
-    let blinds = both (leb 1 (s .small)) (both (leb (s .small) (s .big)) (leb (s .big) 10000)) in
-    let most = both (leb (s .cap) 1000000) (between 1 1000 (s .step)) in
-    let fees = both (leb (s .rate) 100) most in
-    let p = both-true seats (both blinds fees) h in
-    let q = both-true blinds fees (p .1) in
-    let b = both-true (leb 1 (s .small)) (both (leb (s .small) (s .big)) (leb (s .big) 10000)) (q .0) in
-    let c = both-true (leb (s .small) (s .big)) (leb (s .big) 10000) (b .1) in
-    let f = both-true (leb (s .rate) 100) most (q .1) in
-    let g = both-true (leb (s .cap) 1000000) (between 1 1000 (s .step)) (f .1) in
-    let least : 1 ≤ s .small = leb-true _ _ (b .0) in
-    let order : s .small ≤ s .big = leb-true _ _ (c .0) in
-    let high : s .big ≤ 10000 = leb-true _ _ (c .1) in
-    record {
-      seats = between-in 2 10 (s .seats) (p .0);
-      small = (least, omega arith);
-      big = (order, high);
-      rate = leb-true _ _ (f .0);
-      cap = leb-true _ _ (g .0);
-      step = between-in 1 1000 (s .step) (g .1);
-    }
+sheet-is l s e = sheet-said l s e .2

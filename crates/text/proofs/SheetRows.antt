@@ -6,8 +6,8 @@ use Prim.Native.Nat.{ℕ, _+_, _-_, _≤_, _<_}
 use native.Mathlib.Omega.{arith}
 use lib.ListN.{length, getD, take}
 use lib.Seq.{length-take-le}
-use lib.Dec.{leb, eqb}
-use borrow.Author.Tests.{leb-true, eqb-true}
+use lib.Dec.{leb}
+use borrow.Author.Tests.{leb-true}
 use Rattle.laws.specs.Tests.{both}
 use Rattle.laws.proofs.Tests.{both-true}
 use Rattle.laws.proofs.Rules.{allBelow, below-all}
@@ -15,53 +15,45 @@ use Rattle.text.specs.Line.{lineNumber, numberLine, afterLines}
 use Rattle.text.specs.Number.{digits}
 use Rattle.text.specs.Bytes.{eqList}
 use Rattle.text.specs.declared.Number.{Number}
-use Rattle.text.specs.TableSheet.{sheetLines, sheetKeys, sheetFrom, sheetTo, ranged, sheetNumber}
-use Rattle.text.specs.declared.sheet.SheetLine.{SheetLine}
+use Rattle.text.specs.TableSheet.{sheetLines, sheetKeys, sheetNumber}
+use Rattle.text.specs.declared.sheet.Key.{Key}
 use Rattle.text.proofs.Bytes.{eq-list}
 use Rattle.text.proofs.Lines.{line-count}
 use Rattle.text.proofs.Numbers.{count-most}
 
-abbrev line : List ℕ → ℕ → ℕ → ℕ → SheetLine
-line key letters least most = record { key = key; letters = letters; least = least; most = most }
+abbrev line : List ℕ → ℕ → Key
+line bytes letters = record { bytes = bytes; letters = letters }
 
-abbrev pub table : List SheetLine
+abbrev pub table : List Key
 table =
-    line (115 ∷ 101 ∷ 97 ∷ 116 ∷ 115 ∷ []) 5 2 10
-    ∷ line (115 ∷ 109 ∷ 97 ∷ 108 ∷ 108 ∷ []) 5 1 10000
-    ∷ line (98 ∷ 105 ∷ 103 ∷ 32 ∷ 32 ∷ []) 3 1 10000
-    ∷ line (114 ∷ 97 ∷ 116 ∷ 101 ∷ 32 ∷ []) 4 0 100
-    ∷ line (99 ∷ 97 ∷ 112 ∷ 32 ∷ 32 ∷ []) 3 0 1000000
-    ∷ line (115 ∷ 116 ∷ 101 ∷ 112 ∷ 32 ∷ []) 4 1 1000
+    line (115 ∷ 101 ∷ 97 ∷ 116 ∷ 115 ∷ []) 5
+    ∷ line (115 ∷ 109 ∷ 97 ∷ 108 ∷ 108 ∷ []) 5
+    ∷ line (98 ∷ 105 ∷ 103 ∷ 32 ∷ 32 ∷ []) 3
+    ∷ line (114 ∷ 97 ∷ 116 ∷ 101 ∷ 32 ∷ []) 4
+    ∷ line (99 ∷ 97 ∷ 112 ∷ 32 ∷ 32 ∷ []) 3
+    ∷ line (115 ∷ 116 ∷ 101 ∷ 112 ∷ 32 ∷ []) 4
     ∷ []
 
-abbrev pub at : ℕ → SheetLine
-at k = getD table k (line [] 0 0 0)
+abbrev pub at : ℕ → Key
+at k = getD table k (line [] 0)
 
 abbrev right : ℕ → Bool
-right k =
-    both (leb (at k .letters) (length (at k .key)))
-    (both (eqList (take (at k .letters - 0) (at k .key)) (getD sheetKeys k []))
-    (both (eqb (at k .least) (getD sheetFrom k 0)) (eqb (at k .most) (getD sheetTo k 0))))
+right k = both (leb (at k .letters) (length (at k .bytes))) (eqList (take (at k .letters - 0) (at k .bytes)) (getD sheetKeys k []))
 
 all-right : allBelow sheetLines right ≡ true
 all-right = refl
 
--- the key fits its place, its letters are the paper's key, and the range is the paper's
-pub row : (k : ℕ) → k < sheetLines → (at k .letters ≤ length (at k .key)) × (take (at k .letters - 0) (at k .key) ≡ getD sheetKeys k [])
-    × (at k .least ≡ getD sheetFrom k 0) × (at k .most ≡ getD sheetTo k 0)
+-- the key fits its place, and its letters are the paper's key
+pub row : (k : ℕ) → k < sheetLines → (at k .letters ≤ length (at k .bytes)) × (take (at k .letters - 0) (at k .bytes) ≡ getD sheetKeys k [])
 row k h =
     let p = both-true _ _ (below-all sheetLines right all-right k h) in
-    let q = both-true _ _ (p .1) in
-    let r = both-true _ _ (q .1) in
-    (leb-true _ _ (p .0), eq-list _ _ (q .0), eqb-true _ _ (r .0), eqb-true _ _ (r .1))
+    (leb-true _ _ (p .0), eq-list _ _ (p .1))
 
--- what the reading of a line and the test of its range answered
-pub number-said : (k : ℕ) (log : List ℕ) {rest : List ℕ} {x r : Number} → k < sheetLines → rest ≡ afterLines k log
-    → x ≡ lineNumber (take (at k .letters - 0) (at k .key)) rest → r ≡ ranged (at k .least) (at k .most) x → r ≡ sheetNumber k log
+-- what the reading of a line answered
+pub number-said : (k : ℕ) (log : List ℕ) {rest : List ℕ} {x : Number} → k < sheetLines → rest ≡ afterLines k log
+    → x ≡ lineNumber (take (at k .letters - 0) (at k .bytes)) rest → x ≡ sheetNumber k log
 unfolding sheetNumber
-number-said k log h e f g =
-    let p = row k h in
-    g ∙ rw (f, e, p .1, p .2, p .3)
+number-said k log h e f = f ∙ rw (e, row k h .1)
 
 -- ---- writing by the table: how many letters a key has, and how long its line is
 
@@ -76,7 +68,7 @@ module _ (k : ℕ) (h : k < sheetLines) where
   letters-are =
       let p = row k h in
       let e : at k .letters - 0 ≡ at k .letters = omega arith in
-      sym (length-take-le (at k .letters) (at k .key) (p .0)) ∙ ap (λ (i : ℕ). length (take i (at k .key))) (sym e) ∙ ap length (p .1)
+      sym (length-take-le (at k .letters) (at k .bytes) (p .0)) ∙ ap (λ (i : ℕ). length (take i (at k .bytes))) (sym e) ∙ ap length (p .1)
 
   pub few-letters : at k .letters ≤ 5
   few-letters = leb-true _ _ (below-all sheetLines few all-few k h)

@@ -1,11 +1,12 @@
-// The table sheet: its lines, by a table of keys and ranges.
+// The table sheet: its lines, by a table of keys.
 use crate::Number;
 use crate::line::after_lines;
 use crate::line::read_key_number;
 use paper::Sheet;
+use paper::is_sheet;
 ghost use mathlib.Core.Path.{_≡_};
 ghost use Prim.Native.Nat.{_<_};
-ghost use Rattle.text.specs.TableSheet.{sheetLines, ranged, sheetNumber, isValue, valueIn, allGood, sheetOf, sheetEnd, sheetWith};
+ghost use Rattle.text.specs.TableSheet.{sheetLines, sheetNumber, isValue, valueIn, allGood, sheetOf, sheetEnd, sheetWith};
 
 // A sheet, or that one of its lines is missing, malformed or out of its range: code 11.
 pub enum Opening {
@@ -16,79 +17,51 @@ pub enum Opening {
 // How many lines a sheet has.
 pub const LINES: usize = 6;
 
-// A line of the sheet: the letters of its key and how many they are, and the least and the greatest number that it may have.
-pub struct SheetLine {
-    pub key: [u8; 5],
+// The most bytes that are kept of a sheet or of a block: a line is kept up to its 33rd byte, and its LF.
+pub const ROOM: usize = LINES * 34;
+
+// The key of a line of the sheet, and how many letters it has.
+pub struct Key {
+    pub bytes: [u8; 5],
     pub letters: usize,
-    pub least: u32,
-    pub most: u32,
 }
 
-pub const TABLE: [SheetLine; LINES] = [
-    SheetLine {
-        key: *b"seats",
+pub const KEYS: [Key; LINES] = [
+    Key {
+        bytes: *b"seats",
         letters: 5,
-        least: 2,
-        most: 10,
     },
-    SheetLine {
-        key: *b"small",
+    Key {
+        bytes: *b"small",
         letters: 5,
-        least: 1,
-        most: 10000,
     },
-    SheetLine {
-        key: *b"big  ",
+    Key {
+        bytes: *b"big  ",
         letters: 3,
-        least: 1,
-        most: 10000,
     },
-    SheetLine {
-        key: *b"rate ",
+    Key {
+        bytes: *b"rate ",
         letters: 4,
-        least: 0,
-        most: 100,
     },
-    SheetLine {
-        key: *b"cap  ",
+    Key {
+        bytes: *b"cap  ",
         letters: 3,
-        least: 0,
-        most: 1000000,
     },
-    SheetLine {
-        key: *b"step ",
+    Key {
+        bytes: *b"step ",
         letters: 4,
-        least: 1,
-        most: 1000,
     },
 ];
 
-// A number where it is in a range.
-fn in_row(x: Number, from: u32, to: u32) -> Number
-    ensures { λ r. ⌜ r ≡ ranged from to x ⌝ }
-{
-    let Number::Value(v) = x else {
-        return Number::Bad;
-    };
-    if v < from {
-        return Number::Bad;
-    }
-    if to < v {
-        return Number::Bad;
-    }
-    Number::Value(v)
-}
-
-// The number of the sheet's k-th line, where it is in its range.
+// The number of the sheet's k-th line.
 fn sheet_number(log: &[u8], k: usize) -> Number
     requires { ⌜ k < sheetLines ⌝ }
     ensures { λ r. ⌜ r ≡ sheetNumber k (now (log .entry)) ⌝ }
 {
-    let row = TABLE[k];
-    let key = row.key;
-    let letters = row.letters;
-    let x = read_key_number(after_lines(log, k), &key[0..letters]);
-    in_row(x, row.least, row.most)
+    let key = KEYS[k];
+    let bytes = key.bytes;
+    let letters = key.letters;
+    read_key_number(after_lines(log, k), &bytes[0..letters])
 }
 
 pub fn is_value(x: Number) -> bool
@@ -151,7 +124,7 @@ pub fn read_sheet(log: &[u8]) -> Opening
 {
     if all_good(log) {
         let s = sheet_with(log);
-        if s.small <= s.big {
+        if is_sheet(s) {
             return Opening::Read(s);
         }
     }

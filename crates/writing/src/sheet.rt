@@ -1,7 +1,7 @@
 // The table sheet's lines, by the table that reads them.
 use crate::decimal::digit_count;
 use crate::writer::write_number_line;
-use text::sheet::TABLE;
+use text::sheet::KEYS;
 ghost use mathlib.Core.Path.{_≡_};
 ghost use mathlib.Core.List.{[]};
 ghost use Prim.Native.Nat.{_≤_, _<_, _^_};
@@ -15,8 +15,8 @@ pub fn line_len(k: usize, n: u32) -> usize
     requires { ⌜ k < sheetLines ⌝ }
     ensures { λ r. ⌜ (r ≡ length (numberLine (getD sheetKeys k []) n)) × (r ≤ 16) ⌝ }
 {
-    let row = TABLE[k];
-    row.letters + digit_count(n) + 2
+    let key = KEYS[k];
+    key.letters + digit_count(n) + 2
 }
 
 // The sheet's k-th line with the number n and its LF at the front of the buffer.
@@ -24,8 +24,8 @@ pub fn put_line(buffer: &mut [u8], k: usize, n: u32) -> usize
     requires { ⌜ (k < sheetLines) × (n < 10 ^ 9) × (length (numberLine (getD sheetKeys k []) n) ≤ length (now buffer)) ⌝ }
     ensures { λ r. ⌜ Wrote (numberLine (getD sheetKeys k []) n) (now (buffer .entry)) (now (buffer .exit)) r ⌝ }
 {
-    let row = TABLE[k];
-    let key = row.key;
-    let letters = row.letters;
-    write_number_line(buffer, &key[0..letters], n)
+    let key = KEYS[k];
+    let bytes = key.bytes;
+    let letters = key.letters;
+    write_number_line(buffer, &bytes[0..letters], n)
 }

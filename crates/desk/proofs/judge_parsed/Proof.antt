@@ -1,3 +1,4 @@
+use Rattle.paper.specs.Paper.{outOfRange}
 use Rattle.desk.proofs.Laws.{read-judged, refused-judged}
 use borrow.Author.Needs.{needs}
 use Rattle.desk.proofs.judge_parsed.Statement.{statement}
@@ -16,7 +17,7 @@ take-requires : tie.Need-take-requires
 take-requires c κs = search needs
 
 returns : tie.Need-returns
-returns c = refused-judged ((c .before .before .before) .args .t) ((c .before .before .before) .args .n) 2 ((c .before .before .before) .args .p) (c .refused .ensures) (rw (c .before .enum-told .given .1)) ((c .before .before .before) .pre)
+returns c = refused-judged ((c .before .before .before) .args .t) ((c .before .before .before) .args .n) outOfRange ((c .before .before .before) .args .p) (c .refused .ensures) (rw (c .before .enum-told .given .1)) ((c .before .before .before) .pre)
 
 returns-2 : tie.Need-returns-2
 returns-2 c = read-judged ((c .before .before .before .before .before .before) .args .t) ((c .before .before .before .before .before .before) .args .n) ((c .before .before .before .before .before .before) .args .p) (c .before .before .before .before .p .given .1) (c .before .before .take .ensures) ((c .before .before .before .before .before .before) .pre)

@@ -1,13 +1,12 @@
-use Rattle.paper.specs.Paper.{isSheet}
-use mathlib.Core.Path.{refl}
+-- `start` meets its contract: the stand-in is a good sheet.
+use Rattle.paper.proofs.Sheets.{stand-in-good}
 use native.Mathlib.Omega.{arith}
 use borrow.Author.Needs.{needs}
 use Rattle.stream.proofs.start.Statement.{statement}
 use Rattle.stream.proofs.start.Tie as tie
 
 new-table-requires : tie.Need-new-table-requires
-unfolding isSheet
-new-table-requires c κs = refl
+new-table-requires c κs = stand-in-good
 
 empty-requires : tie.Need-empty-requires
 empty-requires c κs = search needs

@@ -7,11 +7,11 @@ use borrow.Author.Needs.{needs}
 use Rattle.writing.proofs.sheet.line_len.Statement.{statement}
 use Rattle.writing.proofs.sheet.line_len.Tie as tie
 
-mul-row : tie.Need-mul-row
-mul-row c = search needs
+mul-key : tie.Need-mul-key
+mul-key c = search needs
 
-array-copy-out-row : tie.Need-array-copy-out-row
-array-copy-out-row c = search needs
+array-copy-out-key : tie.Need-array-copy-out-key
+array-copy-out-key c = search needs
 
 digit-count-requires : tie.Need-digit-count-requires
 digit-count-requires c κs = search needs
@@ -28,4 +28,4 @@ returns c = line-long ((c .before .before .before) .args .k) ((c .before .before
 pub line-len-spec : {M : Type 1} → statement M
 line-len-spec =
     tie.close
-    (tie.spec mul-row array-copy-out-row digit-count-requires add-result add-result-2 returns)
+    (tie.spec mul-key array-copy-out-key digit-count-requires add-result add-result-2 returns)

@@ -4,11 +4,11 @@ use borrow.Author.Needs.{needs}
 use Rattle.writing.proofs.sheet.put_line.Statement.{statement}
 use Rattle.writing.proofs.sheet.put_line.Tie as tie
 
-mul-row : tie.Need-mul-row
-mul-row c = search needs
+mul-key : tie.Need-mul-key
+mul-key c = search needs
 
-array-copy-out-row : tie.Need-array-copy-out-row
-array-copy-out-row c = search needs
+array-copy-out-key : tie.Need-array-copy-out-key
+array-copy-out-key c = search needs
 
 sub-write-number-line : tie.Need-sub-write-number-line
 sub-write-number-line c = search needs
@@ -32,8 +32,8 @@ pub put-line-spec : {M : Type 1} → statement M
 put-line-spec =
     tie.close
     (tie.spec
-    mul-row
-    array-copy-out-row
+    mul-key
+    array-copy-out-key
     sub-write-number-line
     part-write-number-line-start
     part-write-number-line-end

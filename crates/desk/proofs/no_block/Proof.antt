@@ -1,0 +1,17 @@
+use borrow.Author.Needs.{needs}
+use Rattle.desk.proofs.no_block.Statement.{statement}
+use Rattle.desk.proofs.no_block.Tie as tie
+use Rattle.desk.proofs.no_block.Reads as reads
+use Rattle.desk.proofs.no_block.Lts as lts
+use Rattle.table.proofs.settle.no_payout.Reads as no-payout-reads
+
+-- src/lib.rt:111:9
+no-payout-requires : tie.Need-no-payout-requires
+no-payout-requires c κs = search needs
+
+-- src/lib.rt:108:1
+returns : tie.Need-returns
+returns c = rw (c .no-payout .ensures)
+
+pub no-block-spec : {M : Type 1} → statement M
+no-block-spec = tie.close (tie.spec no-payout-requires returns)

@@ -1,0 +1,62 @@
+-- What a good sheet tells of its numbers, and that the stand-in is one. Assumes nothing.
+-- each of some tests that all hold; past the last there is none
+use Prim.Native.Nat.{ℕ, zero, suc, _≤_, _<_, _^_}
+use mathlib.Core.Bool.{Bool, true}
+use mathlib.Core.List.{List, [], _∷_}
+use mathlib.Core.Path.{_≡_, refl}
+use native.Mathlib.Omega.{arith}
+use lib.ListN.{getD}
+use lib.Dec.{leb}
+use borrow.Author.Tests.{leb-true}
+use Rattle.laws.specs.Lists.{sumOf}
+use Rattle.laws.proofs.Tests.{both-true}
+use Rattle.laws.proofs.Sums.{at-most-sum}
+use Rattle.paper.specs.SheetAndEntries.{between, allOf, sheetValues, sheetBy, isSheet, standIn}
+use Rattle.paper.specs.declared.Sheet.{Sheet}
+use Rattle.paper.proofs.Codes.{between-in}
+
+pub each-holds : (ts : List Bool) → allOf ts ≡ true → (k : ℕ) → getD ts k true ≡ true
+each-holds [] h k = refl
+each-holds (t ∷ []) h zero = h
+each-holds (t ∷ []) h (suc k) = refl
+each-holds (t ∷ u ∷ ts) h zero = both-true t (allOf (u ∷ ts)) h .0
+each-holds (t ∷ u ∷ ts) h (suc k) = each-holds (u ∷ ts) (both-true t (allOf (u ∷ ts)) h .1) k
+
+-- the ranges of a good sheet
+pub record InRange (s : Sheet) : Type 0 where
+  pub seats : (2 ≤ s .seats) × (s .seats ≤ 10)
+  pub small : (1 ≤ s .small) × (s .small ≤ s .big)
+  pub big : s .big ≤ 10000
+  pub rate : s .rate ≤ 100
+  pub cap : s .cap ≤ 1000000
+  pub step : (1 ≤ s .step) × (s .step ≤ 1000)
+
+pub good-ranged : (s : Sheet) → isSheet s ≡ true → InRange s
+unfolding isSheet
+good-ranged s h =
+    let tests : List Bool =
+    between 2 10 (s .seats) ∷ leb 1 (s .small) ∷ leb (s .small) (s .big) ∷ leb (s .big) 10000 ∷ leb (s .rate) 100 ∷ leb (s .cap) 1000000 ∷ between 1 1000 (s .step) ∷ [] in
+    let each = each-holds tests h in
+    record {
+      seats = between-in 2 10 (s .seats) (each 0);
+      small = (leb-true 1 (s .small) (each 1), leb-true (s .small) (s .big) (each 2));
+      big = leb-true (s .big) 10000 (each 3);
+      rate = leb-true (s .rate) 100 (each 4);
+      cap = leb-true (s .cap) 1000000 (each 5);
+      step = between-in 1 1000 (s .step) (each 6);
+    }
+
+-- so each number has at most nine digits
+pub good-small : (s : Sheet) → isSheet s ≡ true → (k : ℕ) → getD (sheetValues s) k 0 < 10 ^ 9
+unfolding sumOf
+good-small s h k =
+    let r = good-ranged s h in
+    omega (arith, r .seats, r .small, r .big, r .rate, r .cap, r .step, at-most-sum (sheetValues s) k)
+
+-- the numbers of a sheet make it
+pub sheet-made : (s : Sheet) → sheetBy (sheetValues s) ≡ s
+sheet-made s = refl
+
+pub stand-in-good : isSheet standIn ≡ true
+unfolding isSheet
+stand-in-good = refl
