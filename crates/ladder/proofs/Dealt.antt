@@ -9,13 +9,13 @@ use borrow.Author.Tests.{not-true}
 use Rattle.laws.specs.Tests.{both, either, pick}
 use Rattle.laws.specs.Some.{some}
 use Rattle.laws.proofs.Tests.{both-true}
-use Rattle.cards.specs.Cards.{rank, sameList, before, put, inOrder, ordered, isWheel, lowered, inRow, allAlike, oneSuit}
-use Rattle.cards.specs.Hands.{classOf, ranksOf, classOfCards, valueOf}
+use Rattle.cards.specs.Cards.{rank, sameList, isWheel, lowered, inRow, allAlike, oneSuit}
+use Rattle.cards.specs.Hands.{classOf}
 use Rattle.cards.specs.Weigh.{weigh, fall}
 use Rattle.cards.specs.Order.{choices}
 use Rattle.cards.specs.Reading.{anyAbove, anyTwice}
 use Rattle.cards.specs.declared.Hand.{Hand}
-use Rattle.ladder.specs.Ladder.{ladder, listed, worth52, Valid}
+use Rattle.ladder.specs.Ladder.{ladder, listed, Valid}
 use Rattle.ladder.proofs.Members.{allPass, pass-at, same-list}
 use Rattle.ladder.proofs.Worth.{worthAs, worthBy, worthOf, worth-is}
 use Rattle.ladder.proofs.Reckons.{listed-same}

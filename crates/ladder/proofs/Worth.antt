@@ -1,6 +1,6 @@
 -- What five cards are worth, from their ranks and whether they are of one suit, by one number for each rank, which antt orders at once
 -- (cards/proofs/Ordered.antt: the order is that of the definitions). Assumes nothing.
-use mathlib.Core.Path.{_≡_, refl, sym, ap, ap₂, _∙_}
+use mathlib.Core.Path.{_≡_, sym, ap, ap₂, _∙_}
 use mathlib.Core.Bool.{Bool, true, false, true≢false}
 use mathlib.Core.Logic.{⊎-elim}
 use mathlib.Core.List.{List, [], _∷_, map, List·Memᴰ}
