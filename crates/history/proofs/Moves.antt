@@ -1,6 +1,5 @@
 -- Demand 3, entry by entry: a call or wager changes no height outside a+1 to b; a fold or dead hand moves no chip; sitting or leaving changes no pot. Over the
 -- notebook, for every sheet, every list of entries and any number of sittings. Assumes nothing.
--- ---- totals that are alike at a height
 use Prim.Native.Nat.{ℕ, _+_, _-_, _*_, _/_, _%_, _≤_, _<_}
 use mathlib.Core.Bool.{Bool, true, false}
 use mathlib.Core.Path.{_≡_, refl, sym, ap, ap₂, _∙_, subst}
@@ -22,6 +21,7 @@ use Rattle.history.specs.Notebook.{Part, givenUp, hasActed, holds, owesA
 use Rattle.history.proofs.Kept.{but-here, but-other}
 use Rattle.history.proofs.Clerk.{either-way}
 
+-- ---- totals that are alike at a height
 module _ (f g : ℕ → ℕ) (h : ℕ) (same : (s : ℕ) → has (f s) h ≡ has (g s) h) where
   chips-as : (xs : List ℕ) → chipsAt (map f xs) h ≡ chipsAt (map g xs) h
   unfolding chipsAt

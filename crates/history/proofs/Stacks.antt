@@ -1,6 +1,5 @@
 -- Each sitting's stack is what it brought, less what it put in, plus what it was paid; `leave` takes it away. For every sheet, every list of taken entries and
 -- every sitting. Assumes nothing.
--- what a sitting has before it and has put in
 use Prim.Native.Nat.{ℕ, zero, suc, _+_, _-_, _≤_, _<_, min}
 use mathlib.Core.Bool.{Bool, true, false}
 use mathlib.Core.Path.{_≡_, refl, sym, ap, _∙_, subst}
@@ -29,6 +28,7 @@ use Rattle.history.proofs.AsNoted.{reached}
 use Rattle.history.proofs.Kept.{but-here, but-other, KeptBy}
 use Rattle.history.proofs.Moves.{marks-same, board-chips}
 
+-- what a sitting has before it and has put in
 abbrev chips : Notebook → ℕ → ℕ
 chips n s = n .people .stack s + n .hand .part s .put
 

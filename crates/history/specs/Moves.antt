@@ -1,6 +1,5 @@
 -- Demand 3, what one taken entry changes of the two facts, and so of the heights and the pots. All is read from the notebook; no table is looked at.
 -- Lists of entries have the newest first. Assumes nothing.
--- at height h lie as many chips as before, and the same sittings contend for it
 use Prim.Native.Nat.{ℕ, _≤_, _<_}
 use mathlib.Core.Path.{_≡_}
 use mathlib.Core.List.{List, _∷_}
@@ -12,6 +11,7 @@ use Rattle.pots.specs.Heights.{chipsAt, contest}
 use Rattle.history.specs.History.{putIn, liveIn, puts, lives}
 use Rattle.history.specs.Notebook.{notebook, potsBy, backBy}
 
+-- at height h lie as many chips as before, and the same sittings contend for it
 pub record SameHeight (sheet : Sheet) (es after : List Entry) (h : ℕ) : Type 0 where
   pub chips : chipsAt (puts sheet after) h ≡ chipsAt (puts sheet es) h
   pub contest : contest (puts sheet after) (lives sheet after) h ≡ contest (puts sheet es) (lives sheet es) h

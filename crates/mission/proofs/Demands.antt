@@ -1,5 +1,4 @@
 -- Each answer to a log shows what the clerk of demand 3 finds from the entries that are taken by then. For every log with a good sheet. Assumes nothing.
--- ---- pots
 use Prim.Native.Nat.{ℕ, zero, suc, _+_, _≤_}
 use mathlib.Core.Bool.{Bool, true, false, true≢false}
 use mathlib.Core.Path.{_≡_, refl, sym, ap, ap₂, subst, _∙_}
@@ -60,6 +59,7 @@ use Rattle.mission.proofs.Payout.{payout-right}
 use Rattle.mission.proofs.Reached.{Reaches, taken-next, one-reached, fresh-reached}
 use Rattle.blocks.specs.declared.Parsed.the-variants as parsed
 
+-- ---- pots
 alike-amounts : {R : ℕ → ℕ → Type 0} {ps qs : List Pot} → Alike R ps qs → amountsOf ps ≡ amountsOf qs
 alike-amounts none = refl
 alike-amounts (same e r h) = ap₂ (λ (x : ℕ) (xs : List ℕ). x ∷ xs) e (alike-amounts h)

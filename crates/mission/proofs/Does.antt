@@ -1,30 +1,28 @@
 -- Demand 2, second half: every entry that is taken does what document 01 says of its kind, and nothing else moves. At every table that `take` can hold.
 -- Assumes nothing.
--- the table after the entry, counted
 use Prim.Native.Nat.{ℕ, suc, _+_, _-_, _≤_, _<_, min}
-use mathlib.Core.Bool.{Bool, true, false, not, false≢true}
+use mathlib.Core.Bool.{Bool, true, not, false≢true}
 use mathlib.Core.Path.{_≡_, refl, sym, ap, _∙_, subst}
-use mathlib.Core.List.{List, map}
+use mathlib.Core.List.{map}
 use mathlib.Core.Logic.{⊎-elim}
 use native.Mathlib.Omega.{arith}
 use lib.Dec.{eqb, ltb, leb}
 use lib.ListN.{length, getD}
-use borrow.Author.Tests.{eqb-true, eqb-false, eq-eqb, ne-eqb, lt-ltb, ltb-true, leb-true, leb-false, le-leb, lt-leb}
+use borrow.Author.Tests.{eq-eqb, ne-eqb, ltb-true, leb-true, leb-false, le-leb, lt-leb}
 use Rattle.laws.specs.Tests.{both, pick}
-use Rattle.laws.proofs.Tests.{test, both-true}
+use Rattle.laws.proofs.Tests.{both-true}
 use Rattle.paper.specs.Paper.{isSeat, between, inKind}
 use Rattle.paper.specs.declared.Entry.{Entry}
 use Rattle.paper.specs.declared.Entry.the-variants.{Sit, Leave, Hand, Hole, Fold, Check, Call, Wager, Board, Dead, Settle, Void}
 use Rattle.paper.proofs.Codes.{between-in}
 use Rattle.pots.proofs.Contest.{le-or-lt}
-use Rattle.chairs.specs.Chairs.{chairAt, putAt, noChair, noDealt, noHole, roundOf, isDealtIn, isLiveWithChips, seatedOf, heldOf, foldedOf, actedOf, paidOf, dealtOf, againOf, roundedOf, closedOf, closeAll}
+use Rattle.chairs.specs.Chairs.{chairAt, putAt, noChair, noDealt, noHole, roundOf, isLiveWithChips, seatedOf, heldOf, foldedOf, actedOf, paidOf, againOf, roundedOf, closedOf, closeAll}
 use Rattle.chairs.specs.declared.Chair.{Chair}
 use Rattle.chairs.proofs.Clockwise.{put-other}
 use Rattle.chairs.proofs.Over.{map-at}
 use Rattle.table.specs.State.{seatOf, withTaken, withChair, withCard}
 use Rattle.table.specs.Betting.{liveHands, onlyWithChips, owes, firstOwing, nobodyOwes, afterAct, isFullLift, foldedTo, checkedTo, calledTo, wageredTo, turnAfter, deadTo, newRound}
 use Rattle.table.specs.Sittings.{satTo, leftTo}
-use Rattle.table.specs.Opening.{nextDealtIn, postedTo, openedTo}
 use Rattle.table.specs.Dealing.{heldTo, boardedTo}
 use Rattle.table.specs.Settle.{payoutNow, settledTo}
 use Rattle.table.specs.Take.{kindCode, codeOf, appliedTo, nextOf}
@@ -32,7 +30,6 @@ use Rattle.table.specs.Standing.{Standing}
 use Rattle.table.specs.declared.table.Table.{Table}
 use Rattle.table.proofs.ChairsOk.{ok-at}
 use Rattle.table.proofs.Codes.{turn-live, check-live, call-live, wager-live, wager-fits, dead-live}
-use Rattle.table.proofs.Reached.{puck-dealt-in, big-blind-dealt-in, big-blind-other}
 use Rattle.table.proofs.Sounds.{passed}
 use Rattle.history.proofs.AsNoted.{hole-live, leave-some}
 use Rattle.history.proofs.Kept.{put-in, put-seat}
@@ -40,8 +37,10 @@ use Rattle.history.proofs.Paying.{close-at, close-past}
 use Rattle.history.proofs.Raises.{put-live}
 use Rattle.history.proofs.Turns.{next-taken}
 use Rattle.mission.proofs.Taken.{taken-allowed}
-use Rattle.mission.specs.Does.{Still, Puts, DoesSit, DoesLeave, Posts, DealtIn, DoesHand, DoesHole, GivenUp, DoesFold, DoesCheck, DoesCall, Again, DoesWager, DoesDead, DoesBoard, DoesSettle, Does}
+use Rattle.mission.proofs.DoesHand.{does-hand}
+use Rattle.mission.specs.Does.{Still, Puts, DoesSit, DoesLeave, DoesHole, GivenUp, DoesFold, DoesCheck, DoesCall, Again, DoesWager, DoesDead, DoesBoard, DoesSettle, Does}
 
+-- the table after the entry, counted
 abbrev done : Table → ℕ → Entry → Table
 done t n e = withTaken (appliedTo t e) n
 
@@ -244,134 +243,6 @@ does-board t n k =
     same : t .board .count + 1 < 3 → DoesBoard t k (withTaken (withCard t k) n)
     same q =
         record { count = refl; cards = refl; new = λ p. absurd (omega (arith, p, q)); old = λ p. record { chairs = refl; play = refl }; rest = record { sheet = refl; sittings = refl; opened = refl; puck = refl } }
-
--- ---- a hand opens
-module _ (c : Chair) where
-  dealt-in : (b : ℕ) → DealtIn c (paidOf (dealtOf c) b) (min b (c .stack))
-  dealt-in b =
-      record {
-        sitting = refl;
-        stack = rests (c .stack) b;
-        dealt = λ p. let e = lt-ltb 0 (c .stack) p in (ap (λ (d : Bool). pick d (c .sitting) 0) e, e);
-        out = λ z. let e : isDealtIn c ≡ false = ap (λ (v : ℕ). ltb 0 v) z in (ap (λ (d : Bool). pick d (c .sitting) 0) e, e);
-        total = first (min b (c .stack));
-        round = only (min b (c .stack));
-        acted = refl;
-        right = refl;
-        hole = refl;
-      }
-    where
-      rests : (v m : ℕ) → v - min m v + min m v ≡ v
-      rests v m = omega arith
-
-      first : (v : ℕ) → 0 + v ≡ v
-      first v = omega arith
-
-      only : (v : ℕ) → 0 + v - 0 ≡ v
-      only v = omega arith
-
-  dealt-none : DealtIn c (dealtOf c) 0
-  dealt-none =
-      record {
-        sitting = refl;
-        stack = omega arith;
-        dealt = λ p. let e = lt-ltb 0 (c .stack) p in (ap (λ (d : Bool). pick d (c .sitting) 0) e, e);
-        out = λ z. let e : isDealtIn c ≡ false = ap (λ (v : ℕ). ltb 0 v) z in (ap (λ (d : Bool). pick d (c .sitting) 0) e, e);
-        total = refl;
-        round = refl;
-        acted = refl;
-        right = refl;
-        hole = refl;
-      }
-
-module _ (t : Table) (n p : ℕ) (st : Standing t) (r : inKind (t .sheet) (Hand p) ≡ true) (q : kindCode t (Hand p) ≡ 0) where
-  abbrev big : ℕ
-  big = nextDealtIn t p
-
-  abbrev cs0 : List Chair
-  cs0 = map dealtOf (t .chairs)
-
-  abbrev cs1 : List Chair
-  cs1 = putAt cs0 p (paidOf (chairAt cs0 p) (t .sheet .small))
-
-  abbrev cs2 : List Chair
-  cs2 = putAt cs1 big (paidOf (chairAt cs1 big) (t .sheet .big))
-
-  at0 : (y : ℕ) → chairAt cs0 y ≡ dealtOf (seatOf t y)
-  at0 y = map-at dealtOf (t .chairs) y refl
-
-  -- a seat with chips has a sitter
-  seated : (y : ℕ) → isDealtIn (seatOf t y) ≡ true → 0 < chairAt cs0 y .sitting
-  seated y d =
-      let o = ok-at (t .chairs) y (st .chairs) in
-      let v = ltb-true 0 (seatOf t y .stack) d in
-      let some : (seatOf t y .sitting ≡ 0 → ⊥) = λ z. omega (arith, v, o .empty z) in
-      omega (arith, ap (λ (c : Chair). c .sitting) (at0 y), some)
-
-  apart : p ≡ big → ⊥
-  apart e = big-blind-other t p st q (sym e)
-
-  at-big : chairAt cs2 big ≡ paidOf (dealtOf (seatOf t big)) (t .sheet .big)
-  at-big =
-      let was : chairAt cs1 big ≡ dealtOf (seatOf t big) = put-other cs0 p big _ apart ∙ at0 big in
-      put-seat cs1 big (paidOf (chairAt cs1 big) (t .sheet .big)) (omega (arith, ap (λ (c : Chair). c .sitting) (put-other cs0 p big (paidOf (chairAt cs0 p) (t .sheet .small)) apart), seated big (big-blind-dealt-in t p r q)))
-      ∙ ap (λ (c : Chair). paidOf c (t .sheet .big)) was
-
-  at-puck : chairAt cs2 p ≡ paidOf (dealtOf (seatOf t p)) (t .sheet .small)
-  at-puck =
-      put-other cs1 big p (paidOf (chairAt cs1 big) (t .sheet .big)) (λ e. apart (sym e))
-      ∙ put-seat cs0 p (paidOf (chairAt cs0 p) (t .sheet .small)) (seated p (puck-dealt-in t p q))
-      ∙ ap (λ (c : Chair). paidOf c (t .sheet .small)) (at0 p)
-
-  at-other : (y : ℕ) → (p ≡ y → ⊥) → (big ≡ y → ⊥) → chairAt cs2 y ≡ dealtOf (seatOf t y)
-  at-other y a b = put-other cs1 big y (paidOf (chairAt cs1 big) (t .sheet .big)) b ∙ put-other cs0 p y (paidOf (chairAt cs0 p) (t .sheet .small)) a ∙ at0 y
-
-  abbrev Posted : ℕ → Type 0
-  Posted y = (m : ℕ) × Posts t p big y m × DealtIn (seatOf t y) (chairAt cs2 y) m
-
-  posted : (y : ℕ) → Posted y
-  posted y =
-      ⊎-elim
-      (λ (e : eqb big y ≡ true). subst Posted (eqb-true big y e) by-big)
-      (λ (e : eqb big y ≡ false).
-      ⊎-elim (λ (d : eqb p y ≡ true). subst Posted (eqb-true p y d) by-puck) (λ (d : eqb p y ≡ false). by-none y (eqb-false p y d) (eqb-false big y e)) (test (eqb p y)))
-      (test (eqb big y))
-    where
-      by-big : Posted big
-      by-big = (
-        min (t .sheet .big) (seatOf t big .stack),
-        record { puck = λ e. absurd (apart (sym e)); next = λ e. refl; none = λ a b. absurd (b refl) },
-        subst (λ (c : Chair). DealtIn (seatOf t big) c (min (t .sheet .big) (seatOf t big .stack))) (sym at-big) (dealt-in (seatOf t big) (t .sheet .big)),
-      )
-
-      by-puck : Posted p
-      by-puck = (
-        min (t .sheet .small) (seatOf t p .stack),
-        record { puck = λ e. refl; next = λ e. absurd (apart e); none = λ a b. absurd (a refl) },
-        subst (λ (c : Chair). DealtIn (seatOf t p) c (min (t .sheet .small) (seatOf t p .stack))) (sym at-puck) (dealt-in (seatOf t p) (t .sheet .small)),
-      )
-
-      by-none : (y : ℕ) → (p ≡ y → ⊥) → (big ≡ y → ⊥) → Posted y
-      by-none y a b = (
-        0,
-        record { puck = λ e. absurd (a (sym e)); next = λ e. absurd (b (sym e)); none = λ c d. refl },
-        subst (λ (c : Chair). DealtIn (seatOf t y) c 0) (sym (at-other y a b)) (dealt-none (seatOf t y)),
-      )
-
-  does-hand : DoesHand t p (done t n (Hand p))
-  unfolding openedTo postedTo firstOwing owes liveHands onlyWithChips
-  does-hand =
-      record {
-        blinds = posted;
-        opened = refl;
-        puck = refl;
-        mark = refl;
-        lift = refl;
-        turn = refl;
-        sheet = refl;
-        sittings = refl;
-        board = refl;
-      }
 
 -- ---- a settle
 does-settle : (t : Table) (n : ℕ) → Standing t → DoesSettle t (done t n Settle)

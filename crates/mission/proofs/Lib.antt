@@ -2,6 +2,7 @@
 
 pub mod Someone
 pub mod Taken
+pub mod DoesHand
 pub mod Does
 pub mod Settled
 pub mod Answers

@@ -1,6 +1,5 @@
 -- Demand 3 at settlement, by sitting: payments, commission and unclaimed chips make up all that was put in; no sitting is paid more than the sum of
 -- min(its total, theirs); and what the table shows as returned is what the clerk finds. For every sheet and every list of taken entries. Assumes nothing.
--- ---- lists of totals with the same chips at every height
 use Prim.Native.Nat.{ℕ, suc, _+_, _≤_, _<_, min, max}
 use mathlib.Core.Bool.{Bool, true, false}
 use mathlib.Core.Path.{_≡_, refl, sym, ap, _∙_}
@@ -34,6 +33,7 @@ use Rattle.history.proofs.Demand.{settle-all, paid-reach}
 use Rattle.mission.specs.Settled.{paidTo, settles}
 use Rattle.chairs.specs.declared.What.the-variants as what
 
+-- ---- lists of totals with the same chips at every height
 module _ (ts us : List ℕ) (same : (h : ℕ) → 1 ≤ h → chipsAt ts h ≡ chipsAt us h) where
   sums-same : sumOf ts ≡ sumOf us
   sums-same =

@@ -1,5 +1,4 @@
 -- The first owing seat is 0 exactly where no seat of the table owes. Assumes nothing.
--- the first of some seats, where there is one
 use Prim.Native.Nat.{ℕ, zero, suc, _+_, _-_, _≤_, _<_}
 use mathlib.Core.Bool.{Bool, true, false, not, true≢false, false≢true}
 use mathlib.Core.Path.{_≡_, refl, sym, ap, _∙_}
@@ -18,6 +17,7 @@ use Rattle.table.specs.State.{seatOf}
 use Rattle.table.specs.declared.table.Table.{Table}
 use Rattle.mission.specs.Allowed.{Owes, SomeoneOwes}
 
+-- the first of some seats, where there is one
 record Found (p : Chair → Bool) (cs : List Chair) (k m : ℕ) : Type 0 where
   seat : ℕ
   first : k < seat

@@ -1,6 +1,5 @@
 -- What is unclaimed at a taken settle is exactly the returned chips of the sittings that have left: a sitting that left is not live, so it wins nothing.
 -- Assumes nothing.
--- ---- who contends for no pot wins nothing
 use Prim.Native.Nat.{ℕ, zero, suc, _+_, _-_, _*_, _/_, _%_, _≤_, _<_}
 use mathlib.Core.Bool.{Bool, true, false, true≢false}
 use mathlib.Core.Path.{_≡_, refl, sym, ap, ap₂, _∙_, subst}
@@ -42,6 +41,7 @@ use Rattle.history.proofs.Paying.{listed, here-at}
 use Rattle.mission.specs.Winners.{scoresBy, leftBehind}
 use Rattle.mission.proofs.Winners.{at-seat, contender-live}
 
+-- ---- who contends for no pot wins nothing
 module _ (scores : List ℕ) (rule : Commission) (puck i : ℕ) (k : puck ≤ length scores) (l : i < length scores) where
   won-none : (left : ℕ) (ps : List Pot) → Manned (length scores) ps → All (λ (p : Pot). bitAt (p .who) i ≡ 0) ps → getD (wonOf scores rule puck left ps) i 0 ≡ 0
   unfolding wonOf

@@ -1,6 +1,4 @@
 -- The whole way: from the bytes of a log to what is written for it, and what the mission demands of that. Assumes nothing.
--- with a good sheet: the answers to the blocks, one behind the other and nothing else, and of each of them the three demands. Behind any number of blocks the
--- table says what the notebook of the entries taken by then says, and every sitting's chips are accounted for
 use Prim.Native.Nat.{ℕ}
 use mathlib.Core.Path.{_≡_}
 use mathlib.Core.List.{List}
@@ -16,6 +14,8 @@ use Rattle.history.specs.Stacks.{Balanced}
 use Rattle.mission.specs.Blocks.{tableBehind, takenIn, givenOf}
 use Rattle.mission.specs.Demands.{givenBytes, Demand1, Demand2, Demand3}
 
+-- with a good sheet: the answers to the blocks, one behind the other and nothing else, and of each of them the three demands. Behind any number of blocks the
+-- table says what the notebook of the entries taken by then says, and every sitting's chips are accounted for
 pub record Answered (sheet : Sheet) (log bytes : List ℕ) : Type 0 where
   pub answers : bytes ≡ joined givenBytes (givenOf log)
   pub demand-1 : All (Demand1 sheet) (givenOf log)

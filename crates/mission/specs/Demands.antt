@@ -1,6 +1,5 @@
 -- The mission's three demands, of one answer of the box: of the numbers that it shows and of its bytes. What they are held against is read from the sheet and the
 -- taken entries: the notebook (history/specs/Notebook). Lists of entries have the newest first. Assumes nothing.
--- the bytes of an answer
 use Prim.Native.Nat.{ℕ, _+_, _≤_, _<_}
 use mathlib.Core.Bool.{true}
 use mathlib.Core.Path.{_≡_}
@@ -35,6 +34,7 @@ use Rattle.mission.specs.Blocks.{Given}
 use Rattle.mission.specs.Does.{Does}
 use Rattle.mission.specs.Winners.{BestWin, leftBehind}
 
+-- the bytes of an answer
 abbrev pub givenBytes : Given → List ℕ
 givenBytes g = answerBytes (g .shown)
 

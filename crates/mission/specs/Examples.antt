@@ -1,6 +1,5 @@
 -- Document 01, "Examples both ways": P1 to P12 as one table, with the test that each row has to pass. Rows of requests No. 2 and No. 3 stand beside those of the
 -- paper that they follow. Lists of entries have the newest first. Assumes nothing.
--- ---- rows
 use Prim.Native.Nat.{ℕ, _+_, _*_, _-_}
 use mathlib.Core.Bool.{Bool, true, not}
 use mathlib.Core.List.{List, [], _∷_, _++_, map}
@@ -24,6 +23,7 @@ use Rattle.table.specs.Take.{codeOf}
 use Rattle.desk.specs.Log.{outputOf}
 use Rattle.history.specs.History.{run}
 
+-- ---- rows
 pub data Row : Type 0 where
   -- the first five cards beat the second
   wins : List ℕ → List ℕ → Row

@@ -1,6 +1,5 @@
 -- Demand 3 at settlement, by sitting: what each is paid. Lists of entries have the newest first.
 -- Assumes nothing.
--- what sitting s is paid: of the sittings and payments that a settled block lists
 use Prim.Native.Nat.{ℕ, _+_}
 use mathlib.Core.List.{List, [], _∷_}
 use lib.Dec.{eqb}
@@ -13,6 +12,7 @@ use Rattle.table.specs.declared.table.Payout.{Payout}
 use Rattle.table.specs.Take.{payoutOf}
 use Rattle.history.specs.History.{run}
 
+-- what sitting s is paid: of the sittings and payments that a settled block lists
 unfoldable pub paidTo : List ℕ → List ℕ → ℕ → ℕ
 paidTo [] ps s = 0
 paidTo (x ∷ xs) [] s = 0
