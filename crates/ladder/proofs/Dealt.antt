@@ -11,7 +11,8 @@ use Rattle.laws.specs.Some.{some}
 use Rattle.laws.proofs.Tests.{both-true}
 use Rattle.cards.specs.Cards.{rank, sameList, isWheel, lowered, inRow, allAlike, oneSuit}
 use Rattle.cards.specs.Hands.{classOf}
-use Rattle.cards.specs.Weigh.{weigh, fall}
+use Rattle.cards.specs.Falls.{fall}
+use Rattle.ladder.specs.Weigh.{weigh}
 use Rattle.cards.specs.Order.{choices}
 use Rattle.cards.specs.Reading.{anyAbove, anyTwice}
 use Rattle.cards.specs.declared.Hand.{Hand}

@@ -19,7 +19,8 @@ use Rattle.laws.proofs.Five.{five-list}
 use Rattle.cards.specs.Cards.{isWheel, lowered, inRow, allAre, allAlike, oneSuit}
 use Rattle.cards.specs.Hands.{ranking52, classOf}
 use Rattle.cards.specs.Reading.{anyAbove, isAmong, anyTwice}
-use Rattle.cards.specs.Weigh.{weigh, fall}
+use Rattle.cards.specs.Falls.{fall}
+use Rattle.ladder.specs.Weigh.{weigh}
 use Rattle.cards.specs.declared.Hand.{Hand}
 use Rattle.cards.proofs.Mixed.{value-same}
 use Rattle.cards.proofs.Mixing.{Within, within-choice}

@@ -1,5 +1,5 @@
 -- What five cards are worth, from their ranks and whether they are of one suit, by one number for each rank, which antt orders at once
--- (cards/proofs/Ordered.antt: the order is that of the definitions). Assumes nothing.
+-- (Weighed.antt: the order is that of the definitions). Assumes nothing.
 use mathlib.Core.Path.{_≡_, sym, ap, ap₂, _∙_}
 use mathlib.Core.Bool.{Bool, true, false, true≢false}
 use mathlib.Core.Logic.{⊎-elim}
@@ -13,10 +13,11 @@ use Rattle.laws.specs.Lists.{All}
 use Rattle.laws.proofs.Tests.{test}
 use Rattle.cards.specs.Cards.{rank, ordered, lowered, inRow, oneSuit}
 use Rattle.cards.specs.Hands.{ranking52, hand, holdings, classOf, ranksOf, classOfCards, valueOf}
-use Rattle.cards.specs.Weigh.{weigh, fall, rankIn, timesIn, Small}
+use Rattle.cards.specs.Falls.{fall}
+use Rattle.ladder.specs.Weigh.{weigh, rankIn, timesIn, Small}
 use Rattle.cards.specs.Reading.{anyAbove}
 use Rattle.cards.specs.declared.Hand.{Hand}
-use Rattle.cards.proofs.Ordered.{fall-ordered, ranks-ordered, times-ordered}
+use Rattle.ladder.proofs.Weighed.{fall-ordered, ranks-ordered, times-ordered}
 use Rattle.ladder.specs.Ladder.{worth52}
 use Rattle.ladder.proofs.Members.{at-all, has-some}
 

@@ -95,7 +95,7 @@ module _ (ws cs paid : List ℕ) where
   unfolding takenFrom
   holds c i l =
       let q : sumTo (length paid) (λ s. given (length cs) (proposal ws cs paid) s i) ≡ sumTo (length paid) (λ s. takes ws cs paid s i) =
-          sum-same (length paid) (λ s. given (length cs) (proposal ws cs paid) s i) (λ s. takes ws cs paid s i) (λ s o. ap (λ k. given k (proposal ws cs paid) s i) c ∙ greedy-is s i o (omega (arith, l, c))) in
+      sum-same (length paid) (λ s. given (length cs) (proposal ws cs paid) s i) (λ s. takes ws cs paid s i) (λ s o. ap (λ k. given k (proposal ws cs paid) s i) c ∙ greedy-is s i o (omega (arith, l, c))) in
       omega (arith, q, taken-left (length paid) i)
 
   pub proposed-accepted : (long : ℕ) → proposing ws cs paid long ≡ written → judged ws cs paid (proposal ws cs paid) ≡ accepted
