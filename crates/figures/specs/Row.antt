@@ -5,7 +5,7 @@ use mathlib.Core.Bool.{Bool, false}
 use lib.ListN.{getD}
 use lib.Dec.{eqb}
 use Rattle.laws.specs.Tests.{pick, either}
-use Rattle.figures.specs.Words.{labels, words, gap, edge, bar, amber, red, off}
+use Rattle.figures.specs.Words.{labels, kinds, words, gap, edge, bar, amber, red, off}
 use Rattle.figures.specs.Grouped.{groupedOf, columnOf}
 use Rattle.figures.specs.Lamp.{cellsOf}
 
@@ -36,7 +36,7 @@ kindUnclaimed = 9
 
 -- no answer line
 abbrev pub kindNone : ℕ
-kindNone = 10
+kindNone = kinds
 
 -- bytes in a colour, where there are colours
 unfoldable pub litOf : Bool → List ℕ → List ℕ → List ℕ

@@ -1,8 +1,9 @@
 -- The words and lines of the picture, as a person reads them.
-use Prim.Native.Nat.{ℕ}
+use Prim.Native.Nat.{ℕ, _-_}
 use Prim.Native.Char.{code}
 use Prim.Native.String.{String, [] as []ₛ, _∷_ as _∷ₛ_}
 use mathlib.Core.List.{List, [], _∷_}
+use lib.ListN.{length}
 
 -- the bytes of a text
 abbrev pub bytes : String → List ℕ
@@ -29,6 +30,10 @@ labels =
     ∷ bytes "|           "
     ∷ []
 
+-- how many kinds of line there are: the empty label stands behind theirs
+abbrev pub kinds : ℕ
+kinds = length labels - 1
+
 -- the refusals in words, by document 01's table "Refusal numbers"
 abbrev pub words : List (List ℕ)
 words =
@@ -46,6 +51,10 @@ words =
     ∷ bytes "11: the sheet is bad                    "
     ∷ bytes "12: the answer sheet is too short       "
     ∷ []
+
+-- how many numbers the table has
+abbrev pub refusals : ℕ
+refusals = length words
 
 -- the gap between a row's two halves, its right edge, and the left edge alone
 abbrev pub gap : List ℕ

@@ -11,12 +11,15 @@ ghost use Prim.Native.Nat.{_+_, _≤_, _<_};
 ghost use lib.ListN.{length};
 ghost use Rattle.laws.specs.Tests.{pick};
 ghost use Rattle.figures.specs.Sheet.{Put};
-ghost use Rattle.figures.specs.Words.{rule};
+ghost use Rattle.figures.specs.Words.{rule, labels, refusals};
 ghost use Rattle.figures.specs.Row.{halfRow, litOf, cellOf, leftOf, wordsRow, amountOf, lampCell, countedOf};
 
 struct Label {
     text: [u8; 12],
 }
+
+// How many kinds of line an answer has; the empty label stands behind theirs.
+pub const KINDS: usize = 10;
 
 // The left edge and the label of each kind of line, and the empty label.
 const LABELS: [Label; 11] = [
@@ -59,8 +62,11 @@ struct Words {
     text: [u8; 40],
 }
 
+// How many numbers document 01's table of refusals has.
+pub const REFUSALS: usize = 13;
+
 // The refusals in words, by document 01's table.
-const WORDS: [Words; 13] = [
+const WORDS: [Words; REFUSALS] = [
     Words {
         text: *b"0: taken                                ",
     },
@@ -157,7 +163,7 @@ pub fn put_cell(out: &mut [u8], at: usize, colour: bool, ink: &[u8], bytes: &[u8
 
 // The left half of a row.
 pub fn put_left(out: &mut [u8], at: usize, kind: usize, shown: bool, n: u32) -> usize
-    requires { ⌜ (kind < 11) × (at + 23 ≤ length (now out)) ⌝ }
+    requires { ⌜ (kind < length labels) × (at + 23 ≤ length (now out)) ⌝ }
     ensures { λ r. ⌜ Put (leftOf kind shown n) at (now (out .entry)) (now (out .exit)) r × (r ≤ at + 23) ⌝ }
 {
     let row = LABELS[kind];
@@ -169,7 +175,7 @@ pub fn put_left(out: &mut [u8], at: usize, kind: usize, shown: bool, n: u32) -> 
 
 // The row that gives a refusal in words.
 pub fn put_words(out: &mut [u8], at: usize, colour: bool, code: usize) -> usize
-    requires { ⌜ (code < 13) × (at + 56 ≤ length (now out)) ⌝ }
+    requires { ⌜ (code < refusals) × (at + 56 ≤ length (now out)) ⌝ }
     ensures { λ r. ⌜ Put (wordsRow colour code) at (now (out .entry)) (now (out .exit)) r × (r ≤ at + 56) ⌝ }
 {
     let row = WORDS[code];

@@ -20,7 +20,7 @@ use Rattle.text.specs.declared.Number.the-variants.{Value, Bad}
 use Rattle.text.proofs.Numbers.{read-digits}
 use Rattle.text.proofs.RoundTrip.{NoLF, no-append, no-within, no-number, line-shape, read-line}
 use Rattle.text.proofs.ReadBack.{line-back}
-use Rattle.picture.specs.Lines.{keys, mosts, noLine, lineWith, lineAt, lineFrom, answerLine}
+use Rattle.picture.specs.Lines.{lineKinds, keys, mosts, noLine, lineWith, lineAt, lineFrom, answerLine}
 use Rattle.figures.specs.Row.{countedOf}
 use Rattle.picture.specs.Rows.{lineDrawn}
 use Rattle.picture.specs.Screen as screen
@@ -93,12 +93,12 @@ unlike-at (x ∷ xs) i zero u h l e = omega arith
 unlike-at (x ∷ xs) zero (suc k) u h l e = absent-at x xs k (both-true (absent x xs) (unlike xs) u .0) (omega arith) e
 unlike-at (x ∷ xs) (suc i) (suc k) u h l e = unlike-at xs i k (both-true (absent x xs) (unlike xs) u .1) (omega arith) (omega arith) e
 
-keys-unlike : (i k : ℕ) → i < k → k < 10 → key i ≡ key k → ⊥
+keys-unlike : (i k : ℕ) → i < k → k < lineKinds → key i ≡ key k → ⊥
 keys-unlike i k h l e = unlike-at (tags keys) i k refl h l (tag-at keys i ∙ ap tag e ∙ sym (tag-at keys k))
 
 -- ---- which line it is
 
-module _ (k v : ℕ) (l : k < 10) (q : v < 10 ^ 9) where
+module _ (k v : ℕ) (l : k < lineKinds) (q : v < 10 ^ 9) where
   abbrev written : List ℕ
   written = numberLine (key k) v
 
@@ -113,11 +113,11 @@ module _ (k v : ℕ) (l : k < 10) (q : v < 10 ^ 9) where
   here h = rw (here-number, le-leb v (getD mosts k 0) h)
 
   -- it is no line of a kind before
-  other : (j : ℕ) → j < k → lineAt j written .kind ≡ 10
+  other : (j : ℕ) → j < k → lineAt j written .kind ≡ lineKinds
   unfolding lineAt
   other j h = go (lineNumber (key j) written) refl
     where
-      go : (x : Number) → lineNumber (key j) written ≡ x → lineWith j (getD mosts j 0) x .kind ≡ 10
+      go : (x : Number) → lineNumber (key j) written ≡ x → lineWith j (getD mosts j 0) x .kind ≡ lineKinds
       go Bad e = refl
       go (Value m) e =
           let back : written ≡ numberLine (key j) m ++ afterLine written = line-back (key j) written m e in
@@ -127,25 +127,25 @@ module _ (k v : ℕ) (l : k < 10) (q : v < 10 ^ 9) where
           sym (append-assoc (key k) (61 ∷ digits v) (10 ∷ [])) ∙ shapes ∙ append-assoc (key j) (61 ∷ digits m) (10 ∷ afterLine written) in
           absurd (keys-unlike j k h l (sym (same-key (key k) (key j) (digits v ++ (10 ∷ [])) (digits m ++ (10 ∷ afterLine written)) (word k .0) (word j .0) one)))
 
-found : (m d j : ℕ) (bs : List ℕ) (l : Line) → d < m → ((i : ℕ) → i < d → lineAt (j + i) bs .kind ≡ 10) → lineAt (j + d) bs ≡ l → l .kind < 10 → lineFrom m j bs ≡ l
+found : (m d j : ℕ) (bs : List ℕ) (l : Line) → d < m → ((i : ℕ) → i < d → lineAt (j + i) bs .kind ≡ lineKinds) → lineAt (j + d) bs ≡ l → l .kind < lineKinds → lineFrom m j bs ≡ l
 found zero d j bs l h n e f = absurd (omega arith)
 found (suc m) zero j bs l h n e f =
     let z : j + 0 ≡ j = omega arith in
     let at : lineAt j bs ≡ l = rw z at e in
-    rw (at, lt-ltb (l .kind) 10 f)
+    rw (at, lt-ltb (l .kind) lineKinds f)
 found (suc m) (suc d) j bs l h n e f =
     let z : j + 0 ≡ j = omega arith in
-    let none : lineAt j bs .kind ≡ 10 = rw z at (n 0 (omega arith)) in
+    let none : lineAt j bs .kind ≡ lineKinds = rw z at (n 0 (omega arith)) in
     let on : (i : ℕ) → j + suc i ≡ j + 1 + i = λ i. omega arith in
-    rw none (found m d (j + 1) bs l (omega arith) (λ i p. subst (λ (x : ℕ). lineAt x bs .kind ≡ 10) (on i) (n (suc i) (omega arith))) (subst (λ (x : ℕ). lineAt x bs ≡ l) (on d) e) f)
+    rw none (found m d (j + 1) bs l (omega arith) (λ i p. subst (λ (x : ℕ). lineAt x bs .kind ≡ lineKinds) (on i) (n (suc i) (omega arith))) (subst (λ (x : ℕ). lineAt x bs ≡ l) (on d) e) f)
 
 -- a line as the box writes it says its key and its number
-pub line-said : (k v : ℕ) → k < 10 → v < 10 ^ 9 → v ≤ getD mosts k 0 → answerLine (numberLine (key k) v) ≡ record { kind = k; value = v }
+pub line-said : (k v : ℕ) → k < lineKinds → v < 10 ^ 9 → v ≤ getD mosts k 0 → answerLine (numberLine (key k) v) ≡ record { kind = k; value = v }
 unfolding answerLine
 line-said k v l q h =
     let bs : List ℕ = numberLine (key k) v in
     let z : (i : ℕ) → i ≡ 0 + i = λ i. omega arith in
-    found 10 k 0 bs (record { kind = k; value = v }) l (λ i p. subst (λ (x : ℕ). lineAt x bs .kind ≡ 10) (z i) (other k v l q i p))
+    found lineKinds k 0 bs (record { kind = k; value = v }) l (λ i p. subst (λ (x : ℕ). lineAt x bs .kind ≡ lineKinds) (z i) (other k v l q i p))
     (subst (λ (x : ℕ). lineAt x bs ≡ record { kind = k; value = v }) (z k) (here k v l q h)) l
 
 -- ---- and how it is drawn
@@ -164,7 +164,7 @@ drawn colour (b ∷ xs) line rest last pots n h =
     rw (ne-eqb b 10 (n .0), short) (rw e at r)
 
 -- the picture of a line as the box writes it is what `lineDrawn` says of its number; what stands behind it is drawn by itself
-pub line-shown : (colour : Bool) (k v last pots : ℕ) (rest : List ℕ) → k < 10 → v < 10 ^ 9 → v ≤ getD mosts k 0
+pub line-shown : (colour : Bool) (k v last pots : ℕ) (rest : List ℕ) → k < lineKinds → v < 10 ^ 9 → v ≤ getD mosts k 0
     → pictureFrom colour (record { line = []; long = false; last = last; pots = pots }) (numberLine (key k) v ++ rest)
     ≡ lineDrawn colour last pots k v ++ pictureFrom colour (screen.afterLine pots (record { kind = k; value = v })) rest
 unfolding saidOf shownOf
@@ -177,13 +177,13 @@ line-shown colour k v last pots rest l q h =
     let whole : xs ++ (10 ∷ []) ≡ numberLine (key k) v = sym (line-shape (key k) [] v) ∙ append-nil (numberLine (key k) v) in
     let says : answerLine (xs ++ (10 ∷ [])) ≡ record { kind = k; value = v } = ap answerLine whole ∙ line-said k v l q h in
     let r = drawn colour xs [] rest last pots n (omega (arith, w .1, d .1, length-append (key k) (61 ∷ digits v))) in
-    rw shape (rw (says, lt-ltb k 10 l) at r)
+    rw shape (rw (says, lt-ltb k lineKinds l) at r)
 
 -- ---- answers whole
 
 -- an answer line that the box may write
 abbrev pub Written : Line → Type 0
-Written l = (l .kind < 10) × (l .value < 10 ^ 9) × (l .value ≤ getD mosts (l .kind) 0)
+Written l = (l .kind < lineKinds) × (l .value < 10 ^ 9) × (l .value ≤ getD mosts (l .kind) 0)
 
 -- answer lines one behind another, as bytes, and as they are drawn: each from its number, the kind of the line before and the count of pots in a row
 abbrev pub lineBytes : List Line → List ℕ

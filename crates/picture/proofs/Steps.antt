@@ -13,6 +13,7 @@ use Rattle.laws.specs.Tests.{pick, both, either}
 use Rattle.figures.specs.Sheet.{Put}
 use Rattle.figures.specs.Words.{rule}
 use Rattle.figures.specs.Row.{halfRow, leftOf, countedOf}
+use Rattle.picture.specs.Lines.{lineKinds}
 use Rattle.picture.specs.Rows.{numbered, frontOf, completes, startRow, restRow, columnNumber, lineDrawn, markOf, visibleAll, foreignRow}
 use Rattle.picture.specs.Screen.{Kept, stateOf, saidOf, shownOf, stepOf, closeOf}
 use Rattle.picture.specs.declared.Line.{Line}
@@ -106,7 +107,7 @@ module _ (colour : Bool) (s : Screen) (buf : List ℕ) (b : ℕ) (room : s .coun
   -- and where there is none
   pub step-full : {a r : ℕ} {out new : List ℕ} → (b ≡ 10 → ⊥) → 40 ≤ s .count → Put (foreignRow (s .last) (s .long) (take (s .count - 0) buf)) a out new r
       → Put (stepOf colour (stateOf s buf) b .drawn) a out new r
-      × (stateOf (record { count = 1; long = true; last = 10; pots = 0 }) (set buf 0 b) ≡ stepOf colour (stateOf s buf) b .after)
+      × (stateOf (record { count = 1; long = true; last = lineKinds; pots = 0 }) (set buf 0 b) ≡ stepOf colour (stateOf s buf) b .after)
   unfolding stepOf
   step-full e h p =
       let k : length (take (s .count) buf) ≡ s .count = length-take-le (s .count) buf (omega arith) in

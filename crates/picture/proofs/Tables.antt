@@ -15,7 +15,7 @@ use Rattle.text.specs.Line.{lineNumber}
 use Rattle.text.specs.declared.Number.{Number}
 use Rattle.text.proofs.Bytes.{eq-list}
 use Rattle.figures.specs.Words.{bytes}
-use Rattle.picture.specs.Lines.{keys, mosts, lineWith, lineAt, Answering, noLine}
+use Rattle.picture.specs.Lines.{keys, lineKinds, mosts, lineWith, lineAt, Answering, noLine}
 use Rattle.picture.specs.declared.Line.{Line}
 use Rattle.picture.specs.declared.reading.Key.{Key}
 
@@ -45,19 +45,19 @@ key-right k =
     (both (eqList (take (keyAt k .count - 0) (keyAt k .letters)) (getD keys k []))
     (both (eqb (keyAt k .most) (getD mosts k 0)) (leb (getD mosts k 0) 999_999_999)))
 
-keys-right : allBelow 10 key-right ≡ true
+keys-right : allBelow lineKinds key-right ≡ true
 keys-right = refl
 
-pub key-row : (k : ℕ) → k < 10 → (keyAt k .count ≤ length (keyAt k .letters)) × (take (keyAt k .count - 0) (keyAt k .letters) ≡ getD keys k [])
+pub key-row : (k : ℕ) → k < lineKinds → (keyAt k .count ≤ length (keyAt k .letters)) × (take (keyAt k .count - 0) (keyAt k .letters) ≡ getD keys k [])
     × (keyAt k .most ≡ getD mosts k 0) × (getD mosts k 0 ≤ 999_999_999)
 key-row k h =
-    let p = both-true _ _ (below-all 10 key-right keys-right k h) in
+    let p = both-true _ _ (below-all lineKinds key-right keys-right k h) in
     let q = both-true _ _ (p .1) in
     let r = both-true _ _ (q .1) in
     (leb-true _ _ (p .0), eq-list _ _ (q .0), eqb-true _ _ (r .0), leb-true _ _ (r .1))
 
 -- what the reading of a line by its key answered
-pub line-said : (k : ℕ) (bs : List ℕ) {x : Number} {r : Line} → k < 10 → x ≡ lineNumber (take (keyAt k .count - 0) (keyAt k .letters)) bs
+pub line-said : (k : ℕ) (bs : List ℕ) {x : Number} {r : Line} → k < lineKinds → x ≡ lineNumber (take (keyAt k .count - 0) (keyAt k .letters)) bs
     → r ≡ lineWith k (keyAt k .most) x → r ≡ lineAt k bs
 unfolding lineAt
 line-said k bs h f g =
@@ -67,7 +67,7 @@ line-said k bs h f g =
 pub answering-none : Answering noLine
 answering-none = record { kind = omega arith; value = omega arith; code = λ e. absurd (omega arith); turn = λ e. absurd (omega arith) }
 
-pub answering : (k v most : ℕ) → k < 10 → most ≡ getD mosts k 0 → v ≤ most → Answering (record { kind = k; value = v })
+pub answering : (k v most : ℕ) → k < lineKinds → most ≡ getD mosts k 0 → v ≤ most → Answering (record { kind = k; value = v })
 answering k v most h e w =
     let p = key-row k h in
     record {

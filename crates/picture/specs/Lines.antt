@@ -1,14 +1,14 @@
 -- Which answer line a line is. Document 01, "The answer block": its keys, and the numbers that the box writes behind them.
-use Prim.Native.Nat.{ℕ, zero, suc, _+_, _≤_, _<_}
+use Prim.Native.Nat.{ℕ, zero, suc, _+_, _-_, _≤_, _<_}
 use mathlib.Core.Path.{_≡_}
 use mathlib.Core.List.{List, [], _∷_}
-use lib.ListN.{getD}
+use lib.ListN.{length, getD}
 use lib.Dec.{leb, ltb}
 use Rattle.laws.specs.Tests.{pick}
 use Rattle.text.specs.Line.{lineNumber}
 use Rattle.text.specs.declared.Number.{Number}
 use Rattle.text.specs.declared.Number.the-variants.{Value, Bad}
-use Rattle.figures.specs.Words.{bytes}
+use Rattle.figures.specs.Words.{bytes, refusals}
 use Rattle.picture.specs.declared.Line.{Line}
 
 abbrev pub keys : List (List ℕ)
@@ -25,11 +25,15 @@ keys =
     ∷ bytes "unclaimed"
     ∷ []
 
--- the greatest number behind each: document 01 has the codes 0 to 12 and the seats 1 to 10; any other number has at most nine digits
+-- how many kinds of line there are
+abbrev pub lineKinds : ℕ
+lineKinds = length keys
+
+-- the greatest number behind each: document 01 has the codes of its table and the seats 1 to 10; any other number has at most nine digits
 abbrev pub mosts : List ℕ
 mosts =
     999_999_999
-    ∷ 12
+    ∷ refusals - 1
     ∷ 10
     ∷ 999_999_999
     ∷ 999_999_999
@@ -42,7 +46,7 @@ mosts =
 
 -- no answer line
 abbrev pub noLine : Line
-noLine = record { kind = 10; value = 0 }
+noLine = record { kind = lineKinds; value = 0 }
 
 -- a number behind the key of the k-th kind
 abbrev pub lineWith : ℕ → ℕ → Number → Line
@@ -56,15 +60,15 @@ lineAt k bs = lineWith k (getD mosts k 0) (lineNumber (getD keys k []) bs)
 -- the first kind from k on that the line is, of m kinds
 abbrev pub lineFrom : ℕ → ℕ → List ℕ → Line
 lineFrom zero k bs = noLine
-lineFrom (suc m) k bs = pick (ltb (lineAt k bs .kind) 10) (lineAt k bs) (lineFrom m (k + 1) bs)
+lineFrom (suc m) k bs = pick (ltb (lineAt k bs .kind) lineKinds) (lineAt k bs) (lineFrom m (k + 1) bs)
 
 -- what a line says
 unfoldable pub answerLine : List ℕ → Line
-answerLine bs = lineFrom 10 0 bs
+answerLine bs = lineFrom lineKinds 0 bs
 
 -- the numbers that an answer line may have
 pub record Answering (l : Line) : Type 0 where
-  pub kind : l .kind ≤ 10
+  pub kind : l .kind ≤ lineKinds
   pub value : l .value ≤ 999_999_999
-  pub code : l .kind ≡ 1 → l .value < 13
+  pub code : l .kind ≡ 1 → l .value < refusals
   pub turn : l .kind ≡ 2 → l .value ≤ 10

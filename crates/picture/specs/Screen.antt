@@ -7,7 +7,7 @@ use lib.Dec.{eqb, ltb}
 use Rattle.laws.specs.Tests.{pick}
 use Rattle.figures.specs.Row.{kindNone, halfRow, countedOf}
 use Rattle.picture.specs.Rows.{lineDrawn, foreignRow}
-use Rattle.picture.specs.Lines.{answerLine, noLine}
+use Rattle.picture.specs.Lines.{lineKinds, answerLine, noLine}
 use Rattle.picture.specs.declared.Line.{Line}
 use Rattle.picture.specs.declared.Screen.{Screen}
 
@@ -32,7 +32,7 @@ fresh = record { line = []; long = false; last = kindNone; pots = 0 }
 -- a line has at most 40 bytes kept
 pub record Held (s : Screen) : Type 0 where
   pub count : s .count ≤ 40
-  pub last : s .last ≤ 10
+  pub last : s .last ≤ lineKinds
   pub pots : s .pots ≤ 999_999_999
 
 -- what an ended line (with its LF) says: one that was shown in part says nothing

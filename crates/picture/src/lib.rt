@@ -5,6 +5,7 @@ mod rows;
 use figures::put::put;
 use figures::put::put_if;
 use figures::row;
+use figures::row::KINDS;
 use reading::read_line;
 use rows::put_answer;
 ghost use mathlib.Core.Path.{_≡_};
@@ -17,7 +18,7 @@ ghost use Rattle.picture.specs.Rows.{visibleOf, visibleAll, markOf, fore
 ghost use Rattle.figures.specs.Row.{countedOf};
 ghost use Rattle.picture.specs.Screen.{Held, stateOf, startOf, saidOf, shownOf, stepOf, closeOf};
 
-// What a line says: its kind, by its place in the table of keys, and its number; kind 10 for a line that is no answer line.
+// What a line says: its kind, by its place in the table of keys, and its number; the number of keys for a line that is no answer line.
 pub struct Line {
     pub kind: usize,
     pub value: u32,
@@ -44,7 +45,7 @@ pub fn start() -> Screen
     Screen {
         count: 0,
         long: false,
-        last: 10,
+        last: KINDS,
         pots: 0,
     }
 }
@@ -102,7 +103,10 @@ fn said(long: bool, line: &[u8]) -> Line
     ensures { λ r. ⌜ (r ≡ saidOf long (now (line .entry))) × Answering r ⌝ }
 {
     if long {
-        return Line { kind: 10, value: 0 };
+        return Line {
+            kind: KINDS,
+            value: 0,
+        };
     }
     read_line(line)
 }
@@ -112,7 +116,7 @@ fn put_said(out: &mut [u8], at: usize, colour: bool, s: Screen, l: Line, bytes: 
     requires { ⌜ Held s × Answering l × (length (now bytes) ≤ 40) × (at + 400 ≤ length (now out)) ⌝ }
     ensures { λ r. ⌜ Put (shownOf colour (s .last) (s .long) (s .pots) l (now (bytes .entry))) at (now (out .entry)) (now (out .exit)) r × (r ≤ at + 400) ⌝ }
 {
-    if l.kind < 10 {
+    if l.kind < KINDS {
         return put_answer(out, at, colour, s.last, s.pots, l);
     }
     put_foreign(out, at, s.last, s.long, bytes)
@@ -165,7 +169,7 @@ pub fn step(colour: bool, s: Screen, buf: &mut [u8], b: u8, out: &mut [u8], at: 
     let next = Screen {
         count: 1,
         long: true,
-        last: 10,
+        last: KINDS,
         pots: 0,
     };
     Stepped {

@@ -1,11 +1,12 @@
-// Which answer line a line is, by a table of the ten keys.
+// Which answer line a line is, by a table of the keys.
 use crate::Line;
+use figures::row::KINDS;
 use text::Number;
 use text::read_key_number;
 ghost use mathlib.Core.Path.{_≡_};
 ghost use Prim.Native.Nat.{_<_};
 ghost use lib.ListN.{getD};
-ghost use Rattle.picture.specs.Lines.{Answering, mosts, lineWith, lineAt, answerLine};
+ghost use Rattle.picture.specs.Lines.{Answering, lineKinds, mosts, lineWith, lineAt, answerLine};
 
 // The letters of a key and how many they are, and the greatest number that the box writes there.
 struct Key {
@@ -14,7 +15,7 @@ struct Key {
     most: u32,
 }
 
-const KEYS: [Key; 10] = [
+const KEYS: [Key; KINDS] = [
     Key {
         letters: *b"n        ",
         count: 1,
@@ -69,21 +70,27 @@ const KEYS: [Key; 10] = [
 
 // A number that stands behind the k-th key makes an answer line where it is not too great.
 fn line_with(k: usize, most: u32, x: Number) -> Line
-    requires { ⌜ (k < 10) × (most ≡ getD mosts k 0) ⌝ }
+    requires { ⌜ (k < lineKinds) × (most ≡ getD mosts k 0) ⌝ }
     ensures { λ r. ⌜ (r ≡ lineWith k most x) × Answering r ⌝ }
 {
     let Number::Value(v) = x else {
-        return Line { kind: 10, value: 0 };
+        return Line {
+            kind: KINDS,
+            value: 0,
+        };
     };
     if v <= most {
         return Line { kind: k, value: v };
     }
-    Line { kind: 10, value: 0 }
+    Line {
+        kind: KINDS,
+        value: 0,
+    }
 }
 
 // The line with the k-th key.
 fn line_at(line: &[u8], k: usize) -> Line
-    requires { ⌜ k < 10 ⌝ }
+    requires { ⌜ k < lineKinds ⌝ }
     ensures { λ r. ⌜ (r ≡ lineAt k (now (line .entry))) × Answering r ⌝ }
 {
     let row = KEYS[k];
@@ -98,13 +105,16 @@ pub(crate) fn read_line(line: &[u8]) -> Line
     ensures { λ r. ⌜ (r ≡ answerLine (now (line .entry))) × Answering r ⌝ }
 {
     let mut k: usize = 0;
-    while k < 10 {
+    while k < KINDS {
         let l = line_at(line, k);
         let kind = l.kind;
-        if kind < 10 {
+        if kind < KINDS {
             return l;
         }
         k += 1;
     }
-    Line { kind: 10, value: 0 }
+    Line {
+        kind: KINDS,
+        value: 0,
+    }
 }

@@ -1,6 +1,7 @@
 // The rows that an answer line draws.
 use crate::Line;
 use figures::put::put_if;
+use figures::row::KINDS;
 use figures::row::counted;
 use figures::row::half;
 use figures::row::put_amount;
@@ -15,12 +16,13 @@ use laws::either;
 ghost use Prim.Native.Nat.{_+_, _≤_, _<_};
 ghost use lib.ListN.{length};
 ghost use Rattle.figures.specs.Sheet.{Put};
-ghost use Rattle.picture.specs.Lines.{Answering};
+ghost use Rattle.figures.specs.Words.{refusals};
+ghost use Rattle.picture.specs.Lines.{lineKinds, Answering};
 ghost use Rattle.picture.specs.Rows.{verdictOf, lampOf, lampRow, frontOf, startRow, restRow, lineDrawn};
 
 // Taken, or refused with the refusal in words.
 fn put_verdict(out: &mut [u8], at: usize, colour: bool, code: usize) -> usize
-    requires { ⌜ (code < 13) × (at + 140 ≤ length (now out)) ⌝ }
+    requires { ⌜ (code < refusals) × (at + 140 ≤ length (now out)) ⌝ }
     ensures { λ r. ⌜ Put (verdictOf colour code) at (now (out .entry)) (now (out .exit)) r × (r ≤ at + 140) ⌝ }
 {
     if code == 0 {
@@ -36,7 +38,7 @@ fn put_lamp_row(out: &mut [u8], at: usize, colour: bool, seat: u32, row: u32) ->
     requires { ⌜ (row < 5) × (at + 56 ≤ length (now out)) ⌝ }
     ensures { λ r. ⌜ Put (lampRow colour seat row) at (now (out .entry)) (now (out .exit)) r × (r ≤ at + 56) ⌝ }
 {
-    let a = put_left(out, at, 10, false, 0);
+    let a = put_left(out, at, KINDS, false, 0);
     put_lamp_cell(out, a, colour, seat, row)
 }
 
@@ -57,7 +59,7 @@ fn put_lamp(out: &mut [u8], at: usize, colour: bool, seat: u32) -> usize
 
 // A row that begins: the half row before it ends, and a block or a lone code gets a rule above it.
 fn put_front(out: &mut [u8], at: usize, last: usize, kind: usize, n: u32) -> usize
-    requires { ⌜ (kind < 10) × (at + 69 ≤ length (now out)) ⌝ }
+    requires { ⌜ (kind < lineKinds) × (at + 69 ≤ length (now out)) ⌝ }
     ensures { λ r. ⌜ Put (frontOf last kind n) at (now (out .entry)) (now (out .exit)) r × (r ≤ at + 69) ⌝ }
 {
     let a = put_if(out, at, half(last), b"\n");
@@ -68,7 +70,7 @@ fn put_front(out: &mut [u8], at: usize, last: usize, kind: usize, n: u32) -> usi
 
 // The left half of a line's row, where the line before has not drawn it: a code completes its entry's row, and what is paid its sitting's.
 fn put_start(out: &mut [u8], at: usize, last: usize, kind: usize, n: u32) -> usize
-    requires { ⌜ (kind < 10) × (at + 69 ≤ length (now out)) ⌝ }
+    requires { ⌜ (kind < lineKinds) × (at + 69 ≤ length (now out)) ⌝ }
     ensures { λ r. ⌜ Put (startRow last kind n) at (now (out .entry)) (now (out .exit)) r × (r ≤ at + 69) ⌝ }
 {
     if either(both(last == 0, kind == 1), both(last == 7, kind == 8)) {
@@ -105,7 +107,7 @@ pub(crate) fn put_answer(
     pots: u32,
     l: Line,
 ) -> usize
-    requires { ⌜ Answering l × (l .kind < 10) × (pots ≤ 999999999) × (at + 400 ≤ length (now out)) ⌝ }
+    requires { ⌜ Answering l × (l .kind < lineKinds) × (pots ≤ 999999999) × (at + 400 ≤ length (now out)) ⌝ }
     ensures { λ r. ⌜ Put (lineDrawn colour last pots (l .kind) (l .value)) at (now (out .entry)) (now (out .exit)) r × (r ≤ at + 400) ⌝ }
 {
     let kind = l.kind;

@@ -3,7 +3,7 @@ use borrow.Author.Needs.{needs}
 use Rattle.picture.proofs.Tables.{answering-none}
 use Rattle.picture.proofs.Finds.{found-here, found-on, found-none}
 use Rattle.picture.specs.declared.Line.{Line}
-use Rattle.picture.specs.Lines.{lineAt, lineFrom, answerLine}
+use Rattle.picture.specs.Lines.{lineKinds, lineAt, lineFrom, answerLine}
 use native.Mathlib.Omega.{arith}
 use mathlib.Core.Path.{_≡_, refl, sym, ap, _∙_}
 use Prim.Native.Nat.{_-_, _≤_, _<_}
@@ -11,10 +11,10 @@ use Rattle.picture.proofs.reading.read_line.Statement.{statement}
 use Rattle.picture.proofs.reading.read_line.Tie as tie
 
 abbrev Inv-loop : tie.InvT-loop
-Inv-loop line k₀ k = (k ≤ 10) × (lineFrom (10 - k) k line ≡ answerLine line)
+Inv-loop line k₀ k = (k ≤ lineKinds) × (lineFrom (lineKinds - k) k line ≡ answerLine line)
 
 abbrev μ-loop : tie.MeasureT-loop
-μ-loop line k₀ k = 10 - k
+μ-loop line k₀ k = lineKinds - k
 
 loop-holds : tie.Need-loop-holds Inv-loop μ-loop
 unfolding answerLine
@@ -24,7 +24,7 @@ line-at-requires : tie.Need-line-at-requires Inv-loop μ-loop
 line-at-requires c κs = search needs
 
 returns : tie.Need-returns Inv-loop μ-loop
-returns c = let z : lineAt (c .before .before .before .loop .k) ((c .before .before .before .before .before) .args .line .now) .kind < 10 = omega (arith, ap (λ (x : Line). x .kind) (c .before .line-at .ensures .0), c .if1 .taken) in (c .before .line-at .ensures .0 ∙ sym (found-here (c .before .before .before .loop .k) ((c .before .before .before .before .before) .args .line .now) (omega arith) z) ∙ c .before .before .before .loop .inv .1, c .before .line-at .ensures .1)
+returns c = let z : lineAt (c .before .before .before .loop .k) ((c .before .before .before .before .before) .args .line .now) .kind < lineKinds = omega (arith, ap (λ (x : Line). x .kind) (c .before .line-at .ensures .0), c .if1 .taken) in (c .before .line-at .ensures .0 ∙ sym (found-here (c .before .before .before .loop .k) ((c .before .before .before .before .before) .args .line .now) (omega arith) z) ∙ c .before .before .before .loop .inv .1, c .before .line-at .ensures .1)
 
 add-k : tie.Need-add-k Inv-loop μ-loop
 add-k c = search needs
@@ -33,7 +33,7 @@ loop-less : tie.Need-loop-less Inv-loop μ-loop
 loop-less c = search needs
 
 loop-again : tie.Need-loop-again Inv-loop μ-loop
-loop-again c = let z : 10 ≤ lineAt (c .before .before .before .loop .k) ((c .before .before .before .before .before) .args .line .now) .kind = omega (arith, ap (λ (x : Line). x .kind) (c .before .line-at .ensures .0), c .if1 .left) in (omega arith, sym (found-on (c .before .before .before .loop .k) ((c .before .before .before .before .before) .args .line .now) (omega arith) z) ∙ c .before .before .before .loop .inv .1)
+loop-again c = let z : lineKinds ≤ lineAt (c .before .before .before .loop .k) ((c .before .before .before .before .before) .args .line .now) .kind = omega (arith, ap (λ (x : Line). x .kind) (c .before .line-at .ensures .0), c .if1 .left) in (omega arith, sym (found-on (c .before .before .before .loop .k) ((c .before .before .before .before .before) .args .line .now) (omega arith) z) ∙ c .before .before .before .loop .inv .1)
 
 returns-2 : tie.Need-returns-2 Inv-loop μ-loop
 returns-2 c = (sym (found-none (c .before .loop .k) ((c .before .before .before) .args .line .now) (omega arith)) ∙ c .before .loop .inv .1, answering-none)
