@@ -1,6 +1,6 @@
 -- What the copier keeps between two bytes: an unfinished sheet or block lies in its 204 bytes, and has fewer LFs than lines are read together.
 use Prim.Native.Nat.{_<_}
-use Rattle.stream.specs.Stream.{Room, linesOf}
+use Rattle.lines.specs.Kept.{Room, linesOf}
 use Rattle.fair_copy.specs.declared.Copier.{Copier}
 
 pub record Between (c : Copier) : Type 0 where

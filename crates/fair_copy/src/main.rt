@@ -1,8 +1,8 @@
 // A log copied fair: a log on standard input, its sheet and its good blocks on standard output, a line about each block left out on standard error.
-use desk::log::refuse_sheet;
 use libc::STDERR_FILENO;
 use libc::STDIN_FILENO;
 use libc::STDOUT_FILENO;
+use lines::Mark;
 use logs::copy::copy_block;
 use logs::copy::copy_sheet;
 use logs::copy::next_number;
@@ -11,13 +11,13 @@ use output::ahead;
 use output::flush;
 use paper::STAND_IN;
 use paper::Sheet;
-use stream::Mark;
 use text::sheet::Opening;
 use text::sheet::read_sheet;
+use writing::put_bytes;
 ghost use mathlib.Core.Path.{_≡_};
 ghost use Prim.Native.Nat.{_+_, _≤_, _<_};
 ghost use lib.ListN.{length};
-ghost use Rattle.stream.specs.Stream.{Room, linesOf};
+ghost use Rattle.lines.specs.Kept.{Room, linesOf, keptMost};
 ghost use Rattle.fair_copy.specs.Kept.{Between};
 
 // The copier between two bytes: whether the sheet was read, whether it was bad, the sheet, how many blocks were read, and what is kept.
@@ -33,11 +33,12 @@ struct Copier {
 fn start() -> Copier
     ensures { λ r. ⌜ Between r ⌝ }
 {
-    let z = stream::empty();
+    let s = STAND_IN;
+    let z = lines::empty();
     Copier {
         opened: false,
         shut: false,
-        sheet: STAND_IN,
+        sheet: s,
         count: 0,
         mark: z,
     }
@@ -53,6 +54,16 @@ struct Step {
     noted: usize,
 }
 
+// The one line about a bad sheet.
+fn note_bad(notes: &mut [u8]) -> usize
+    ensures { λ r. ⌜ r ≤ length (now (notes .entry)) ⌝ }
+{
+    if notes.len() < 8 {
+        return 0;
+    }
+    put_bytes(notes, b"code=11\n")
+}
+
 // The lines of the sheet: where they are bad, nothing will be copied.
 fn open_sheet(stand_in: Sheet, lines: &[u8], copy: &mut [u8], notes: &mut [u8]) -> Step
     ensures { λ r. ⌜ (r .written ≤ length (now (copy .entry))) × (r .noted ≤ length (now (notes .entry))) ⌝ }
@@ -64,7 +75,7 @@ fn open_sheet(stand_in: Sheet, lines: &[u8], copy: &mut [u8], notes: &mut [u8]) 
             sheet: stand_in,
             count: 0,
             written: 0,
-            noted: refuse_sheet(notes),
+            noted: note_bad(notes),
         },
         Opening::Read(s) => {
             let k = copy_sheet(s, copy);
@@ -128,7 +139,7 @@ fn behind(t: Step) -> Copier
     ensures { λ r. ⌜ Between r ⌝ }
 {
     let s = t.sheet;
-    let z = stream::empty();
+    let z = lines::empty();
     Copier {
         opened: t.opened,
         shut: t.shut,
@@ -147,7 +158,7 @@ struct Fed {
 
 // A part of the log: its bytes up to the end of the sheet or of a block, which is copied, or all of them.
 fn feed(c: Copier, buf: &mut [u8], part: &[u8], copy: &mut [u8], notes: &mut [u8]) -> Fed
-    requires { ⌜ Between c × (204 ≤ length (now buf)) × (0 < length (now part)) ⌝ }
+    requires { ⌜ Between c × (keptMost ≤ length (now buf)) × (0 < length (now part)) ⌝ }
     ensures kept { λ r. ⌜ Between (r .copier) ⌝ }
     ensures used { λ r. ⌜ (r .used ≤ length (now (part .entry))) × (0 < r .used) ⌝ }
     ensures wrote { λ r. ⌜ (r .written ≤ length (now (copy .entry))) × (r .noted ≤ length (now (notes .entry))) ⌝ }
@@ -161,8 +172,8 @@ fn feed(c: Copier, buf: &mut [u8], part: &[u8], copy: &mut [u8], notes: &mut [u8
         };
     }
     let m = c.mark;
-    let want = stream::lines_of(c.opened);
-    let g = stream::gather(buf, m, part, want);
+    let want = lines::lines_of(c.opened);
+    let g = lines::gather(buf, m, part, want);
     let k = g.mark;
     let n = k.lines;
     if n < want {
@@ -228,7 +239,7 @@ fn serve_one(
     notes: &mut [u8],
     said: usize,
 ) -> Served
-    requires { ⌜ Between c × (204 ≤ length (now buf)) × (from < length (now part)) × (at ≤ length (now copy)) × (said ≤ length (now notes)) ⌝ }
+    requires { ⌜ Between c × (keptMost ≤ length (now buf)) × (from < length (now part)) × (at ≤ length (now copy)) × (said ≤ length (now notes)) ⌝ }
     ensures { λ r. ⌜ Between (r .copier) × (from < r .from) × (r .from ≤ length (now (part .entry))) × (r .at ≤ length (now (copy .entry))) × (r .said ≤ length (now (notes .entry))) ⌝ }
 {
     let w = make_room(at, said, copy, notes);
@@ -248,7 +259,7 @@ fn serve_one(
     }
 }
 
-// The copier after some input, whether a write failed, and whether to go on.
+// The copier after some input, whether reading or writing failed, and whether to go on.
 struct Turn {
     copier: Copier,
     failed: bool,
@@ -264,7 +275,7 @@ fn write_out(copy: &[u8], notes: &[u8]) -> bool {
 
 // Copies every block that ends in this part of the input, in one write where the copies fit.
 fn serve(c: Copier, buf: &mut [u8], part: &[u8]) -> Turn
-    requires { ⌜ Between c × (204 ≤ length (now buf)) ⌝ }
+    requires { ⌜ Between c × (keptMost ≤ length (now buf)) ⌝ }
     ensures { λ r. ⌜ Between (r .copier) ⌝ }
 {
     let mut copy = io::large_buffer();
@@ -296,9 +307,9 @@ fn serve(c: Copier, buf: &mut [u8], part: &[u8]) -> Turn
     }
 }
 
-// One read, and the copies of it.
+// One read, and the copies of it. A read that fails is no end of the input: then nothing more is said.
 fn read_some(c: Copier, buf: &mut [u8]) -> Turn
-    requires { ⌜ Between c × (204 ≤ length (now buf)) ⌝ }
+    requires { ⌜ Between c × (keptMost ≤ length (now buf)) ⌝ }
     ensures { λ r. ⌜ Between (r .copier) ⌝ }
 {
     let mut input = io::large_buffer();
@@ -306,7 +317,7 @@ fn read_some(c: Copier, buf: &mut [u8]) -> Turn
     if got <= 0 {
         return Turn {
             copier: c,
-            failed: false,
+            failed: got < 0,
             more: false,
         };
     }
@@ -316,7 +327,7 @@ fn read_some(c: Copier, buf: &mut [u8]) -> Turn
 
 // Reads to the end of the input. A proved loop has to end, so it counts its turns down from a number that no run uses up.
 fn read_all(buf: &mut [u8]) -> Turn
-    requires { ⌜ 204 ≤ length (now buf) ⌝ }
+    requires { ⌜ keptMost ≤ length (now buf) ⌝ }
     ensures { λ r. ⌜ Between (r .copier) ⌝ }
 {
     let mut copier = start();
@@ -339,7 +350,7 @@ fn read_all(buf: &mut [u8]) -> Turn
 
 // The input has ended: a block that is not whole is left out, and a sheet that is not whole is bad.
 fn end(c: Copier, buf: &[u8])
-    requires { ⌜ Between c × (204 ≤ length (now buf)) ⌝ }
+    requires { ⌜ Between c × (keptMost ≤ length (now buf)) ⌝ }
 {
     let m = c.mark;
     let e = m.count;

@@ -1,8 +1,9 @@
 -- One theorem at the top: for every list of parts, whatever bytes they hold and wherever they are cut, the bytes that are handed to `write`, and that the mission's
 -- demands 1, 2 and 3 hold of them. Assumes nothing.
-use Prim.Native.Nat.{ℕ}
+use Prim.Native.Nat.{ℕ, _≤_}
 use mathlib.Core.Path.{_≡_, refl, sym, subst}
 use mathlib.Core.List.{List, [], _∷_}
+use lib.ListN.{length}
 use Rattle.laws.specs.Lists.{All}
 use Rattle.paper.specs.declared.Sheet.{Sheet}
 use Rattle.text.specs.TableSheet.{sheetOf}
@@ -15,14 +16,16 @@ use Rattle.history.specs.AsNoted.{AsNoted}
 use Rattle.history.specs.Notebook.{notebook}
 use Rattle.history.proofs.AsNoted.{as-noted}
 use Rattle.history.proofs.Stacks.{stacks-are}
-use Rattle.parts.specs.Parts.{Served, whole}
+use Rattle.lines.specs.Kept.{keptMost}
+use Rattle.stream.specs.Feeding.{longestAnswer}
+use Rattle.stream.specs.Parts.{servedOf, whole}
 use Rattle.mission.specs.Blocks.{Given, takenIn, givenOf}
 use Rattle.mission.specs.Demands.{Demand1, Demand2, Demand3, Right}
 use Rattle.mission.specs.Box.{Answered, Box}
 use Rattle.mission.proofs.Demands.{shown-right}
 use Rattle.mission.proofs.Reached.{reached}
 use Rattle.mission.proofs.Written.{written, written-bad}
-use Rattle.parts.proofs.Parts.{parts-whole}
+use Rattle.stream.proofs.Plenty.{parts-output}
 
 each : (P Q : Given → Type 0) → ((g : Given) → P g → Q g) → (gs : List Given) → All P gs → All Q gs
 each P Q f [] a = tt
@@ -49,6 +52,7 @@ log-box log = go (sheetOf log) refl
     go (Read s) e = log-answered log s e
     go Bad e = written-bad log e
 
--- of its parts
-pub the-box : {parts : List (List ℕ)} {bytes : List ℕ} → Served parts bytes → Box (sheetOf (whole parts)) (whole parts) bytes
-the-box {parts} s = subst (Box (sheetOf (whole parts)) (whole parts)) (sym (parts-whole s)) (log-box (whole parts))
+-- of its parts, any number of them, none and empty ones too: what is handed to `write` where each call of `feed` and the close are lent room for the longest answer
+pub the-box : (room : ℕ) (buf : List ℕ) (parts : List (List ℕ)) → longestAnswer ≤ room → keptMost ≤ length buf
+    → Box (sheetOf (whole parts)) (whole parts) (servedOf room buf parts .bytes)
+the-box room buf parts e n = subst (Box (sheetOf (whole parts)) (whole parts)) (sym (parts-output room buf parts e n)) (log-box (whole parts))

@@ -2,6 +2,8 @@
 ghost use mathlib.Core.Path.{_≡_};
 ghost use Prim.Native.Nat.{_+_, _≤_};
 ghost use lib.ListN.{length};
+ghost use lib.Dec.{leb};
+ghost use Rattle.laws.specs.Tests.{pick};
 
 // How much is still to be written, and whether what was written could be.
 pub struct Flushed {
@@ -9,9 +11,10 @@ pub struct Flushed {
     pub ok: bool,
 }
 
-// Writes the bytes out where there are more than `most` of them; a caller says how many leave room enough behind them.
+// Writes the bytes out where there are more than `most` of them; a caller says how many leave room enough behind them. Then none is left, else all are.
 pub fn flush(fd: i32, bytes: &[u8], most: usize) -> Flushed
-    ensures { λ r. ⌜ (r .at ≤ length (now (bytes .entry))) × (r .at ≤ most) ⌝ }
+    ensures left { λ r. ⌜ r .at ≡ pick (leb (length (now (bytes .entry))) most) (length (now (bytes .entry))) 0 ⌝ }
+    ensures within { λ r. ⌜ (r .at ≤ length (now (bytes .entry))) × (r .at ≤ most) ⌝ }
 {
     let at = bytes.len();
     if at <= most {

@@ -36,7 +36,7 @@ fn show_byte(colour: bool, s: Screen, buf: &mut [u8], b: u8, out: &mut [u8], at:
     }
 }
 
-// The screen after some input, whether a write failed, and whether to go on.
+// The screen after some input, whether reading or writing failed, and whether to go on.
 struct Turn {
     screen: Screen,
     failed: bool,
@@ -74,7 +74,7 @@ fn show(colour: bool, s: Screen, buf: &mut [u8], part: &[u8]) -> Turn
     }
 }
 
-// One read, and the picture of it.
+// One read, and the picture of it. A read that fails is no end of the input: then nothing more is drawn.
 fn read_some(colour: bool, s: Screen, buf: &mut [u8]) -> Turn
     requires { ⌜ Held s × (41 ≤ length (now buf)) ⌝ }
     ensures { λ r. ⌜ Held (r .screen) ⌝ }
@@ -84,7 +84,7 @@ fn read_some(colour: bool, s: Screen, buf: &mut [u8]) -> Turn
     if got <= 0 {
         return Turn {
             screen: s,
-            failed: false,
+            failed: got < 0,
             more: false,
         };
     }

@@ -1,104 +1,252 @@
--- Feeding a part, in place or by way of the buffer, writes the stream's answers to it, and leaves a clerk and a rest that the stream goes on from.
--- For any part, however it is cut, whatever comes next, and a sheet with 562 bytes of room. Assumes nothing.
+-- A call of `feed`: shut, in place, or by way of the buffer, it does with the bytes that it uses up what they do one by one. For the proofs of the functions.
 use mathlib.Core.Path.{_≡_, refl, sym, ap, subst, _∙_}
-use mathlib.Core.List.{List, [], _∷_, _++_}
-use mathlib.Core.Bool.{Bool, true, false}
+use mathlib.Core.List.{List, []}
+use mathlib.Core.Bool.{Bool, true, false, true≢false}
 use mathlib.Core.Logic.{⊎-elim}
-use Prim.Native.Nat.{ℕ, _≤_, _<_}
+use Prim.Native.Nat.{ℕ, _-_, _≤_, _<_}
 use native.Mathlib.Omega.{arith}
 use lib.ListN.{length, take, drop}
 use lib.Seq.{take-append-seam}
-use lib.Dec.{leb}
-use borrow.Author.Tests.{leb-true, le-leb}
-use Rattle.laws.specs.Tests.{pick}
-use Rattle.laws.proofs.Tests.{test}
-use Rattle.laws.proofs.Sums.{le-or-lt}
-use Rattle.writing.specs.Sheet.{over}
+use lib.Dec.{eqb}
+use borrow.Author.Tests.{eqb-true}
+use Rattle.laws.specs.Tests.{pick, both}
+use Rattle.laws.proofs.Tests.{test, both-true}
+use Rattle.laws.proofs.Conjunction.{both-none}
+use Rattle.writing.specs.Sheet.{over, Wrote}
+use Rattle.text.specs.TableSheet.{sheetOf}
+use Rattle.text.specs.declared.sheet.Opening.{Opening}
+use Rattle.text.specs.declared.sheet.Opening.the-variants.{Read, Bad}
+use Rattle.lines.specs.declared.Mark.{Mark}
+use Rattle.lines.specs.declared.Got.{Got}
+use Rattle.lines.specs.Kept.{Kept, nothing, Gathered, gatherOf, keptIn, markOf, gotOf, Room}
+use Rattle.lines.proofs.Keeps.{kept-back, mark-back, none-kept}
 use Rattle.table.specs.declared.table.Table.{Table}
-use Rattle.desk.specs.Desk.{judgedOf, blockBytes}
-use Rattle.desk.proofs.Whole.{answered-parts}
-use Rattle.stream.specs.declared.Mark.{Mark}
 use Rattle.stream.specs.declared.Clerk.{Clerk}
-use Rattle.stream.specs.declared.Step.{Step}
+use Rattle.stream.specs.declared.Ran.{Ran}
 use Rattle.stream.specs.declared.Fed.{Fed}
-use Rattle.stream.specs.Stream.{Kept, nothing, keepOf, Gathered, gatherOf, stateOf, streamFrom, stepOf, stepBytes, Held, FedAs}
-use Rattle.stream.specs.InPlace.{InPlace, inPlaceOf, ranOf, goesInPlace, FedEither}
-use Rattle.stream.proofs.Cuts.{gather-whole, gather-next, part-ends, part-kept}
-use Rattle.stream.proofs.InPlace.{in-place-streams}
-use Rattle.stream.proofs.Either.{awaits-is, goes-when}
-use Rattle.stream.proofs.Longest.{longest}
+use Rattle.stream.specs.declared.Step.{Step}
+use Rattle.stream.specs.Onward.{State, Unread, Open, Shut, Given, still, openOf, linesDone, linesOf, onward, anyShort}
+use Rattle.stream.specs.InPlace.{InPlace, answersFront, inPlaceOf, ranOf, awaitsBlock}
+use Rattle.stream.specs.Feeding.{stateAt, stateOf, keptBy, clerkIn, Held, Gave, heardOf, FedOn, goesInPlace, usedOf, bufferOf}
+use Rattle.stream.proofs.Onward.{shut-onward, kept-onward, ends-onward}
+use Rattle.stream.proofs.Runs.{place-none, uses-some, uses-none}
+use Rattle.stream.proofs.InPlace.{placed, placed-front}
+use Rattle.stream.proofs.Steps.{state-shut, state-else}
 
--- a part that ends no block is used up
-gather-all : (k : Kept) (part : List ℕ) → gatherOf 5 k part .kept .lines < 5 → gatherOf 5 k part .left ≡ []
-gather-all k [] h = refl
-gather-all k (b ∷ bs) h = ⊎-elim
-    (λ e. absurd (omega (arith, leb-true 5 (keepOf k b .lines) e, subst (λ (g : Gathered). g .kept .lines < 5) (gather-whole k b bs e) h)))
-    (λ e. ap (λ (g : Gathered). g .left) (gather-next k b bs e) ∙ gather-all (keepOf k b) bs (subst (λ (g : Gathered). g .kept .lines < 5) (gather-next k b bs e) h))
-    (test (leb 5 (keepOf k b .lines)))
+-- ---- the two kinds of lines alike
 
-empty-state : (m : Mark) (buf : List ℕ) → m .count ≡ 0 → m .lines ≡ 0 → m .width ≡ 0 → stateOf m buf ≡ nothing
-empty-state m buf e f g = rw (e, f, g)
+kept-heard : (room : ℕ) (opened : Bool) (t : Table) (k : Kept) (part : List ℕ) → gatherOf (linesOf opened) k part .kept .lines < linesOf opened
+    → onward room (stateAt opened t) k (take (gatherOf (linesOf opened) k part .used) part) ≡ still (stateAt opened t) (gatherOf (linesOf opened) k part .kept)
+kept-heard room true t k part h = kept-onward room (Open t) refl k part h
+kept-heard room false t k part h = kept-onward room Unread refl k part h
 
--- a clerk that has read its sheet
-abbrev reading : Table → Mark → Clerk
-reading t m = record { opened = true; shut = false; table = t; mark = m }
+ends-heard : (room : ℕ) (opened : Bool) (t : Table) (k : Kept) (part : List ℕ) → k .lines < linesOf opened → linesOf opened ≤ gatherOf (linesOf opened) k part .kept .lines
+    → onward room (stateAt opened t) k (take (gatherOf (linesOf opened) k part .used) part) ≡ linesDone room (stateAt opened t) (gatherOf (linesOf opened) k part .kept .bytes)
+ends-heard room true t k part l h = ends-onward room (Open t) refl k part l h
+ends-heard room false t k part l h = ends-onward room Unread refl k part l h
 
-module _ (t : Table) (m : Mark) (buf part more : List ℕ) where
-  -- the stream's answers are what was written, and what it answers from then on
-  abbrev Streamed : Table → Kept → List ℕ → List ℕ → Type 0
-  Streamed u k bs left = streamFrom t (stateOf m buf) (part ++ more) ≡ bs ++ streamFrom u k (left ++ more)
+-- nothing is kept behind whole lines
+pub done-nothing : (room : ℕ) (s : State) (lines : List ℕ) → linesDone room s lines .kept ≡ nothing
+done-nothing room (Open t) lines = refl
+done-nothing room Shut lines = refl
+done-nothing room Unread lines = go (sheetOf lines)
+  where
+    go : (o : Opening) → openOf room o .kept ≡ nothing
+    go (Read s) = refl
+    go Bad = refl
 
-  module _ {out buf2 out2 : List ℕ} {r : Fed} (h : Held (reading t m)) where
-    in-place : goesInPlace (reading t m) part (length out) ≡ true → FedEither (reading t m) buf part out buf2 out2 r
-        → Streamed (r .clerk .table) (stateOf (r .clerk .mark) buf2) (take (r .written) out2) (drop (r .used) part)
-    in-place e f =
-        let p : InPlace = inPlaceOf t part (length out) in
-        let w = awaits-is true m (goes-when (reading t m) part (length out) e .1) in
-        let none : stateOf m buf ≡ nothing = empty-state m buf (omega (arith, h .room .count, w .1, w .2)) (w .1) (w .2) in
-        let bs : take (length (p .bytes)) out2 ≡ p .bytes = ap (take (length (p .bytes))) (f .placed e .1) ∙ take-append-seam (p .bytes) (drop (length (p .bytes)) out) in
-        subst (λ (x : Fed). Streamed (x .clerk .table) (stateOf (x .clerk .mark) buf2) (take (x .written) out2) (drop (x .used) part)) (sym (f .placed e .0))
-        (ap (λ (k : Kept). streamFrom t k (part ++ more)) none
-        ∙ in-place-streams t part more (length out)
-        ∙ ap (λ (x : List ℕ). x ++ streamFrom (p .table) nothing (drop (ranOf p part .used) part ++ more)) (sym bs))
+pub mark-in : (t : Table) (s : State) (m : Mark) → clerkIn t s m .mark ≡ m
+mark-in t Unread m = refl
+mark-in t (Open u) m = refl
+mark-in t Shut m = refl
 
-    kept : gatherOf 5 (stateOf m buf) part .kept .lines < 5 → FedAs (reading t m) buf part out buf2 out2 r
-        → Streamed (r .clerk .table) (stateOf (r .clerk .mark) buf2) (take (r .written) out2) (drop (r .used) part)
-    kept n f =
-        let k : Kept = gatherOf 5 (stateOf m buf) part .kept in
-        let g = f .kept refl n in
-        let left : drop (r .used) part ≡ [] = f .left refl ∙ gather-all (stateOf m buf) part n in
-        part-kept t (stateOf m buf) part more n
-        ∙ ap (λ (x : Kept). streamFrom t x more) (sym (g .0))
-        ∙ ap (λ (x : Table). streamFrom x (stateOf (r .clerk .mark) buf2) more) (sym (g .3))
-        ∙ ap (λ (x : List ℕ). streamFrom (r .clerk .table) (stateOf (r .clerk .mark) buf2) (x ++ more)) (sym left)
-        ∙ ap (λ (x : ℕ). take x out2 ++ streamFrom (r .clerk .table) (stateOf (r .clerk .mark) buf2) (drop (r .used) part ++ more)) (sym (g .4))
+-- a clerk that is not shut, by whether its sheet was read
+abbrev pub clerkAt : Bool → Table → Mark → Clerk
+clerkAt o t m = record { opened = o; shut = false; table = t; mark = m }
 
-    whole : 5 ≤ gatherOf 5 (stateOf m buf) part .kept .lines → 562 ≤ length out → FedAs (reading t m) buf part out buf2 out2 r
-        → Streamed (r .clerk .table) (stateOf (r .clerk .mark) buf2) (take (r .written) out2) (drop (r .used) part)
-    unfolding stepOf stepBytes
-    whole n room f =
-        let block : List ℕ = gatherOf 5 (stateOf m buf) part .kept .bytes in
-        let bs : List ℕ = blockBytes t block in
-        let left : List ℕ = gatherOf 5 (stateOf m buf) part .left in
-        let g = f .whole refl n in
-        let a = answered-parts t block out in
-        let fits : leb (length bs) (length out) ≡ true = le-leb (length bs) (length out) (omega (arith, longest t block (h .sound))) in
-        let full : pick (leb (length bs) (length out)) bs [] ≡ bs = ap (λ (x : Bool). pick x bs []) fits in
-        let table : r .clerk .table ≡ judgedOf t block .table =
-        ap (λ (x : Step). x .table) (g .1) ∙ a .0 ∙ ap (λ (x : Bool). pick x (judgedOf t block .table) t) fits in
-        let count : r .written ≡ length bs = ap (λ (x : Step). x .written) (g .1) ∙ a .1 .count ∙ ap length full in
-        let sheet : out2 ≡ over bs out = g .2 ∙ a .1 .sheet ∙ ap (λ (x : List ℕ). over x out) full in
-        let front : take (r .written) out2 ≡ bs = ap (λ (x : ℕ). take x out2) count ∙ ap (take (length bs)) sheet ∙ take-append-seam bs (drop (length bs) out) in
-        part-ends t (stateOf m buf) part more (h .lines) n
-        ∙ ap (λ (x : List ℕ). x ++ streamFrom (judgedOf t block .table) nothing (left ++ more)) (sym front)
-        ∙ ap (λ (x : Table). take (r .written) out2 ++ streamFrom x nothing (left ++ more)) (sym table)
-        ∙ ap (λ (x : Kept). take (r .written) out2 ++ streamFrom (r .clerk .table) x (left ++ more)) (sym (g .0))
-        ∙ ap (λ (x : List ℕ). take (r .written) out2 ++ streamFrom (r .clerk .table) (stateOf (r .clerk .mark) buf2) (x ++ more)) (sym (f .left refl))
+clerk-at : (opened : Bool) (t : Table) (m : Mark) → clerkAt opened t m ≡ clerkIn t (stateAt opened t) m
+clerk-at true t m = refl
+clerk-at false t m = refl
 
-    pub fed-streams : 562 ≤ length out → FedEither (reading t m) buf part out buf2 out2 r
-        → streamFrom t (stateOf m buf) (part ++ more)
-        ≡ take (r .written) out2 ++ streamFrom (r .clerk .table) (stateOf (r .clerk .mark) buf2) (drop (r .used) part ++ more)
-    fed-streams room f = ⊎-elim
-        (λ e. in-place e f)
-        (λ e. ⊎-elim (λ n. whole n room (f .gathered e)) (λ n. kept n (f .gathered e)) (le-or-lt 5 (gatherOf 5 (stateOf m buf) part .kept .lines)))
-        (test (goesInPlace (reading t m) part (length out)))
+-- ---- by way of the buffer
+
+-- what the bytes lead to, said otherwise
+fed-by : {c : Clerk} {buf part out buf2 out2 : List ℕ} {r : Fed} (x : Given) → heardOf (length out) c buf part (r .used) ≡ x
+    → Gave (c .table) x out out2 (r .clerk) (r .written) (r .short) → keptBy (r .clerk) buf2 ≡ x .kept → FedOn (length out) c buf part out buf2 out2 r
+fed-by {c} {buf} {part} {out} {buf2} {out2} {r} x e g k = record {
+  gave = subst (λ (y : Given). Gave (c .table) y out out2 (r .clerk) (r .written) (r .short)) (sym e) g;
+  kept = k ∙ ap (λ (y : Given). y .kept) (sym e);
+}
+
+module _ (opened : Bool) (t : Table) (m : Mark) (buf part out buf2 : List ℕ) {got : Got} {want : ℕ} (n : want ≡ linesOf opened)
+    (e : got ≡ gotOf (gatherOf want (keptIn m buf) part)) (f : buf2 ≡ over (gatherOf want (keptIn m buf) part .kept .bytes) buf) where
+  abbrev g : Gathered
+  g = gatherOf (linesOf opened) (keptIn m buf) part
+
+  got-is : got ≡ gotOf g
+  got-is = e ∙ ap (λ (w : ℕ). gotOf (gatherOf w (keptIn m buf) part)) n
+
+  buf-is : buf2 ≡ over (g .kept .bytes) buf
+  buf-is = f ∙ ap (λ (w : ℕ). over (gatherOf w (keptIn m buf) part .kept .bytes) buf) n
+
+  pub used-is : (got .used ≡ g .used) × (buf2 ≡ over (g .kept .bytes) buf)
+  used-is = (ap (λ (x : Got). x .used) got-is, buf-is)
+
+  mark-is : got .mark ≡ markOf (g .kept)
+  mark-is = ap (λ (x : Got). x .mark) got-is
+
+  heard-is : heardOf (length out) (clerkAt opened t m) buf part (got .used) ≡ onward (length out) (stateAt opened t) (keptIn m buf) (take (g .used) part)
+  heard-is =
+      ap (λ (s : State). onward (length out) s (keptIn m buf) (take (got .used) part)) (state-else (clerkAt opened t m) refl)
+      ∙ ap (λ (i : ℕ). onward (length out) (stateAt opened t) (keptIn m buf) (take i part)) (used-is .0)
+
+  pub fed-kept : got .mark .lines < want
+      → FedOn (length out) (clerkAt opened t m) buf part out buf2 out (record { clerk = clerkAt opened t (got .mark); used = got .used; written = 0; short = false })
+  fed-kept h =
+      fed-by (still (stateAt opened t) (g .kept))
+      (heard-is ∙ kept-heard (length out) opened t (keptIn m buf) part (omega (arith, n, ap (λ (x : Mark). x .lines) mark-is)))
+      (record { clerk = clerk-at opened t (got .mark) ∙ ap (clerkIn t (stateAt opened t)) mark-is; wrote = record { count = refl; sheet = refl }; short = refl })
+      (ap (λ (x : Mark). keptIn x buf2) mark-is ∙ ap (keptIn (markOf (g .kept))) buf-is ∙ kept-back (g .kept) buf)
+
+  pub fed-whole : {s : Step} {out2 : List ℕ} → m .lines < linesOf opened → want ≤ got .mark .lines
+      → Gave t (linesDone (length out) (stateAt opened t) (take (got .mark .count - 0) (drop 0 buf2))) out out2 (s .clerk) (s .written) (s .short)
+      → FedOn (length out) (clerkAt opened t m) buf part out buf2 out2 (record { clerk = s .clerk; used = got .used; written = s .written; short = s .short })
+  fed-whole {s} {out2} l h w =
+      let i : got .mark .count - 0 ≡ length (g .kept .bytes) = omega (arith, ap (λ (x : Mark). x .count) mark-is) in
+      let bytes : take (got .mark .count - 0) (drop 0 buf2) ≡ g .kept .bytes =
+      ap (λ (j : ℕ). take j buf2) i ∙ ap (take (length (g .kept .bytes))) buf-is ∙ take-append-seam (g .kept .bytes) (drop (length (g .kept .bytes)) buf) in
+      let x : Given = linesDone (length out) (stateAt opened t) (g .kept .bytes) in
+      let v : Gave t x out out2 (s .clerk) (s .written) (s .short) =
+      subst (λ (y : List ℕ). Gave t (linesDone (length out) (stateAt opened t) y) out out2 (s .clerk) (s .written) (s .short)) bytes w in
+      let z : x .kept ≡ nothing = done-nothing (length out) (stateAt opened t) (g .kept .bytes) in
+      let mark : s .clerk .mark ≡ markOf nothing = ap (λ (d : Clerk). d .mark) (v .clerk) ∙ mark-in t (x .state) (markOf (x .kept)) ∙ ap markOf z in
+      fed-by x
+      (heard-is ∙ ends-heard (length out) opened t (keptIn m buf) part l (omega (arith, n, ap (λ (y : Mark). y .lines) mark-is)))
+      v
+      (ap (λ (y : Mark). keptIn y buf2) mark ∙ sym z)
+
+-- ---- shut
+
+pub fed-shut : (c : Clerk) (buf part out : List ℕ) {u : ℕ} → Held c → c .mark .count ≤ length buf → c .shut ≡ true
+    → FedOn (length out) c buf part out buf out (record { clerk = c; used = u; written = 0; short = false })
+fed-shut c buf part out {u} h n e =
+    fed-by (still Shut (keptBy c buf))
+    (ap (λ (s : State). onward (length out) s (keptBy c buf) (take u part)) (state-shut c e) ∙ shut-onward (length out) (keptBy c buf) (take u part))
+    (record { clerk = same (h .shut e) e (mark-back (c .mark) buf n); wrote = record { count = refl; sheet = refl }; short = refl })
+    refl
+  where
+    same : {o p s q : Bool} {m l : Mark} → o ≡ p → s ≡ q → m ≡ l
+        → _≡_ {A = Clerk} (record { opened = o; shut = s; table = c .table; mark = m }) (record { opened = p; shut = q; table = c .table; mark = l })
+    same a b d = cc
+
+-- ---- in place
+
+-- a clerk that awaits a block has read the sheet and keeps nothing
+pub awaits-is : (opened : Bool) (m : Mark) → awaitsBlock opened m ≡ true → (opened ≡ true) × (m .lines ≡ 0) × (m .width ≡ 0)
+awaits-is opened m h =
+    let l = both-true (eqb (m .lines) 0) (both (eqb (m .width) 0) opened) h in
+    let w = both-true (eqb (m .width) 0) opened (l .1) in
+    (w .1, eqb-true (m .lines) 0 (l .0), eqb-true (m .width) 0 (w .0))
+
+module _ (t : Table) (m : Mark) (part out : List ℕ) {out1 : List ℕ} {a : Ran} (e : a ≡ ranOf (inPlaceOf t part (length out)) part)
+    (b : out1 ≡ over (inPlaceOf t part (length out) .bytes) out) where
+  front-none : a .used ≡ 0 → answersFront t part (length out) ≡ false
+  front-none z = ⊎-elim (λ h. absurd (omega (arith, uses-some t part (length out) h, ap (λ (x : Ran). x .used) e))) (λ h. h) (test (answersFront t part (length out)))
+
+  front-some : (a .used ≡ 0 → ⊥) → answersFront t part (length out) ≡ true
+  front-some n = ⊎-elim (λ h. h) (λ h. absurd (n (ap (λ (x : Ran). x .used) e ∙ uses-none t part (length out) h))) (test (answersFront t part (length out)))
+
+  -- no block was answered: nothing was written
+  pub none-written : a .used ≡ 0 → out1 ≡ out
+  none-written z =
+      b ∙ ap (λ (p : List ℕ). over p out) (ap (λ (x : InPlace). x .bytes) (place-none t part (length out) (front-none z)))
+
+  module _ (buf : List ℕ) (r : Room m) (w : awaitsBlock true m ≡ true) where
+    pub fed-placed : {z : Mark} → (a .used ≡ 0 → ⊥) → z ≡ markOf nothing
+        → FedOn (length out) (clerkAt true t m) buf part out buf out1 (record { clerk = clerkAt true (a .table) z; used = a .used; written = a .written; short = false })
+    fed-placed {z} n y =
+        let p = inPlaceOf t part (length out) in
+        let q = placed (length out) t part in
+        let k = awaits-is true m w in
+        let heard : heardOf (length out) (clerkAt true t m) buf part (a .used) ≡ onward (length out) (Open t) nothing (q .front) =
+        ap (λ (s : State). onward (length out) s (keptIn m buf) (take (a .used) part)) (state-else (clerkAt true t m) refl)
+        ∙ ap (λ (x : Kept). onward (length out) (Open t) x (take (a .used) part)) (none-kept m buf r (k .1) (k .2))
+        ∙ ap (onward (length out) (Open t) nothing) (ap (λ (x : Ran). take (x .used) part) e ∙ placed-front (length out) t part) in
+        let x : Given = onward (length out) (Open t) nothing (q .front) in
+        fed-by x heard
+        (record {
+          clerk = same (ap (λ (u : Ran). u .table) e) y ∙ ap (λ (s : State). clerkIn t s (markOf nothing)) (sym (q .state)) ∙ ap (λ (u : Kept). clerkIn t (x .state) (markOf u)) (sym (q .kept));
+          wrote = record { count = ap (λ (u : Ran). u .written) e ∙ ap length (sym (q .bytes)); sheet = b ∙ ap (λ (l : List ℕ). over l out) (sym (q .bytes)) };
+          short = sym (q .short);
+        })
+        (ap (λ (u : Mark). keptIn u buf) y ∙ sym (q .kept))
+      where
+        same : {u v : Table} {x y : Mark} → u ≡ v → x ≡ y → clerkAt true u x ≡ clerkIn t (Open v) y
+        same p q = cc
+
+    -- how far
+    pub used-placed : (a .used ≡ 0 → ⊥) → (a .used ≡ usedOf (clerkAt true t m) buf part (length out)) × (buf ≡ bufferOf (clerkAt true t m) buf part (length out))
+    unfolding usedOf bufferOf
+    used-placed n =
+        let goes : goesInPlace (clerkAt true t m) part (length out) ≡ true = ap (λ (x : Bool). both x (answersFront t part (length out))) w ∙ front-some n in (
+          ap (λ (x : Ran). x .used) e
+              ∙ sym (ap (λ (x : Bool). pick x (ranOf (inPlaceOf t part (length out)) part .used) (gatherOf 5 (keptIn m buf) part .used)) goes),
+          sym (ap (λ (x : Bool). pick x buf (over (gatherOf 5 (keptIn m buf) part .kept .bytes) buf)) goes),
+        )
+
+-- ---- how far any call goes
+
+module _ (c : Clerk) (buf part : List ℕ) (room : ℕ) where
+  pub used-shut : c .shut ≡ true → (length part ≡ usedOf c buf part room) × (buf ≡ bufferOf c buf part room)
+  unfolding usedOf bufferOf
+  used-shut e = (
+    sym (ap (λ (x : Bool). pick x (length part) (pick (goesInPlace c part room) (ranOf (inPlaceOf (c .table) part room) part .used) (gatherOf (linesOf (c .opened)) (keptBy c buf) part .used))) e),
+    sym (ap (λ (x : Bool). pick x buf (pick (goesInPlace c part room) buf (over (gatherOf (linesOf (c .opened)) (keptBy c buf) part .kept .bytes) buf))) e),
+  )
+
+  pub used-gathered : {u : ℕ} {buf2 : List ℕ} → c .shut ≡ false → goesInPlace c part room ≡ false
+      → (u ≡ gatherOf (linesOf (c .opened)) (keptBy c buf) part .used) × (buf2 ≡ over (gatherOf (linesOf (c .opened)) (keptBy c buf) part .kept .bytes) buf)
+      → (u ≡ usedOf c buf part room) × (buf2 ≡ bufferOf c buf part room)
+  unfolding usedOf bufferOf
+  used-gathered {u} {buf2} e z h = (
+    h .0
+        ∙ sym (ap (λ (x : Bool). pick x (length part) (pick (goesInPlace c part room) (ranOf (inPlaceOf (c .table) part room) part .used) (gatherOf (linesOf (c .opened)) (keptBy c buf) part .used))) e
+        ∙ ap (λ (x : Bool). pick x (ranOf (inPlaceOf (c .table) part room) part .used) (gatherOf (linesOf (c .opened)) (keptBy c buf) part .used)) z),
+    h .1
+        ∙ sym (ap (λ (x : Bool). pick x buf (pick (goesInPlace c part room) buf (over (gatherOf (linesOf (c .opened)) (keptBy c buf) part .kept .bytes) buf))) e
+        ∙ ap (λ (x : Bool). pick x buf (over (gatherOf (linesOf (c .opened)) (keptBy c buf) part .kept .bytes) buf)) z),
+  )
+
+  pub used-kept : {a : Bool} {u : ℕ} {buf2 : List ℕ} → c .shut ≡ false → a ≡ awaitsBlock (c .opened) (c .mark) → a ≡ false
+      → (u ≡ gatherOf (linesOf (c .opened)) (keptBy c buf) part .used) × (buf2 ≡ over (gatherOf (linesOf (c .opened)) (keptBy c buf) part .kept .bytes) buf)
+      → (u ≡ usedOf c buf part room) × (buf2 ≡ bufferOf c buf part room)
+  used-kept e f n h = used-gathered e (ap (λ (x : Bool). both x (answersFront (c .table) part room)) (sym f ∙ n)) h
+
+-- no block was answered in place
+pub used-none : (t : Table) (m : Mark) (part out : List ℕ) {a : Ran} → a ≡ ranOf (inPlaceOf t part (length out)) part → (buf : List ℕ) {u : ℕ} {buf2 : List ℕ} → a .used ≡ 0
+    → (u ≡ gatherOf 5 (keptIn m buf) part .used) × (buf2 ≡ over (gatherOf 5 (keptIn m buf) part .kept .bytes) buf)
+    → (u ≡ usedOf (clerkAt true t m) buf part (length out)) × (buf2 ≡ bufferOf (clerkAt true t m) buf part (length out))
+used-none t m part out e buf z h =
+    used-gathered (clerkAt true t m) buf part (length out) refl (ap (both (awaitsBlock true m)) (front-none t m part out e refl z) ∙ both-none (awaitsBlock true m)) h
+
+-- ---- a clerk that is not shut, field by field
+
+pub clerk-is : (c : Clerk) (o : Bool) → c .shut ≡ false → c .opened ≡ o → c ≡ clerkAt o (c .table) (c .mark)
+clerk-is c o e f =
+    ap (λ (s : Bool). record { opened = c .opened; shut = s; table = c .table; mark = c .mark }) e
+    ∙ ap (λ (x : Bool). clerkAt x (c .table) (c .mark)) f
+
+pub awaits-open : (opened : Bool) (m : Mark) {a : Bool} → a ≡ awaitsBlock opened m → a ≡ true → awaitsBlock true m ≡ true
+awaits-open opened m e f =
+    let h = sym e ∙ f in
+    ap (λ (o : Bool). awaitsBlock o m) (sym (awaits-is opened m h .0)) ∙ h
+
+module _ {c d : Clerk} {buf part : List ℕ} {room : ℕ} where
+  pub fed-as : {out buf2 out2 : List ℕ} {r : Fed} → c ≡ d → FedOn room d buf part out buf2 out2 r → FedOn room c buf part out buf2 out2 r
+  fed-as {out} {buf2} {out2} {r} e f = subst (λ (x : Clerk). FedOn room x buf part out buf2 out2 r) (sym e) f
+
+pub used-as : {c d : Clerk} (buf part : List ℕ) (room : ℕ) {u : ℕ} {buf2 : List ℕ} → c ≡ d → (u ≡ usedOf d buf part room) × (buf2 ≡ bufferOf d buf part room) → (u ≡ usedOf c buf part room) × (buf2 ≡ bufferOf c buf part room)
+used-as buf part room {u} {buf2} e f = subst (λ (x : Clerk). (u ≡ usedOf x buf part room) × (buf2 ≡ bufferOf x buf part room)) (sym e) f
+
+pub fed-out : {c : Clerk} {buf part out out1 buf2 out2 : List ℕ} {r : Fed} → out1 ≡ out → FedOn (length out1) c buf part out1 buf2 out2 r → FedOn (length out) c buf part out buf2 out2 r
+fed-out {c} {buf} {part} {out} {out1} {buf2} {out2} {r} e f = subst (λ (x : List ℕ). FedOn (length x) c buf part x buf2 out2 r) e f

@@ -1,27 +1,73 @@
--- Whole blocks that are answered where they lie get the answers of the stream. For any part, whatever comes next, and any room. Assumes nothing.
+-- Whole blocks that are answered where they lie do what their bytes do one by one. For any part and any room. Assumes nothing.
 use mathlib.Core.Path.{_≡_, refl, sym, ap, subst, _∙_}
-use mathlib.Core.List.{List, [], _∷_, _++_, append-assoc, append-nil}
-use mathlib.Core.Bool.{Bool, true, true≢false}
+use mathlib.Core.List.{List, [], _∷_, _++_, append-assoc}
+use mathlib.Core.Bool.{Bool, true, false, true≢false}
 use mathlib.Core.Logic.{⊎-elim}
 use Prim.Native.Nat.{ℕ, zero, suc, _+_, _-_, _≤_, _<_}
 use native.Mathlib.Omega.{arith}
-use lib.ListN.{length, drop, length-append}
-use lib.Seq.{drop-append-add}
+use lib.ListN.{length, take, drop, length-append, length-take, take-append-drop}
+use lib.Seq.{take-append-seam}
 use lib.Dec.{eqb, ltb, leb}
-use borrow.Author.Tests.{leb-true, leb-false}
+use borrow.Author.Tests.{leb-true, leb-false, le-leb, ne-eqb}
 use Rattle.laws.specs.Tests.{pick}
 use Rattle.laws.proofs.Tests.{test, both-true}
 use Rattle.text.specs.Line.{lineLen, afterLines}
 use Rattle.blocks.specs.Block.{restOf, blockOf}
 use Rattle.blocks.specs.Front.{blockEnded}
+use Rattle.lines.specs.Kept.{Kept, nothing, keepAll, Gathered, gatherOf}
+use Rattle.lines.proofs.Cut.{ended, cap, lfs, lfs-lf, lfs-on, kept-bytes, ended-is, cap-block, front-block, lines-lfs, lines-none}
+use Rattle.lines.proofs.Gathers.{gather-keeps, gather-lines, whole-kept}
 use Rattle.table.specs.declared.table.Table.{Table}
 use Rattle.desk.specs.declared.Judged.{Judged}
-use Rattle.desk.specs.Desk.{judgedOf, blockBytes}
-use Rattle.stream.specs.Stream.{Kept, nothing, keepOf, Gathered, gatherOf, streamFrom}
+use Rattle.desk.specs.Desk.{judgeBlock, judgedOf, blockBytes, judgedBytes}
+use Rattle.desk.specs.Log.{fitting, tableIn}
+use Rattle.desk.proofs.Laws.{judged-most}
+use Rattle.stream.specs.Onward.{State, Open, Given, andThen, codeIn, answerOf, onward, anyShort}
 use Rattle.stream.specs.InPlace.{InPlace, answersFront, inPlaceFrom, inPlaceOf, ranOf}
-use Rattle.stream.proofs.Lines.{ended, lfs, keepAll, keep-append, lfs-lf, lfs-on, kept-lines, ended-is, snoc, lfs-append, lines-lfs, lines-none, lines-last}
-use Rattle.stream.proofs.Cuts.{judged-same, bytes-same, kept-cap, ended-block, gather-whole, gather-next, part-ends}
+use Rattle.stream.proofs.Onward.{onward-append, ends-onward}
 use Rattle.stream.proofs.Runs.{left-drop, from-none, from-more}
+
+-- ---- what is answered depends on the block alone
+
+pub judged-same : (t : Table) (x y : List ℕ) → blockOf x ≡ blockOf y → judgedOf t x ≡ judgedOf t y
+unfolding judgedOf
+judged-same t x y e = ap (judgeBlock t) e
+
+pub bytes-same : (t : Table) (x y : List ℕ) → blockOf x ≡ blockOf y → blockBytes t x ≡ blockBytes t y
+unfolding blockBytes
+bytes-same t x y e = ap judgedBytes (judged-same t x y e)
+
+-- the answer, by what was judged and by its bytes
+abbrev answerFrom : ℕ → Table → List ℕ → Judged → Given
+answerFrom room t bs j = record {
+  state = Open (pick (leb (length bs) room) (j .table) t);
+  kept = nothing;
+  codes = pick (leb (length bs) room) (j .code) 12 ∷ [];
+  bytes = pick (leb (length bs) room) bs [];
+}
+
+answer-from : (room : ℕ) (t : Table) (block : List ℕ) → answerOf room t block ≡ answerFrom room t (blockBytes t block) (judgedOf t block)
+unfolding codeIn
+answer-from room t block = refl
+
+pub answer-same : (room : ℕ) (t : Table) (x y : List ℕ) → blockOf x ≡ blockOf y → answerOf room t x ≡ answerOf room t y
+answer-same room t x y e =
+    answer-from room t x
+    ∙ ap (λ (bs : List ℕ). answerFrom room t bs (judgedOf t x)) (bytes-same t x y e)
+    ∙ ap (answerFrom room t (blockBytes t y)) (judged-same t x y e)
+    ∙ sym (answer-from room t y)
+
+-- with room for it
+pub answer-fits : (room : ℕ) (t : Table) (block : List ℕ) → length (blockBytes t block) ≤ room
+    → answerOf room t block ≡ record { state = Open (judgedOf t block .table); kept = nothing; codes = judgedOf t block .code ∷ []; bytes = blockBytes t block }
+answer-fits room t block h =
+    answer-from room t block
+    ∙ ap (λ (b : Bool). record {
+      state = Open (pick b (judgedOf t block .table) t);
+      kept = nothing;
+      codes = pick b (judgedOf t block .code) 12 ∷ [];
+      bytes = pick b (blockBytes t block) [];
+    }) (le-leb (length (blockBytes t block)) room h)
 
 -- ---- a log whose fifth line is ended has five LFs
 
@@ -39,74 +85,105 @@ five-lfs l e = ⊎-elim
     (λ t. absurd (true≢false (sym e ∙ ap (λ (x : List ℕ). ltb (lineLen x) (length x)) (lines-none 4 l (leb-false 4 (lfs l) t)))))
     (test (leb 4 (lfs l)))
 
--- ---- what is gathered of such a log
+-- ---- one block, from its first byte to its fifth LF
 
--- five lines were gathered, the rest is left, and what was gathered reads as the log does
-abbrev Ends : List ℕ → Gathered → Type 0
-Ends log g = (5 ≤ g .kept .lines) × (g .left ≡ restOf log) × (blockOf (g .kept .bytes) ≡ blockOf log)
+-- lines that are cut after 33 bytes read as the lines do
+pub cut-block : (l : List ℕ) → blockOf (cap 0 l) ≡ blockOf l
+cut-block [] = refl
+cut-block (b ∷ l) = cap-block b l
 
-last-lf : (raw : List ℕ) (b : ℕ) → lfs raw < 5 → 5 ≤ lfs (raw ++ (b ∷ [])) → eqb b 10 ≡ true
-last-lf raw b h five = ⊎-elim (λ e. e) (λ e. absurd (omega (arith, lfs-append raw (b ∷ []), lfs-on b [] e))) (test (eqb b 10))
+pub kept-is : (raw : List ℕ) → keepAll nothing raw .bytes ≡ cap 0 raw
+kept-is raw = kept-bytes nothing raw
 
-pub gathers : (raw bs : List ℕ) → lfs raw < 5 → 5 ≤ lfs (raw ++ bs) → Ends (raw ++ bs) (gatherOf 5 (keepAll nothing raw) bs)
-unfolding restOf
-gathers raw [] h p = absurd (omega (arith, ap lfs (append-nil raw)))
-gathers raw (b ∷ bs) h p =
-    let k : Kept = keepAll nothing raw in
-    let more : List ℕ = raw ++ (b ∷ []) in
-    let log : List ℕ = raw ++ (b ∷ bs) in
-    let one : keepAll nothing more ≡ keepOf k b = keep-append nothing raw (b ∷ []) in
-    let n : keepOf k b .lines ≡ lfs more = sym (ap (λ (x : Kept). x .lines) one) ∙ omega (arith, kept-lines nothing more) in
-    ⊎-elim
-    (λ e.
-    let five : 5 ≤ lfs more = omega (arith, n, leb-true 5 (keepOf k b .lines) e) in
-    let lf : eqb b 10 ≡ true = last-lf raw b h five in
-    let four : lfs raw ≡ 4 = omega (arith, lfs-append raw (b ∷ []), lfs-lf b [] lf) in
-    let rest : restOf log ≡ bs = lines-last 4 b raw bs lf four in
-    let blk : blockOf (keepOf k b .bytes) ≡ blockOf log = ap (λ (x : Kept). blockOf (x .bytes)) (sym one) ∙ ap blockOf (kept-cap more) ∙ ended-block raw bs b five in
-    subst (Ends log) (sym (gather-whole k b bs e)) (omega (arith, n), sym rest, blk))
-    (λ e.
-    let few : lfs more < 5 = omega (arith, n, leb-false 5 (keepOf k b .lines) e) in
-    let same : more ++ bs ≡ log = snoc raw bs b in
-    let r : Ends (more ++ bs) (gatherOf 5 (keepAll nothing more) bs) = gathers more bs few (omega (arith, ap lfs same)) in
-    subst (Ends log) (sym (gather-next k b bs e)) (subst (λ (x : Kept). Ends log (gatherOf 5 x bs)) one (subst (λ (x : List ℕ). Ends x (gatherOf 5 (keepAll nothing more) bs)) same r)))
-    (test (leb 5 (keepOf k b .lines)))
+abbrev first : List ℕ → Gathered
+first log = gatherOf 5 nothing log
 
--- ---- the stream answers them so
+module _ (room : ℕ) (t : Table) (log : List ℕ) (h : 5 ≤ lfs log) where
+  abbrev front : List ℕ
+  front = take (first log .used) log
 
--- one block
-front-stream : (t : Table) (part more : List ℕ) → blockEnded part ≡ true
-    → streamFrom t nothing (part ++ more) ≡ blockBytes t part ++ streamFrom (judgedOf t part .table) nothing (restOf part ++ more)
-front-stream t part more f =
-    let g : Gathered = gatherOf 5 nothing part in
-    let e : Ends part g = gathers [] part (omega arith) (five-lfs part f) in
-    part-ends t nothing part more (omega arith) (e .0)
-    ∙ ap (λ (x : List ℕ). x ++ streamFrom (judgedOf t (g .kept .bytes) .table) nothing (g .left ++ more)) (bytes-same t (g .kept .bytes) part (e .2))
-    ∙ ap (λ (x : Judged). blockBytes t part ++ streamFrom (x .table) nothing (g .left ++ more)) (judged-same t (g .kept .bytes) part (e .2))
-    ∙ ap (λ (x : List ℕ). blockBytes t part ++ streamFrom (judgedOf t part .table) nothing (x ++ more)) (e .1)
+  reads : blockOf (first log .kept .bytes) ≡ blockOf log
+  reads =
+      let five : 5 ≤ lfs front = omega (arith, gather-lines 5 log, whole-kept 4 log h .0) in
+      ap (λ (k : Kept). blockOf (k .bytes)) (gather-keeps 5 nothing log)
+      ∙ ap blockOf (kept-is front)
+      ∙ cut-block front
+      ∙ sym (front-block front (drop (first log .used) log) five)
+      ∙ ap blockOf (take-append-drop (first log .used) log)
 
--- what is answered in place, and then the stream's answers to what is left and what comes next
-abbrev Streams : Table → List ℕ → List ℕ → InPlace → Type 0
-Streams t part more p = streamFrom t nothing (part ++ more) ≡ p .bytes ++ streamFrom (p .table) nothing (p .left ++ more)
+  pub block-onward : onward room (Open t) nothing front ≡ answerOf room t log
+  block-onward =
+      ends-onward room (Open t) refl nothing log (omega arith) (omega (arith, whole-kept 4 log h .0))
+      ∙ answer-same room t (first log .kept .bytes) log reads
 
-streams-from : (k : ℕ) (t : Table) (part more : List ℕ) (room : ℕ) → Streams t part more (inPlaceFrom k t part room)
-streams-from zero t part more room = refl
-streams-from (suc k) t part more room = ⊎-elim
+  pub block-rest : drop (first log .used) log ≡ restOf log
+  unfolding restOf
+  block-rest = whole-kept 4 log h .1
+
+  -- and what follows
+  pub block-further : onward room (Open t) nothing log ≡ andThen (answerOf room t log) (onward room (Open (tableIn t log room)) nothing (restOf log))
+  block-further =
+      ap (onward room (Open t) nothing) (sym (take-append-drop (first log .used) log))
+      ∙ onward-append room (Open t) nothing front (drop (first log .used) log)
+      ∙ ap (λ (x : Given). andThen x (onward room (x .state) (x .kept) (drop (first log .used) log))) block-onward
+      ∙ ap (λ (l : List ℕ). andThen (answerOf room t log) (onward room (Open (tableIn t log room)) nothing l)) block-rest
+
+-- ---- block after block
+
+-- what bytes at the front of a part led to is what was answered in place, and no answer lacked room
+pub record Placed (room : ℕ) (t : Table) (part : List ℕ) (p : InPlace) : Type 0 where
+  pub front : List ℕ
+  pub split : part ≡ front ++ p .left
+  pub state : onward room (Open t) nothing front .state ≡ Open (p .table)
+  pub kept : onward room (Open t) nothing front .kept ≡ nothing
+  pub bytes : onward room (Open t) nothing front .bytes ≡ p .bytes
+  pub short : anyShort (onward room (Open t) nothing front .codes) ≡ false
+
+placed-from : (k room : ℕ) (t : Table) (part : List ℕ) (left : ℕ) → left ≤ room → Placed room t part (inPlaceFrom k t part left)
+placed-from zero room t part left h = record { front = []; split = refl; state = refl; kept = refl; bytes = refl; short = refl }
+placed-from (suc k) room t part left h = ⊎-elim
     (λ e.
     let bs : List ℕ = blockBytes t part in
-    let p : InPlace = inPlaceFrom k (judgedOf t part .table) (restOf part) (room - length bs) in
-    let f = both-true (blockEnded part) (leb (length bs) room) e in
-    subst (Streams t part more) (sym (from-more k t part room e))
-    (front-stream t part more (f .0)
-    ∙ ap (λ (x : List ℕ). bs ++ x) (streams-from k (judgedOf t part .table) (restOf part) more (room - length bs))
-    ∙ sym (append-assoc bs (p .bytes) (streamFrom (p .table) nothing (p .left ++ more)))))
-    (λ e. subst (Streams t part more) (sym (from-none (suc k) t part room e)) refl)
-    (test (answersFront t part room))
+    let f = both-true (blockEnded part) (leb (length bs) left) e in
+    let fit : length bs ≤ room = omega (arith, leb-true (length bs) left (f .1)) in
+    let five : 5 ≤ lfs part = five-lfs part (f .0) in
+    let u : Table = judgedOf t part .table in
+    let r : Placed room u (restOf part) (inPlaceFrom k u (restOf part) (left - length bs)) = placed-from k room u (restOf part) (left - length bs) (omega arith) in
+    subst (Placed room t part) (sym (from-more k t part left e)) (joined room t part five fit r))
+    (λ e. subst (Placed room t part) (sym (from-none (suc k) t part left e)) (record { front = []; split = refl; state = refl; kept = refl; bytes = refl; short = refl }))
+    (test (answersFront t part left))
+  where
+    joined : (room : ℕ) (t : Table) (part : List ℕ) {p : InPlace} → 5 ≤ lfs part → length (blockBytes t part) ≤ room → Placed room (judgedOf t part .table) (restOf part) p
+        → Placed room t part (record { table = p .table; bytes = blockBytes t part ++ p .bytes; left = p .left })
+    joined room t part {p} five fit r =
+        let u : Table = judgedOf t part .table in
+        let one : List ℕ = take (first part .used) part in
+        let rest : Given = onward room (Open u) nothing (r .front) in
+        let both : onward room (Open t) nothing (one ++ r .front) ≡ andThen (record { state = Open u; kept = nothing; codes = judgedOf t part .code ∷ []; bytes = blockBytes t part }) rest =
+        onward-append room (Open t) nothing one (r .front)
+        ∙ ap (λ (x : Given). andThen x (onward room (x .state) (x .kept) (r .front))) (block-onward room t part five ∙ answer-fits room t part fit) in
+        let z : eqb (judgedOf t part .code) 12 ≡ false = ne-eqb (judgedOf t part .code) 12 (λ q. omega (arith, judged-most t part)) in
+        record {
+          front = one ++ r .front;
+          split =
+              sym (take-append-drop (first part .used) part)
+              ∙ ap (λ (l : List ℕ). one ++ l) (block-rest room t part five ∙ r .split)
+              ∙ sym (append-assoc one (r .front) (p .left));
+          state = ap (λ (x : Given). x .state) both ∙ r .state;
+          kept = ap (λ (x : Given). x .kept) both ∙ r .kept;
+          bytes = ap (λ (x : Given). x .bytes) both ∙ ap (λ (l : List ℕ). blockBytes t part ++ l) (r .bytes);
+          short = ap (λ (x : Given). anyShort (x .codes)) both ∙ ap (λ (b : Bool). pick b true (anyShort (rest .codes))) z ∙ r .short;
+        }
 
--- for any part, whatever comes next, and any room
-pub in-place-streams : (t : Table) (part more : List ℕ) (room : ℕ) → streamFrom t nothing (part ++ more)
-    ≡ inPlaceOf t part room .bytes ++ streamFrom (inPlaceOf t part room .table) nothing (drop (ranOf (inPlaceOf t part room) part .used) part ++ more)
+pub placed : (room : ℕ) (t : Table) (part : List ℕ) → Placed room t part (inPlaceOf t part room)
 unfolding inPlaceOf
-in-place-streams t part more room =
-    streams-from (length part) t part more room
-    ∙ ap (λ (x : List ℕ). inPlaceOf t part room .bytes ++ streamFrom (inPlaceOf t part room .table) nothing (x ++ more)) (sym (left-drop t part room))
+placed room t part = placed-from (length part) room t part room (omega arith)
+
+-- the bytes that were used up
+pub placed-front : (room : ℕ) (t : Table) (part : List ℕ) → take (ranOf (inPlaceOf t part room) part .used) part ≡ placed room t part .front
+placed-front room t part =
+    let p : InPlace = inPlaceOf t part room in
+    let f : List ℕ = placed room t part .front in
+    let s : part ≡ f ++ p .left = placed room t part .split in
+    let n : length part - length (p .left) ≡ length f = omega (arith, ap length s, length-append f (p .left)) in
+    ap (λ (i : ℕ). take i part) n ∙ ap (take (length f)) s ∙ take-append-seam f (p .left)

@@ -1,176 +1,170 @@
--- Laws of whole lines: the sheet, or a block.
+-- Whole lines, the sheet or a block, and the close: what the calls say and write is what is given. For the proofs of the functions.
 use mathlib.Core.Path.{_≡_, refl, sym, ap, subst, _∙_}
-use mathlib.Core.List.{List, []}
+use mathlib.Core.List.{List, [], _∷_}
 use mathlib.Core.Bool.{Bool, true, false, true≢false}
+use mathlib.Core.Logic.{⊎-elim}
 use Prim.Native.Nat.{ℕ, _-_, _≤_, _<_}
 use native.Mathlib.Omega.{arith}
-use lib.ListN.{length, take, drop}
+use lib.ListN.{length, take, drop, length-take}
 use lib.Dec.{leb, eqb}
 use borrow.Author.Tests.{eq-eqb, ne-eqb}
 use Rattle.laws.specs.Tests.{pick}
-use Rattle.writing.specs.Sheet.{Wrote, over, sheetAfter}
-use Rattle.text.specs.TableSheet.{sheetOf}
+use Rattle.laws.proofs.Tests.{test}
 use Rattle.paper.specs.declared.Sheet.{Sheet}
+use Rattle.writing.specs.Sheet.{Wrote, over, fits, sheetAfter}
+use Rattle.text.specs.TableSheet.{sheetOf}
 use Rattle.text.specs.declared.sheet.Opening.{Opening}
 use Rattle.text.specs.declared.sheet.Opening.the-variants.{Read, Bad}
+use Rattle.writing.specs.declared.Written.the-variants.{Bytes, NoRoom}
+use Rattle.lines.specs.declared.Mark.{Mark}
+use Rattle.lines.specs.Kept.{nothing, markOf}
+use Rattle.lines.proofs.Keeps.{empty-room}
 use Rattle.table.specs.declared.table.Table.{Table}
-use Rattle.desk.specs.declared.Answered.{Answered}
-use Rattle.desk.specs.Desk.{blockBytes, answeredOf}
 use Rattle.table.specs.Take.{Sound, freshTable}
-use Rattle.desk.specs.Log.{eleven, fitting}
+use Rattle.desk.specs.declared.Answered.{Answered}
+use Rattle.desk.specs.Desk.{judgedOf, blockBytes, answeredFrom, answeredOf}
+use Rattle.desk.specs.Log.{eleven, fitting, tableIn}
+use Rattle.desk.proofs.Laws.{judged-most}
 use Rattle.desk.proofs.Whole.{answered-parts, fitting-within}
-use Rattle.stream.specs.declared.Step.{Step}
 use Rattle.stream.specs.declared.Clerk.{Clerk}
-use Rattle.stream.specs.declared.Mark.{Mark}
-use Rattle.stream.specs.Stream.{stepOf, stepFrom, stepBytes, answeredStep, Kept, linesOf, gatherOf, stateOf, FedAs, closeBytes}
+use Rattle.stream.specs.Onward.{State, Unread, Open, Shut, Given, codeIn, answerOf, openOf, linesDone, closing, anyShort}
+use Rattle.stream.specs.Feeding.{stateAt, stateOf, keptBy, clerkIn, Held, Gave}
 
--- something is read at a time, before the sheet was read and after
-pub lines-some : (opened : Bool) → 0 < linesOf opened
-lines-some true = omega arith
-lines-some false = omega arith
-
-pub answered-room : (t : Table) (log sheet : List ℕ) → answeredOf t log sheet .written ≤ length sheet
-answered-room t log sheet = omega (arith, answered-parts t log sheet .1 .count, fitting-within (blockBytes t log) (length sheet))
-
-pub fitted-sheet : (bs out new : List ℕ) (r : ℕ) → Wrote (fitting bs (length out)) out new r → new ≡ sheetAfter bs out
-fitted-sheet bs out new r w = go (leb (length bs) (length out)) (w .sheet)
+-- 12, and no other code, says that there was no room
+short-one : (t : Table) (block : List ℕ) (room : ℕ) → anyShort (codeIn t block room ∷ []) ≡ eqb (codeIn t block room) 12
+short-one t block room = go (eqb (codeIn t block room) 12)
   where
-    go : (b : Bool) → new ≡ over (pick b bs []) out → new ≡ pick b (over bs out) out
-    go true e = e
-    go false e = e
-
-sheet-none : (out : List ℕ) → out ≡ sheetAfter [] out
-sheet-none out = go (leb 0 (length out))
-  where
-    go : (b : Bool) → out ≡ pick b out out
+    go : (b : Bool) → pick b true false ≡ b
     go true = refl
     go false = refl
 
-module _ (opened : Bool) (t : Table) (block out : List ℕ) where
-  pub step-room : stepOf opened t block out .written ≤ length out
-  unfolding stepOf
-  step-room = go opened (sheetOf block)
+-- the code that the desk gives
+pub answered-code : (t : Table) (block sheet : List ℕ) → answeredOf t block sheet .code ≡ codeIn t block (length sheet)
+unfolding answeredOf codeIn
+answered-code t block sheet = go (fits (blockBytes t block) sheet)
+  where
+    go : (b : Bool) → answeredFrom t (judgedOf t block) (pick b (Bytes (length (blockBytes t block))) NoRoom) .code ≡ pick b (judgedOf t block .code) 12
+    go true = refl
+    go false = refl
+
+-- a box that is not shut by its sheet has read it or not
+open-held : (t : Table) (m : Mark) → Sound t → m ≡ markOf nothing → Held (clerkIn t (Open t) m)
+open-held t m h e = subst (λ (x : Mark). Held (clerkIn t (Open t) x)) (sym e) (record {
+  sound = h;
+  room = empty-room;
+  lines = omega arith;
+  shut = λ q. absurd (true≢false (sym q));
+})
+
+shut-held : (t : Table) (m : Mark) → Sound t → m ≡ markOf nothing → Held (clerkIn t Shut m)
+shut-held t m h e = subst (λ (x : Mark). Held (clerkIn t Shut x)) (sym e) (record {
+  sound = h;
+  room = empty-room;
+  lines = omega arith;
+  shut = λ q. refl;
+})
+
+module _ (t : Table) (block out : List ℕ) where
+  pub block-gave : {a : Answered} {new : List ℕ} {m : Mark} {b : Bool} → a ≡ answeredOf t block out → new ≡ sheetAfter (blockBytes t block) out → m ≡ markOf nothing
+      → b ≡ eqb (a .code) 12 → Sound (a .table)
+      → Gave t (linesDone (length out) (stateAt true t) block) out new (record { opened = true; shut = false; table = a .table; mark = m }) (a .written) b
+      × (Held (record { opened = true; shut = false; table = a .table; mark = m }) × (a .written ≤ length out))
+  block-gave {a} {new} {m} {b} e f g q h =
+      let p = answered-parts t block out in
+      let w : Wrote (fitting (blockBytes t block) (length out)) out new (a .written) = rw (e, f) (p .1) in
+      let table : a .table ≡ tableIn t block (length out) = ap (λ (x : Answered). x .table) e ∙ p .0 in (
+        record {
+          clerk = same table g;
+          wrote = w;
+          short = q ∙ ap (λ (x : Answered). eqb (x .code) 12) e ∙ ap (λ (n : ℕ). eqb n 12) (answered-code t block out) ∙ sym (short-one t block (length out));
+        },
+        (open-held (a .table) m h g, omega (arith, w .count, fitting-within (blockBytes t block) (length out))),
+      )
     where
-      go : (b : Bool) (o : Opening) → (pick b (answeredStep (answeredOf t block out)) (stepFrom o t out)) .written ≤ length out
-      go true o = answered-room t block out
-      go false (Read s) = omega arith
-      go false Bad = fitting-within eleven (length out)
+      same : {u v : Table} {x y : Mark} → u ≡ v → x ≡ y
+          → _≡_ {A = Clerk} (record { opened = true; shut = false; table = u; mark = x }) (record { opened = true; shut = false; table = v; mark = y })
+      same p q = cc
 
-  pub step-written : {r : Step} {new : List ℕ} {u : Table} → r ≡ stepOf opened t block out → new ≡ sheetAfter (stepBytes opened t block) out → Sound u
-      → (r ≡ stepOf opened t block out) × ((new ≡ sheetAfter (stepBytes opened t block) out) × (Sound u × (r .written ≤ length out)))
-  step-written {r} {new} {u} e f h = (e, (f, (h, omega (arith, ap (λ (x : Step). x .written) e, step-room))))
+  pub bad-gave : {o : Opening} {new : List ℕ} {m : Mark} {r : ℕ} → o ≡ sheetOf block → o ≡ Bad → Wrote (fitting eleven (length out)) out new r → m ≡ markOf nothing → Sound t
+      → Gave t (linesDone (length out) (stateAt false t) block) out new (record { opened = false; shut = true; table = t; mark = m }) r false
+      × (Held (record { opened = false; shut = true; table = t; mark = m }) × (r ≤ length out))
+  bad-gave {o} {new} {m} {r} e q w g h =
+      let z : openOf (length out) Bad ≡ openOf (length out) (sheetOf block) = ap (openOf (length out)) (sym q ∙ e) in (
+        subst (λ (x : Given). Gave t x out new (record { opened = false; shut = true; table = t; mark = m }) r false) z (record { clerk = ap (clerkIn t Shut) g; wrote = w; short = refl }),
+        (shut-held t m h g, omega (arith, w .count, fitting-within eleven (length out))),
+      )
 
-  pub step-open : {a : Answered} {new : List ℕ} → opened ≡ true → a ≡ answeredOf t block out → new ≡ sheetAfter (blockBytes t block) out → Sound (a .table)
-      → (_≡_ {A = Step} (record { opened = true; shut = false; table = a .table; written = a .written }) (stepOf opened t block out))
-      × ((new ≡ sheetAfter (stepBytes opened t block) out) × (Sound (a .table) × (a .written ≤ length out)))
-  unfolding stepOf stepBytes
-  step-open {a} {new} p e f r = step-written (ap answeredStep e ∙ rw p) (f ∙ rw p) r
+  pub read-gave : {o : Opening} {s : Sheet} {u : Table} {m : Mark} → o ≡ sheetOf block → o ≡ Read s → (u ≡ freshTable s) × Sound u → m ≡ markOf nothing
+      → Gave t (linesDone (length out) (stateAt false t) block) out out (record { opened = true; shut = false; table = u; mark = m }) 0 false
+      × (Held (record { opened = true; shut = false; table = u; mark = m }) × (0 ≤ length out))
+  read-gave {o} {s} {u} {m} e q f g =
+      let z : openOf (length out) (Read s) ≡ openOf (length out) (sheetOf block) = ap (openOf (length out)) (sym q ∙ e) in (
+        subst (λ (x : Given). Gave t x out out (record { opened = true; shut = false; table = u; mark = m }) 0 false) z
+            (record { clerk = same (f .0) g; wrote = record { count = refl; sheet = refl }; short = refl }),
+        (open-held u m (f .1) g, omega arith),
+      )
+    where
+      same : {u v : Table} {x y : Mark} → u ≡ v → x ≡ y
+          → _≡_ {A = Clerk} (record { opened = true; shut = false; table = u; mark = x }) (record { opened = true; shut = false; table = v; mark = y })
+      same p q = cc
 
-  pub step-bad : {o : Opening} {new : List ℕ} {r : ℕ} → opened ≡ false → o ≡ sheetOf block → o ≡ Bad → Wrote (fitting eleven (length out)) out new r → Sound t
-      → (_≡_ {A = Step} (record { opened = false; shut = true; table = t; written = r }) (stepOf opened t block out))
-      × ((new ≡ sheetAfter (stepBytes opened t block) out) × (Sound t × (r ≤ length out)))
-  unfolding stepOf stepBytes
-  step-bad {o} {new} {r} p e q w h =
-      let z : sheetOf block ≡ Bad = sym e ∙ q in
-      step-written (rw (p, z, w .count)) (rw (p, z) (fitted-sheet eleven out new r w)) h
+pub gave-as : (room : ℕ) (block : List ℕ) {o p : Bool} {t : Table} {out out2 : List ℕ} {w : ℕ} {d : Clerk} {b : Bool} → p ≡ o → Gave t (linesDone room (stateAt o t) block) out out2 d w b
+    → Gave t (linesDone room (stateAt p t) block) out out2 d w b
+gave-as room block {o} {p} {t} {out} {out2} {w} {d} {b} e g = subst (λ (x : Bool). Gave t (linesDone room (stateAt x t) block) out out2 d w b) (sym e) g
 
-  pub step-good : {o : Opening} {s : Sheet} {u : Table} → opened ≡ false → o ≡ sheetOf block → o ≡ Read s → (u ≡ freshTable s) × Sound u
-      → (_≡_ {A = Step} (record { opened = true; shut = false; table = u; written = 0 }) (stepOf opened t block out))
-      × ((out ≡ sheetAfter (stepBytes opened t block) out) × (Sound u × (0 ≤ length out)))
-  unfolding stepOf stepBytes
-  step-good {o} {s} {u} p e q f =
-      let z : sheetOf block ≡ Read s = sym e ∙ q in
-      step-written (rw (p, z, f .0)) (rw (p, z) (sheet-none out)) (f .1)
+-- ---- the state of a clerk
 
--- ---- the three answers of feeding a part
+pub state-shut : (c : Clerk) → c .shut ≡ true → stateOf c ≡ Shut
+unfolding stateOf
+state-shut c e = ap (λ (b : Bool). pick b Shut (stateAt (c .opened) (c .table))) e
 
-pub fed-shut : (c : Clerk) (buf part out : List ℕ) {u : ℕ} → c .shut ≡ true → FedAs c buf part out buf out (record { clerk = c; used = u; written = 0 })
-fed-shut c buf part out {u} e = record {
-  shut = λ q. (refl, refl, refl);
-  left = λ q. absurd (true≢false (sym e ∙ q));
-  kept = λ q. absurd (true≢false (sym e ∙ q));
-  whole = λ q. absurd (true≢false (sym e ∙ q));
-}
-
-module _ (c : Clerk) (buf part out buf2 : List ℕ) (m : Mark) (u want : ℕ) (e : c .shut ≡ false) (n : want ≡ linesOf (c .opened))
-    (was : (stateOf m buf2 ≡ gatherOf want (stateOf (c .mark) buf) part .kept) × (drop u part ≡ gatherOf want (stateOf (c .mark) buf) part .left)) where
-  g : (stateOf m buf2 ≡ gatherOf (linesOf (c .opened)) (stateOf (c .mark) buf) part .kept) × (drop u part ≡ gatherOf (linesOf (c .opened)) (stateOf (c .mark) buf) part .left)
-  g = subst (λ (w : ℕ). (stateOf m buf2 ≡ gatherOf w (stateOf (c .mark) buf) part .kept) × (drop u part ≡ gatherOf w (stateOf (c .mark) buf) part .left)) n was
-
-  lines-are : m .lines ≡ gatherOf (linesOf (c .opened)) (stateOf (c .mark) buf) part .kept .lines
-  lines-are = ap (λ (k : Kept). k .lines) (g .0)
-
-  pub fed-kept : m .lines < want
-      → FedAs c buf part out buf2 out (record { clerk = record { opened = c .opened; shut = false; table = c .table; mark = m }; used = u; written = 0 })
-  fed-kept h = record {
-    shut = λ q. absurd (true≢false (sym q ∙ e));
-    left = λ q. g .1;
-    kept = λ q p. (g .0, refl, refl, refl, refl, refl);
-    whole = λ q p. absurd (omega (arith, n, lines-are));
-  }
-
-  pub fed-whole : {z : Mark} {s : Step} {out2 : List ℕ} → want ≤ m .lines → (z .lines ≡ 0) × (z .count ≡ 0) × (z .width ≡ 0)
-      → s ≡ stepOf (c .opened) (c .table) (take (m .count - 0) (drop 0 buf2)) out → out2 ≡ sheetAfter (stepBytes (c .opened) (c .table) (take (m .count - 0) (drop 0 buf2))) out
-      → FedAs c buf part out buf2 out2 (record { clerk = record { opened = s .opened; shut = s .shut; table = s .table; mark = z }; used = u; written = s .written })
-  fed-whole {z} {s} {out2} h y p q =
-      let i : m .count - 0 ≡ m .count = omega arith in
-      let k : take (m .count - 0) (drop 0 buf2) ≡ gatherOf (linesOf (c .opened)) (stateOf (c .mark) buf) part .kept .bytes =
-      ap (λ (j : ℕ). take j (drop 0 buf2)) i ∙ ap (λ (x : Kept). x .bytes) (g .0) in
-      record {
-        shut = λ w. absurd (true≢false (sym w ∙ e));
-        left = λ w. g .1;
-        kept = λ w v. absurd (omega (arith, n, lines-are));
-        whole = λ w v. (
-          rw (y .0, y .1, y .2),
-          p ∙ ap (λ (x : List ℕ). stepOf (c .opened) (c .table) x out) k,
-          q ∙ ap (λ (x : List ℕ). sheetAfter (stepBytes (c .opened) (c .table) x) out) k,
-        );
-      }
+pub state-else : (c : Clerk) → c .shut ≡ false → stateOf c ≡ stateAt (c .opened) (c .table)
+unfolding stateOf
+state-else c e = ap (λ (b : Bool). pick b Shut (stateAt (c .opened) (c .table))) e
 
 -- ---- the four answers of closing
 
-pick-none : (b : Bool) → _≡_ {A = List ℕ} (pick b [] []) []
-pick-none true = refl
-pick-none false = refl
-
-wrote-none : (out : List ℕ) → Wrote (fitting [] (length out)) out out 0
-wrote-none out = subst (λ (bs : List ℕ). Wrote bs out out 0) (sym (pick-none (leb 0 (length out)))) (record { count = refl; sheet = refl })
-
 module _ (c : Clerk) (buf out : List ℕ) where
-  closed-by : (bs : List ℕ) {new : List ℕ} {r : ℕ} → closeBytes c buf ≡ bs → Wrote (fitting bs (length out)) out new r
-      → Wrote (fitting (closeBytes c buf) (length out)) out new r × (r ≤ length out)
-  closed-by bs {new} {r} e w =
-      (subst (λ (x : List ℕ). Wrote (fitting x (length out)) out new r) (sym e) w, omega (arith, w .count, fitting-within bs (length out)))
+  abbrev Closes : List ℕ → ℕ → Bool → Given → Type 0
+  Closes new r b x = Wrote (x .bytes) out new r × ((b ≡ anyShort (x .codes)) × (r ≤ length out))
 
-  pub close-shut : c .shut ≡ true → Wrote (fitting (closeBytes c buf) (length out)) out out 0 × (0 ≤ length out)
-  unfolding closeBytes
-  close-shut e = closed-by [] (ap (λ (x : Bool). pick x [] (pick (c .opened) (pick (eqb (c .mark .count) 0) [] (blockBytes (c .table) (take (c .mark .count) buf))) eleven)) e) (wrote-none out)
+  abbrev closing-is : Given
+  closing-is = closing (length out) (stateOf c) (keptBy c buf)
 
-  open-is : c .shut ≡ false → c .opened ≡ true → closeBytes c buf ≡ pick (eqb (c .mark .count) 0) [] (blockBytes (c .table) (take (c .mark .count) buf))
-  unfolding closeBytes
-  open-is e f =
-      ap (λ (x : Bool). pick x [] (pick (c .opened) (pick (eqb (c .mark .count) 0) [] (blockBytes (c .table) (take (c .mark .count) buf))) eleven)) e
-      ∙ ap (λ (x : Bool). pick x (pick (eqb (c .mark .count) 0) [] (blockBytes (c .table) (take (c .mark .count) buf))) eleven) f
+  closed-by : {new : List ℕ} {r : ℕ} {b : Bool} (s : State) → stateOf c ≡ s → Closes new r b (closing (length out) s (keptBy c buf)) → Closes new r b closing-is
+  closed-by {new} {r} {b} s e w = subst (λ (x : State). Closes new r b (closing (length out) x (keptBy c buf))) (sym e) w
 
-  pub close-none : c .shut ≡ false → c .opened ≡ true → c .mark .count ≡ 0 → Wrote (fitting (closeBytes c buf) (length out)) out out 0 × (0 ≤ length out)
-  close-none e f g =
-      closed-by [] (open-is e f ∙ ap (λ (x : Bool). pick x [] (blockBytes (c .table) (take (c .mark .count) buf))) (eq-eqb (c .mark .count) 0 g)) (wrote-none out)
+  pub close-shut : c .shut ≡ true → Closes out 0 false closing-is
+  close-shut e = closed-by Shut (state-shut c e) (record { count = refl; sheet = refl }, (refl, omega arith))
 
-  pub close-block : {a : Answered} {new : List ℕ} → c .shut ≡ false → c .opened ≡ true → (c .mark .count ≡ 0 → ⊥)
+  open-is : c .shut ≡ false → c .opened ≡ true → stateOf c ≡ Open (c .table)
+  open-is e f = state-else c e ∙ ap (λ (b : Bool). stateAt b (c .table)) f
+
+  size : c .mark .count ≤ length buf → length (take (c .mark .count) buf) ≡ c .mark .count
+  size h = omega (arith, length-take (c .mark .count) buf)
+
+  pub close-none : c .mark .count ≤ length buf → c .shut ≡ false → c .opened ≡ true → c .mark .count ≡ 0 → Closes out 0 false closing-is
+  close-none h e f g =
+      closed-by (Open (c .table)) (open-is e f)
+      (subst (λ (b : Bool). Closes out 0 false (pick b (record { state = Open (c .table); kept = nothing; codes = []; bytes = [] }) (answerOf (length out) (c .table) (take (c .mark .count) buf))))
+      (sym (eq-eqb (length (take (c .mark .count) buf)) 0 (size h ∙ g))) (record { count = refl; sheet = refl }, (refl, omega arith)))
+
+  pub close-block : {a : Answered} {new : List ℕ} {b : Bool} → c .mark .count ≤ length buf → c .shut ≡ false → c .opened ≡ true → (c .mark .count ≡ 0 → ⊥)
       → a ≡ answeredOf (c .table) (take (c .mark .count - 0) (drop 0 buf)) out → new ≡ sheetAfter (blockBytes (c .table) (take (c .mark .count - 0) (drop 0 buf))) out
-      → Wrote (fitting (closeBytes c buf) (length out)) out new (a .written) × (a .written ≤ length out)
-  close-block {a} {new} e f g p q =
+      → b ≡ eqb (a .code) 12 → Closes new (a .written) b closing-is
+  close-block {a} {new} {b} h e f g p q d =
       let n : c .mark .count - 0 ≡ c .mark .count = omega arith in
-      let log : List ℕ = take (c .mark .count - 0) (drop 0 buf) in
-      closed-by (blockBytes (c .table) log)
-      (open-is e f ∙ ap (λ (x : Bool). pick x [] (blockBytes (c .table) (take (c .mark .count) buf))) (ne-eqb (c .mark .count) 0 g)
-      ∙ ap (λ (i : ℕ). blockBytes (c .table) (take i buf)) (sym n))
-      (rw (p, q) (answered-parts (c .table) log out .1))
+      let log : List ℕ = take (c .mark .count) buf in
+      let p' : a ≡ answeredOf (c .table) log out = p ∙ ap (λ (i : ℕ). answeredOf (c .table) (take i buf) out) n in
+      let q' : new ≡ sheetAfter (blockBytes (c .table) log) out = q ∙ ap (λ (i : ℕ). sheetAfter (blockBytes (c .table) (take i buf)) out) n in
+      let w : Wrote (fitting (blockBytes (c .table) log) (length out)) out new (a .written) = rw (p', q') (answered-parts (c .table) log out .1) in
+      let told : b ≡ anyShort (codeIn (c .table) log (length out) ∷ []) =
+      d ∙ ap (λ (x : Answered). eqb (x .code) 12) p' ∙ ap (λ (i : ℕ). eqb i 12) (answered-code (c .table) log out) ∙ sym (short-one (c .table) log (length out)) in
+      closed-by (Open (c .table)) (open-is e f)
+      (subst (λ (z : Bool). Closes new (a .written) b (pick z (record { state = Open (c .table); kept = nothing; codes = []; bytes = [] }) (answerOf (length out) (c .table) log)))
+      (sym (ne-eqb (length log) 0 (λ z. g (sym (size h) ∙ z))))
+      (w, (told, omega (arith, w .count, fitting-within (blockBytes (c .table) log) (length out)))))
 
-  pub close-bad : {new : List ℕ} {r : ℕ} → c .shut ≡ false → c .opened ≡ false → Wrote (fitting eleven (length out)) out new r
-      → Wrote (fitting (closeBytes c buf) (length out)) out new r × (r ≤ length out)
-  unfolding closeBytes
+  pub close-bad : {new : List ℕ} {r : ℕ} → c .shut ≡ false → c .opened ≡ false → Wrote (fitting eleven (length out)) out new r → Closes new r false closing-is
   close-bad e f w =
-      closed-by eleven
-      (ap (λ (x : Bool). pick x [] (pick (c .opened) (pick (eqb (c .mark .count) 0) [] (blockBytes (c .table) (take (c .mark .count) buf))) eleven)) e
-      ∙ ap (λ (x : Bool). pick x (pick (eqb (c .mark .count) 0) [] (blockBytes (c .table) (take (c .mark .count) buf))) eleven) f) w
+      closed-by Unread (state-else c e ∙ ap (λ (b : Bool). stateAt b (c .table)) f) (w, (refl, omega (arith, w .count, fitting-within eleven (length out))))

@@ -1,22 +1,17 @@
 -- Whole blocks at the front of a part of the log, answered where they lie.
 -- Document 01: "Reading uses up five lines at a time, whatever the code". A block whose answer has no room (12) is left, for a sheet that has.
 use Prim.Native.Nat.{ℕ, zero, suc, _-_}
-use mathlib.Core.Path.{_≡_}
 use mathlib.Core.List.{List, [], _++_}
-use mathlib.Core.Bool.{Bool, true, false}
+use mathlib.Core.Bool.{Bool}
 use lib.ListN.{length}
 use lib.Dec.{eqb, leb}
 use Rattle.laws.specs.Tests.{pick, both}
 use Rattle.blocks.specs.Block.{restOf}
 use Rattle.blocks.specs.Front.{blockEnded}
-use Rattle.writing.specs.Sheet.{over}
+use Rattle.lines.specs.declared.Mark.{Mark}
 use Rattle.table.specs.declared.table.Table.{Table}
 use Rattle.desk.specs.Desk.{judgedOf, blockBytes}
-use Rattle.stream.specs.declared.Mark.{Mark}
-use Rattle.stream.specs.declared.Clerk.{Clerk}
-use Rattle.stream.specs.declared.Fed.{Fed}
 use Rattle.stream.specs.declared.Ran.{Ran}
-use Rattle.stream.specs.Stream.{FedAs}
 
 -- the table after the blocks that were answered, their answers, and what is left of the part
 pub record InPlace : Type 0 where
@@ -54,21 +49,3 @@ ranOf p part = record { table = p .table; used = length part - length (p .left);
 -- the sheet was read and nothing of the next block is kept
 abbrev pub awaitsBlock : Bool → Mark → Bool
 awaitsBlock opened m = both (eqb (m .lines) 0) (both (eqb (m .width) 0) opened)
-
--- the clerk awaits a block, and the part begins with one to be answered
-abbrev pub goesInPlace : Clerk → List ℕ → ℕ → Bool
-goesInPlace c part room = pick (c .shut) false (both (awaitsBlock (c .opened) (c .mark)) (answersFront (c .table) part room))
-
--- the clerk after that awaits the next block
-abbrev pub fedOf : Ran → Fed
-fedOf r = record {
-  clerk = record { opened = true; shut = false; table = r .table; mark = record { count = 0; lines = 0; width = 0 } };
-  used = r .used;
-  written = r .written;
-}
-
--- what feeding a part does: block after block where they lie, or by way of the buffer
-pub record FedEither (c : Clerk) (buf part out buf2 out2 : List ℕ) (r : Fed) : Type 0 where
-  pub placed : goesInPlace c part (length out) ≡ true
-      → (r ≡ fedOf (ranOf (inPlaceOf (c .table) part (length out)) part)) × (out2 ≡ over (inPlaceOf (c .table) part (length out) .bytes) out)
-  pub gathered : goesInPlace c part (length out) ≡ false → FedAs c buf part out buf2 out2 r

@@ -1,90 +1,28 @@
 // A log that comes in parts: the unfinished sheet or block is kept, each line cut after 33 bytes, and answered at its last LF.
-use blocks::BLOCK_LINES;
 use blocks::read_front;
 use desk::answer;
 use desk::answer_block;
 use desk::log::refuse_sheet;
+use lines::Mark;
+use lines::empty;
+use lines::gather;
+use lines::lines_of;
 use paper::NO_ROOM;
 use paper::STAND_IN;
 use table::table::Table;
 use table::take::new_table;
-use text::sheet::LINES;
 use text::sheet::Opening;
 use text::sheet::read_sheet;
 ghost use mathlib.Core.Path.{_≡_};
 ghost use mathlib.Core.Bool.{true, false};
 ghost use Prim.Native.Nat.{ℕ, _+_, _-_, _*_, _≤_, _<_};
-ghost use lib.ListN.{length, take, drop};
-ghost use Rattle.writing.specs.Sheet.{over, sheetAfter, Wrote};
-ghost use Rattle.text.specs.TableSheet.{sheetLines, sheetRoom};
-ghost use Rattle.desk.specs.Log.{fitting};
+ghost use lib.ListN.{length};
+ghost use Rattle.writing.specs.Sheet.{over, Wrote};
+ghost use Rattle.lines.specs.Kept.{gatherOf, keptIn, Room, keptMost};
 ghost use Rattle.table.specs.Take.{Sound};
-ghost use Rattle.stream.specs.Stream.{linesOf, stateOf, keepOf, gatherOf, Room, Held, FedAs, startOf, stepOf, stepBytes, closeBytes};
-ghost use Rattle.stream.specs.InPlace.{inPlaceOf, ranOf, awaitsBlock, FedEither};
-
-// How much is kept: its bytes, its LFs, and the bytes of the line that is not ended.
-pub struct Mark {
-    pub count: usize,
-    pub lines: usize,
-    pub width: usize,
-}
-
-// One byte more.
-fn keep(buf: &mut [u8], m: Mark, b: u8) -> Mark
-    requires { ⌜ Room m × (m .lines < sheetLines) × (sheetRoom ≤ length (now buf)) ⌝ }
-    ensures { λ r. ⌜ (stateOf r (now (buf .exit)) ≡ keepOf (stateOf m (now (buf .entry))) b) × Room r ⌝ }
-{
-    let at = m.count;
-    if b == 10 {
-        buf[at] = b;
-        return Mark {
-            count: at + 1,
-            lines: m.lines + 1,
-            width: 0,
-        };
-    }
-    if m.width < 33 {
-        buf[at] = b;
-        return Mark {
-            count: at + 1,
-            lines: m.lines,
-            width: m.width + 1,
-        };
-    }
-    m
-}
-
-pub struct Got {
-    pub mark: Mark,
-    pub used: usize,
-}
-
-// How many lines are read together: before the sheet was read the sheet's, then a block's five.
-pub fn lines_of(opened: bool) -> usize
-    ensures { λ r. ⌜ (r ≡ linesOf opened) × (r ≤ sheetLines) ⌝ }
-{
-    if opened { BLOCK_LINES } else { LINES }
-}
-
-// The bytes of a part up to the LF of the last of so many lines, or all of them.
-pub fn gather(buf: &mut [u8], m: Mark, part: &[u8], want: usize) -> Got
-    requires { ⌜ Room m × (m .lines < want) × (want ≤ sheetLines) × (sheetRoom ≤ length (now buf)) ⌝ }
-    ensures kept { λ r. ⌜ (stateOf (r .mark) (now (buf .exit)) ≡ gatherOf want (stateOf m (now (buf .entry))) (now (part .entry)) .kept) × (drop (r .used) (now (part .entry)) ≡ gatherOf want (stateOf m (now (buf .entry))) (now (part .entry)) .left) ⌝ }
-    ensures room { λ r. ⌜ Room (r .mark) × (r .used ≤ length (now (part .entry))) × (0 < length (now (part .entry)) → 0 < r .used) ⌝ }
-{
-    let mut mark = m;
-    let mut i: usize = 0;
-    while i < part.len() {
-        let b = part[i];
-        mark = keep(buf, mark, b);
-        i += 1;
-        let n = mark.lines;
-        if want <= n {
-            return Got { mark, used: i };
-        }
-    }
-    Got { mark, used: i }
-}
+ghost use Rattle.stream.specs.Onward.{linesOf, linesDone, closing, anyShort};
+ghost use Rattle.stream.specs.InPlace.{inPlaceOf, ranOf, awaitsBlock};
+ghost use Rattle.stream.specs.Feeding.{longestAnswer, stateOf, stateAt, keptBy, Held, startOf, Gave, FedOn, usedOf, bufferOf, goesOn};
 
 // The clerk between two bytes: whether the sheet was read, whether it was bad, the table, and what is kept.
 pub struct Clerk {
@@ -94,67 +32,91 @@ pub struct Clerk {
     pub mark: Mark,
 }
 
+// The clerk after a part of the log, how many of its bytes are used up, how many bytes are written, and whether a block had no room for its answer: it is used
+// up and not taken (code 12).
 pub struct Fed {
     pub clerk: Clerk,
     pub used: usize,
     pub written: usize,
+    pub short: bool,
 }
 
-// Nothing is kept.
-pub fn empty() -> Mark
-    ensures { λ r. ⌜ Room r × (r .lines ≡ 0) × (r .count ≡ 0) × (r .width ≡ 0) ⌝ }
+// Whole lines: the clerk after them, with nothing kept.
+pub struct Step {
+    pub clerk: Clerk,
+    pub written: usize,
+    pub short: bool,
+}
+
+// A block that the table answers.
+fn whole_block(t: Table, block: &[u8], out: &mut [u8]) -> Step
+    requires { ⌜ Sound t ⌝ }
+    ensures gave { λ r. ⌜ Gave t (linesDone (length (now (out .entry))) (stateAt true t) (now (block .entry))) (now (out .entry)) (now (out .exit)) (r .clerk) (r .written) (r .short) ⌝ }
+    ensures held { λ r. ⌜ Held (r .clerk) × (r .written ≤ length (now (out .entry))) ⌝ }
 {
-    Mark {
-        count: 0,
-        lines: 0,
-        width: 0,
+    let a = answer(t, block, out);
+    let u = a.table;
+    let z = empty();
+    Step {
+        clerk: Clerk {
+            opened: true,
+            shut: false,
+            table: u,
+            mark: z,
+        },
+        written: a.written,
+        short: a.code == NO_ROOM,
     }
 }
 
-pub struct Step {
-    pub opened: bool,
-    pub shut: bool,
-    pub table: Table,
-    pub written: usize,
+// The sheet: it opens the table, or is bad.
+fn whole_sheet(t: Table, block: &[u8], out: &mut [u8]) -> Step
+    requires { ⌜ Sound t ⌝ }
+    ensures gave { λ r. ⌜ Gave t (linesDone (length (now (out .entry))) (stateAt false t) (now (block .entry))) (now (out .entry)) (now (out .exit)) (r .clerk) (r .written) (r .short) ⌝ }
+    ensures held { λ r. ⌜ Held (r .clerk) × (r .written ≤ length (now (out .entry))) ⌝ }
+{
+    let z = empty();
+    match read_sheet(block) {
+        Opening::Bad => Step {
+            clerk: Clerk {
+                opened: false,
+                shut: true,
+                table: t,
+                mark: z,
+            },
+            written: refuse_sheet(out),
+            short: false,
+        },
+        Opening::Read(s) => Step {
+            clerk: Clerk {
+                opened: true,
+                shut: false,
+                table: new_table(s),
+                mark: z,
+            },
+            written: 0,
+            short: false,
+        },
+    }
 }
 
 // Whole lines: the sheet, or a block that the table answers.
 fn whole(opened: bool, t: Table, block: &[u8], out: &mut [u8]) -> Step
     requires { ⌜ Sound t ⌝ }
-    ensures step { λ r. ⌜ r ≡ stepOf opened t (now (block .entry)) (now (out .entry)) ⌝ }
-    ensures bytes { λ r. ⌜ now (out .exit) ≡ sheetAfter (stepBytes opened t (now (block .entry))) (now (out .entry)) ⌝ }
-    ensures sound { λ r. ⌜ Sound (r .table) × (r .written ≤ length (now (out .entry))) ⌝ }
+    ensures gave { λ r. ⌜ Gave t (linesDone (length (now (out .entry))) (stateAt opened t) (now (block .entry))) (now (out .entry)) (now (out .exit)) (r .clerk) (r .written) (r .short) ⌝ }
+    ensures held { λ r. ⌜ Held (r .clerk) × (r .written ≤ length (now (out .entry))) ⌝ }
 {
     if opened {
-        let a = answer(t, block, out);
-        let u = a.table;
-        return Step {
-            opened: true,
-            shut: false,
-            table: u,
-            written: a.written,
-        };
+        return whole_block(t, block, out);
     }
-    match read_sheet(block) {
-        Opening::Bad => Step {
-            opened: false,
-            shut: true,
-            table: t,
-            written: refuse_sheet(out),
-        },
-        Opening::Read(s) => Step {
-            opened: true,
-            shut: false,
-            table: new_table(s),
-            written: 0,
-        },
-    }
+    whole_sheet(t, block, out)
 }
 
 // A part of the log by way of the buffer: its bytes are kept up to the end of the sheet or of a block, which is answered, or all of them.
 fn feed_kept(opened: bool, t: Table, m: Mark, buf: &mut [u8], part: &[u8], out: &mut [u8]) -> Fed
-    requires { ⌜ Sound t × Room m × (m .lines < linesOf opened) × (sheetRoom ≤ length (now buf)) ⌝ }
-    ensures fed { λ r. ⌜ FedAs (record { opened = opened; shut = false; table = t; mark = m }) (now (buf .entry)) (now (part .entry)) (now (out .entry)) (now (buf .exit)) (now (out .exit)) r ⌝ }
+    requires { ⌜ Sound t × Room m × (m .lines < linesOf opened) × (keptMost ≤ length (now buf)) ⌝ }
+    ensures fed { λ r. ⌜ FedOn (length (now (out .entry))) (record { opened = opened; shut = false; table = t; mark = m }) (now (buf .entry)) (now (part .entry)) (now (out .entry)) (now (buf .exit)) (now (out .exit)) r ⌝ }
+    ensures used { λ r. ⌜ (r .used ≡ gatherOf (linesOf opened) (keptIn m (now (buf .entry))) (now (part .entry)) .used) × (now (buf .exit) ≡ over (gatherOf (linesOf opened) (keptIn m (now (buf .entry))) (now (part .entry)) .kept .bytes) (now (buf .entry))) ⌝ }
     ensures held { λ r. ⌜ Held (r .clerk) × (r .used ≤ length (now (part .entry))) × (0 < length (now (part .entry)) → 0 < r .used) × (r .written ≤ length (now (out .entry))) ⌝ }
 {
     let want = lines_of(opened);
@@ -172,22 +134,17 @@ fn feed_kept(opened: bool, t: Table, m: Mark, buf: &mut [u8], part: &[u8], out: 
             clerk: d,
             used: g.used,
             written: 0,
+            short: false,
         };
     }
     let e = k.count;
     let s = whole(opened, t, &buf[0..e], out);
-    let u = s.table;
-    let z = empty();
-    let d = Clerk {
-        opened: s.opened,
-        shut: s.shut,
-        table: u,
-        mark: z,
-    };
+    let d = s.clerk;
     Fed {
         clerk: d,
         used: g.used,
         written: s.written,
+        short: s.short,
     }
 }
 
@@ -250,10 +207,11 @@ fn awaits_block(opened: bool, m: Mark) -> bool
     false
 }
 
-// A part of the log where a block is awaited: the whole blocks at its front where they lie; where there is none, by way of the buffer.
+// A part of the log where a block is awaited: the whole blocks at its front where they lie; where there is none with room for its answer, by way of the buffer.
 fn feed_awaiting(t: Table, m: Mark, buf: &mut [u8], part: &[u8], out: &mut [u8]) -> Fed
-    requires { ⌜ Sound t × Room m × (awaitsBlock true m ≡ true) × (sheetRoom ≤ length (now buf)) ⌝ }
-    ensures fed { λ r. ⌜ FedEither (record { opened = true; shut = false; table = t; mark = m }) (now (buf .entry)) (now (part .entry)) (now (out .entry)) (now (buf .exit)) (now (out .exit)) r ⌝ }
+    requires { ⌜ Sound t × Room m × (awaitsBlock true m ≡ true) × (keptMost ≤ length (now buf)) ⌝ }
+    ensures fed { λ r. ⌜ FedOn (length (now (out .entry))) (record { opened = true; shut = false; table = t; mark = m }) (now (buf .entry)) (now (part .entry)) (now (out .entry)) (now (buf .exit)) (now (out .exit)) r ⌝ }
+    ensures used { λ r. ⌜ (r .used ≡ usedOf (record { opened = true; shut = false; table = t; mark = m }) (now (buf .entry)) (now (part .entry)) (length (now (out .entry)))) × (now (buf .exit) ≡ bufferOf (record { opened = true; shut = false; table = t; mark = m }) (now (buf .entry)) (now (part .entry)) (length (now (out .entry)))) ⌝ }
     ensures held { λ r. ⌜ Held (r .clerk) × (r .used ≤ length (now (part .entry))) × (0 < length (now (part .entry)) → 0 < r .used) × (r .written ≤ length (now (out .entry))) ⌝ }
 {
     let a = in_place(t, part, out);
@@ -272,14 +230,17 @@ fn feed_awaiting(t: Table, m: Mark, buf: &mut [u8], part: &[u8], out: &mut [u8])
         clerk: d,
         used: a.used,
         written: a.written,
+        short: false,
     }
 }
 
 // A part of the log: where a block is awaited, the whole blocks at its front, answered where they lie; else its bytes up to the end of the
-// sheet or of a block, which is answered, or all of them.
+// sheet or of a block, which is answered, or all of them. A block whose answer has no room is used up where it is the first of a call; behind others it is left for
+// the next call, where it is first.
 pub fn feed(c: Clerk, buf: &mut [u8], part: &[u8], out: &mut [u8]) -> Fed
-    requires { ⌜ Held c × (sheetRoom ≤ length (now buf)) ⌝ }
-    ensures fed { λ r. ⌜ FedEither c (now (buf .entry)) (now (part .entry)) (now (out .entry)) (now (buf .exit)) (now (out .exit)) r ⌝ }
+    requires { ⌜ Held c × (keptMost ≤ length (now buf)) ⌝ }
+    ensures fed { λ r. ⌜ FedOn (length (now (out .entry))) c (now (buf .entry)) (now (part .entry)) (now (out .entry)) (now (buf .exit)) (now (out .exit)) r ⌝ }
+    ensures used { λ r. ⌜ (r .used ≡ usedOf c (now (buf .entry)) (now (part .entry)) (length (now (out .entry)))) × (now (buf .exit) ≡ bufferOf c (now (buf .entry)) (now (part .entry)) (length (now (out .entry)))) ⌝ }
     ensures held { λ r. ⌜ Held (r .clerk) × (r .used ≤ length (now (part .entry))) × (0 < length (now (part .entry)) → 0 < r .used) × (r .written ≤ length (now (out .entry))) ⌝ }
 {
     if c.shut {
@@ -287,6 +248,7 @@ pub fn feed(c: Clerk, buf: &mut [u8], part: &[u8], out: &mut [u8]) -> Fed
             clerk: c,
             used: part.len(),
             written: 0,
+            short: false,
         };
     }
     let t = c.table;
@@ -295,6 +257,45 @@ pub fn feed(c: Clerk, buf: &mut [u8], part: &[u8], out: &mut [u8]) -> Fed
         return feed_awaiting(t, m, buf, part, out);
     }
     feed_kept(c.opened, t, m, buf, part, out)
+}
+
+// No answer is longer (`longest`, proofs/Longest).
+pub const LONGEST: usize = 562;
+
+// Whether bytes of the part are left, and there is room for any answer.
+fn goes_on(used: usize, size: usize, at: usize, room: usize) -> bool
+    requires { ⌜ at ≤ room ⌝ }
+    ensures { λ r. ⌜ r ≡ goesOn used size at room ⌝ }
+{
+    if used < size {
+        return LONGEST <= room - at;
+    }
+    false
+}
+
+// A part of the log, block after block, until it is used up, or until there is less room than the longest answer takes.
+pub fn feed_on(c: Clerk, buf: &mut [u8], part: &[u8], out: &mut [u8]) -> Fed
+    requires { ⌜ Held c × (keptMost ≤ length (now buf)) ⌝ }
+    ensures fed { λ r. ⌜ FedOn longestAnswer c (now (buf .entry)) (now (part .entry)) (now (out .entry)) (now (buf .exit)) (now (out .exit)) r ⌝ }
+    ensures held { λ r. ⌜ Held (r .clerk) × (r .used ≤ length (now (part .entry))) × (r .written ≤ length (now (out .entry))) ⌝ }
+    ensures far { λ r. ⌜ (r .used < length (now (part .entry)) → length (now (out .entry)) < r .written + longestAnswer) × (0 < length (now (part .entry)) → longestAnswer ≤ length (now (out .entry)) → 0 < r .used) ⌝ }
+{
+    let mut clerk = c;
+    let mut used: usize = 0;
+    let mut at: usize = 0;
+    while goes_on(used, part.len(), at, out.len()) {
+        let f = feed(clerk, buf, &part[used..], &mut out[at..]);
+        let d = f.clerk;
+        clerk = d;
+        used += f.used;
+        at += f.written;
+    }
+    Fed {
+        clerk,
+        used,
+        written: at,
+        short: false,
+    }
 }
 
 // Before the first byte.
@@ -311,24 +312,43 @@ pub fn start() -> Clerk
     }
 }
 
+// What the close has written, and whether the last answer had no room (code 12).
+pub struct Closed {
+    pub written: usize,
+    pub short: bool,
+}
+
 // The end of the log: a sheet that is not whole is bad, and a block that is not whole is malformed.
-pub fn close(c: Clerk, buf: &[u8], out: &mut [u8]) -> usize
-    requires { ⌜ Held c × (sheetRoom ≤ length (now buf)) ⌝ }
-    ensures bytes { λ r. ⌜ Wrote (fitting (closeBytes c (now (buf .entry))) (length (now (out .entry)))) (now (out .entry)) (now (out .exit)) r ⌝ }
-    ensures within { λ r. ⌜ r ≤ length (now (out .entry)) ⌝ }
+pub fn close(c: Clerk, buf: &[u8], out: &mut [u8]) -> Closed
+    requires { ⌜ Held c × (keptMost ≤ length (now buf)) ⌝ }
+    ensures bytes { λ r. ⌜ Wrote (closing (length (now (out .entry))) (stateOf c) (keptBy c (now (buf .entry))) .bytes) (now (out .entry)) (now (out .exit)) (r .written) ⌝ }
+    ensures short { λ r. ⌜ r .short ≡ anyShort (closing (length (now (out .entry))) (stateOf c) (keptBy c (now (buf .entry))) .codes) ⌝ }
+    ensures within { λ r. ⌜ r .written ≤ length (now (out .entry)) ⌝ }
 {
     if c.shut {
-        return 0;
+        return Closed {
+            written: 0,
+            short: false,
+        };
     }
+    let m = c.mark;
+    let e = m.count;
     if c.opened {
-        let m = c.mark;
-        let e = m.count;
         if e == 0 {
-            return 0;
+            return Closed {
+                written: 0,
+                short: false,
+            };
         }
         let t = c.table;
         let a = answer(t, &buf[0..e], out);
-        return a.written;
+        return Closed {
+            written: a.written,
+            short: a.code == NO_ROOM,
+        };
     }
-    refuse_sheet(out)
+    Closed {
+        written: refuse_sheet(out),
+        short: false,
+    }
 }

@@ -4,7 +4,7 @@ use Rattle.fair_copy.proofs.feed.Statement.{statement}
 use Rattle.fair_copy.proofs.feed.Tie as tie
 
 returns : tie.Need-returns
-returns c = search needs
+returns c = let s = c .before .before .before .before .before in (s .pre .0, ((omega arith, s .pre .2), (omega arith, omega arith)))
 
 lines-of-requires : tie.Need-lines-of-requires
 lines-of-requires c κs = search needs
@@ -19,7 +19,7 @@ same-length : tie.Need-same-length
 same-length c = search needs
 
 returns-2 : tie.Need-returns-2
-returns-2 c = (c .with-mark .ensures, ((c .before .before .before .before .before .gather .ensures .1 .1, c .before .before .before .before .before .gather .ensures .1 .2 ((c .before .before .before .before .before .before .before .before .before .before .before .before .before .before) .pre .2)), (omega arith, omega arith)))
+returns-2 c = (c .with-mark .ensures, ((c .before .before .before .before .before .gather .ensures .1 .1 .1, c .before .before .before .before .before .gather .ensures .1 .1 .2 ((c .before .before .before .before .before .before .before .before .before .before .before .before .before .before) .pre .2)), (omega arith, omega arith)))
 
 sub-take-lines : tie.Need-sub-take-lines
 sub-take-lines c = search needs
@@ -46,7 +46,7 @@ same-length-4 : tie.Need-same-length-4
 same-length-4 c = search needs
 
 returns-3 : tie.Need-returns-3
-returns-3 c = (c .behind .ensures, ((c .before .before .before .before .before .before .before .before .before .before .before .before .before .before .gather .ensures .1 .1, c .before .before .before .before .before .before .before .before .before .before .before .before .before .before .gather .ensures .1 .2 ((c .before .before .before .before .before .before .before .before .before .before .before .before .before .before .before .before .before .before .before .before .before .before .before) .pre .2)), c .before .before .before .before .before .take-lines .ensures))
+returns-3 c = (c .behind .ensures, ((c .before .before .before .before .before .before .before .before .before .before .before .before .before .before .gather .ensures .1 .1 .1, c .before .before .before .before .before .before .before .before .before .before .before .before .before .before .gather .ensures .1 .1 .2 ((c .before .before .before .before .before .before .before .before .before .before .before .before .before .before .before .before .before .before .before .before .before .before .before) .pre .2)), c .before .before .before .before .before .take-lines .ensures))
 
 pub feed-spec : {M : Type 1} → statement M
 feed-spec =

@@ -1,6 +1,3 @@
-use Rattle.desk.proofs.Whole.{fitting-within}
-use Rattle.desk.specs.Log.{eleven}
-use lib.ListN.{length}
 use native.Mathlib.Omega.{arith}
 use borrow.Author.Needs.{needs}
 use Rattle.fair_copy.proofs.open_sheet.Statement.{statement}
@@ -12,8 +9,8 @@ read-sheet-requires c κs = search needs
 enum-told : tie.Need-enum-told
 enum-told c = search needs
 
-refuse-sheet-requires : tie.Need-refuse-sheet-requires
-refuse-sheet-requires c κs = search needs
+note-bad-requires : tie.Need-note-bad-requires
+note-bad-requires c κs = search needs
 
 enum-known-s : tie.Need-enum-known-s
 enum-known-s c = search needs
@@ -25,7 +22,7 @@ same-length : tie.Need-same-length
 same-length c = search needs
 
 returns : tie.Need-returns
-returns c = (omega arith, omega (arith, c .before .before .refuse-sheet .ensures .count, fitting-within eleven (length ((c .before .before .before .before .before .before .before .before .before .before) .args .notes .now))))
+returns c = (omega arith, c .before .before .note-bad .ensures)
 
 same-length-2 : tie.Need-same-length-2
 same-length-2 c = search needs
@@ -39,7 +36,7 @@ open-sheet-spec =
     (tie.spec
     read-sheet-requires
     enum-told
-    refuse-sheet-requires
+    note-bad-requires
     enum-known-s
     copy-sheet-requires
     same-length

@@ -1,9 +1,10 @@
--- `feed_awaiting` meets its contract: whole blocks where they lie, or, where none was answered and so nothing written, by way of the buffer.
-use mathlib.Core.Path.{ap}
+-- `feed_awaiting` meets its contract: in place, or where no block is answered so by way of the buffer.
+use mathlib.Core.Bool.{true≢false}
+use mathlib.Core.Path.{sym, ap}
 use native.Mathlib.Omega.{arith}
 use lib.ListN.{length}
+use Rattle.stream.proofs.Feeds.{fed-out, awaits-is, none-written, fed-placed, used-placed, used-none}
 use borrow.Author.Needs.{needs}
-use Rattle.stream.proofs.Either.{awaits-is, none-written, awaiting-none, awaiting-some}
 use Rattle.stream.proofs.feed_awaiting.Statement.{statement}
 use Rattle.stream.proofs.feed_awaiting.Tie as tie
 
@@ -26,13 +27,12 @@ returns c =
     let s = c .before .before .before .before .before .before .before .before .before .before .before .before .before .before .before .before in
     let a = c .before .before .before .before .before .before .before .before .before .before .before .in-place in
     let z = c .before .before .before .before .before .before .before .if1 .taken in
-    let k = c .before .before .before .before .feed-kept in (
-      awaiting-none (s .args .t) (s .args .m) (s .args .part .now) (s .args .out .now) (a .ensures .0) (a .ensures .1 .0) z (k .ensures .0),
+    let k = c .before .before .before .before .feed-kept in
+    let n = none-written (s .args .t) (s .args .m) (s .args .part .now) (s .args .out .now) (a .ensures .0) (a .ensures .1 .0) z in (
+      fed-out n (k .ensures .0),
       (
-        k .ensures .1 .0,
-        k .ensures .1 .1,
-        k .ensures .1 .2,
-        omega (arith, k .ensures .1 .3, ap length (none-written (s .args .t) (s .args .m) (s .args .part .now) (s .args .out .now) (a .ensures .0) (a .ensures .1 .0) z)),
+        used-none (s .args .t) (s .args .m) (s .args .part .now) (s .args .out .now) (a .ensures .0) (s .args .buf .now) z (k .ensures .1 .0),
+        (k .ensures .1 .1 .0, k .ensures .1 .1 .1, k .ensures .1 .1 .2, omega (arith, k .ensures .1 .1 .3, ap length n)),
       ),
     )
 
@@ -48,8 +48,16 @@ returns-2 c =
     let a = c .before .before .before .before .before .before .in-place in
     let e = c .empty .ensures in
     let n = c .before .before .if1 .left in (
-      awaiting-some (s .args .t) (s .args .m) (s .args .part .now) (s .args .out .now) (a .ensures .0) (a .ensures .1 .0) (s .pre .2) n (e .1, e .2, e .3),
-      (record { sound = a .ensures .1 .1 .0; room = e .0; lines = omega (arith, e .1) }, a .ensures .1 .1 .1, λ h. omega (arith, n), a .ensures .1 .1 .2),
+      fed-placed (s .args .t) (s .args .m) (s .args .part .now) (s .args .out .now) (a .ensures .0) (a .ensures .1 .0) (s .args .buf .now) (s .pre .1) (s .pre .2) n (e .0),
+      (
+        used-placed (s .args .t) (s .args .m) (s .args .part .now) (s .args .out .now) (a .ensures .0) (a .ensures .1 .0) (s .args .buf .now) (s .pre .1) (s .pre .2) n,
+        (
+          record { sound = a .ensures .1 .1 .0; room = e .1; lines = rw (e .0) (omega arith); shut = λ q. absurd (true≢false (sym q)) },
+          a .ensures .1 .1 .1,
+          λ h. omega (arith, n),
+          a .ensures .1 .1 .2,
+        ),
+      ),
     )
 
 pub feed-awaiting-spec : {M : Type 1} → statement M

@@ -1,5 +1,7 @@
 -- `start` meets its contract: the stand-in is a good sheet.
 use Rattle.paper.proofs.Sheets.{stand-in-good}
+use mathlib.Core.Bool.{true≢false}
+use mathlib.Core.Path.{sym}
 use native.Mathlib.Omega.{arith}
 use borrow.Author.Needs.{needs}
 use Rattle.stream.proofs.start.Statement.{statement}
@@ -15,7 +17,7 @@ returns : tie.Need-returns
 returns c =
     let z = c .empty .ensures in
     let t = c .before .new-table .ensures in
-    (rw (t .0, z .1, z .2, z .3), record { sound = t .1; room = z .0; lines = omega (arith, z .1) })
+    (rw (t .0, z .0), record { sound = t .1; room = z .1; lines = rw (z .0) (omega arith); shut = λ e. absurd (true≢false (sym e)) })
 
 pub start-spec : {M : Type 1} → statement M
 start-spec = tie.close (tie.spec new-table-requires empty-requires returns)

@@ -1,0 +1,4 @@
+-- Laws of lines that come in parts.
+pub mod Keeps
+pub mod Cut
+pub mod Gathers

@@ -1,0 +1,2 @@
+-- Lines that come in parts.
+pub mod Kept
