@@ -1,4 +1,4 @@
--- What the copier keeps between two bytes: an unfinished sheet or block lies in its 204 bytes, and has fewer LFs than lines are read together.
+-- What the copier keeps between two bytes: an unfinished sheet or block lies in its buffer, and has fewer LFs than lines are read together.
 use Prim.Native.Nat.{_<_}
 use Rattle.lines.specs.Kept.{Room, linesOf}
 use Rattle.fair_copy.specs.declared.Copier.{Copier}

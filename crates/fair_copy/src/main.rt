@@ -365,7 +365,7 @@ fn end(c: Copier, buf: &[u8])
 }
 
 fn main() {
-    let mut buf = [0u8; 204];
+    let mut buf = [0u8; text::sheet::ROOM];
     let t = read_all(&mut buf);
     if laws::both(!t.failed, !t.copier.shut) {
         let c = t.copier;

@@ -7,7 +7,7 @@ use mathlib.Core.Bool.{Bool, true, false}
 use lib.ListN.{length, take}
 use lib.Dec.{eqb, ltb, leb}
 use Rattle.laws.specs.Tests.{pick}
-use Rattle.text.specs.TableSheet.{sheetLines}
+use Rattle.text.specs.TableSheet.{sheetLines, sheetRoom}
 use Rattle.lines.specs.declared.Mark.{Mark}
 use Rattle.lines.specs.declared.Got.{Got}
 
@@ -65,7 +65,7 @@ gotOf g = record { mark = markOf (g .kept); used = g .used }
 
 -- the sheet's lines, each with 33 bytes and its LF
 abbrev pub keptMost : ℕ
-keptMost = sheetLines * 34
+keptMost = sheetRoom
 
 -- what is kept fits the buffer; a line that is too long is there
 pub record Room (m : Mark) : Type 0 where

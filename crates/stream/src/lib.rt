@@ -1,5 +1,6 @@
 // A log that comes in parts: the unfinished sheet or block is kept, each line cut after 33 bytes, and answered at its last LF.
 use blocks::read_front;
+use answers::LONGEST;
 use desk::answer;
 use desk::answer_block;
 use desk::log::refuse_sheet;
@@ -258,9 +259,6 @@ pub fn feed(c: Clerk, buf: &mut [u8], part: &[u8], out: &mut [u8]) -> Fed
     }
     feed_kept(c.opened, t, m, buf, part, out)
 }
-
-// No answer is longer (`longest`, proofs/Longest).
-pub const LONGEST: usize = 562;
 
 // Whether bytes of the part are left, and there is room for any answer.
 fn goes_on(used: usize, size: usize, at: usize, room: usize) -> bool
