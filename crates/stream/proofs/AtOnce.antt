@@ -16,11 +16,11 @@ use Rattle.laws.proofs.Sums.{le-or-lt}
 use Rattle.text.specs.Number.{numberOf, wellFormed}
 use Rattle.text.specs.Line.{lineLen, lineOf, lineEnded, hasKey, valueOf, afterLines}
 use Rattle.blocks.specs.Block.{restOf, blockOf}
-use Rattle.text.specs.TableSheet.{sheetLines, sheetKeys, sheetFrom, sheetTo, ranged, sheetNumber, isValue, sheetWith, sheetOf, sheetEnd}
+use Rattle.text.specs.TableSheet.{sheetLines, sheetKeys, sheetNumber, isValue, sheetOf, sheetEnd}
 use Rattle.text.specs.declared.sheet.Opening.{Opening}
 use Rattle.text.specs.declared.sheet.Opening.the-variants.{Read, Bad}
 use Rattle.blocks.proofs.Blocks.{rest-shorter}
-use Rattle.text.proofs.SheetLaws.{good-not, sheet-bad}
+use Rattle.text.proofs.SheetLaws.{good-not, sheet-bad, sheet-same}
 use Rattle.lines.specs.Kept.{Kept, nothing, keepAll, Gathered, gatherOf}
 use Rattle.lines.proofs.Cut.{ended, cap, lfs, cap-lf, cap-in, kept-bytes, lfs-lf, lfs-on, ended-is, value-same, cap-lines, cap-value, lines-front, lines-lfs, front-line, lines-none}
 use Rattle.lines.proofs.Gathers.{gather-keeps, gather-lines, open-kept, whole-kept}
@@ -112,27 +112,21 @@ each-onward (suc k) room t log h = ⊎-elim
 
 -- ---- the sheet depends on its lines alone, cut after 33 bytes, whatever follows them
 
-same-sheet : (x y : List ℕ) → ((k : ℕ) → k < sheetLines → sheetNumber k x ≡ sheetNumber k y) → sheetOf x ≡ sheetOf y
-unfolding sheetOf sheetWith
-same-sheet x y e = rw (e 0 (omega arith), e 1 (omega arith), e 2 (omega arith), e 3 (omega arith), e 4 (omega arith), e 5 (omega arith))
-
 pub cut-sheet : (l : List ℕ) → sheetOf (cap 0 l) ≡ sheetOf l
 unfolding sheetNumber
-cut-sheet l = same-sheet (cap 0 l) l (λ k h. number k)
+cut-sheet l = sheet-same (cap 0 l) l (λ k h. number k)
   where
     number : (k : ℕ) → sheetNumber k (cap 0 l) ≡ sheetNumber k l
-    number k =
-        ap (λ (v : List ℕ). ranged (getD sheetFrom k 0) (getD sheetTo k 0) (numberOf v))
-        (ap (valueOf (getD sheetKeys k [])) (cap-lines k l) ∙ cap-value (getD sheetKeys k []) (afterLines k l))
+    number k = ap numberOf (ap (valueOf (getD sheetKeys k [])) (cap-lines k l) ∙ cap-value (getD sheetKeys k []) (afterLines k l))
 
 front-sheet : (xs rest : List ℕ) → sheetLines ≤ lfs xs → sheetOf (xs ++ rest) ≡ sheetOf xs
 unfolding sheetNumber
-front-sheet xs rest h = same-sheet (xs ++ rest) xs (λ k i. number k i)
+front-sheet xs rest h = sheet-same (xs ++ rest) xs (λ k i. number k i)
   where
     number : (k : ℕ) → k < sheetLines → sheetNumber k (xs ++ rest) ≡ sheetNumber k xs
     number k i =
         let r = front-line (afterLines k xs) rest (omega (arith, lines-lfs k xs (omega arith))) in
-        ap (λ (v : List ℕ). ranged (getD sheetFrom k 0) (getD sheetTo k 0) (numberOf v))
+        ap numberOf
         (ap (valueOf (getD sheetKeys k [])) (lines-front k xs rest (omega arith))
         ∙ value-same (getD sheetKeys k []) (afterLines k xs ++ rest) (afterLines k xs) (r .0) (r .1) (r .2))
 
@@ -156,7 +150,7 @@ number-open : (k : ℕ) (l : List ℕ) → lfs l ≡ k → isValue (sheetNumber 
 unfolding sheetNumber numberOf wellFormed
 number-open k l h =
     let z : lfs (afterLines k l) ≡ 0 = omega (arith, lines-lfs k l (omega arith)) in
-    ap (λ (v : List ℕ). isValue (ranged (getD sheetFrom k 0) (getD sheetTo k 0) (numberOf v))) (value-open (getD sheetKeys k []) (afterLines k l) (none-ended (afterLines k l) z))
+    ap (λ (v : List ℕ). isValue (numberOf v)) (value-open (getD sheetKeys k []) (afterLines k l) (none-ended (afterLines k l) z))
 
 sheet-open : (l : List ℕ) → lfs l < sheetLines → sheetOf l ≡ Bad
 sheet-open l h = sheet-bad l (good-not sheetLines (lfs l) l h (number-open (lfs l) l refl))
