@@ -33,7 +33,7 @@ lineKinds = length keys
 abbrev pub mosts : List ℕ
 mosts =
     999_999_999
-    ∷ refusals - 1
+    ∷ (refusals - 1)
     ∷ 10
     ∷ 999_999_999
     ∷ 999_999_999

@@ -1,7 +1,7 @@
 // Rounds of Crown Hold'em (request No. 14) in text: a block of sixteen lines read, its answer written, and blocks gathered from the parts in which they arrive.
+mod answering;
 mod parts;
 mod reading;
-mod writing;
 
 pub use parts::Fed;
 pub use parts::Mark;

@@ -1,5 +1,5 @@
 // Blocks that come in parts: the unfinished block is kept, each line cut after 33 bytes, and answered at its sixteenth LF.
-use crate::writing::answer;
+use crate::answering::answer;
 ghost use mathlib.Core.Path.{_≡_};
 ghost use Prim.Native.Nat.{_≤_, _<_};
 ghost use lib.ListN.{length, drop};

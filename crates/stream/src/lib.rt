@@ -1,6 +1,6 @@
 // A log that comes in parts: the unfinished sheet or block is kept, each line cut after 33 bytes, and answered at its last LF.
-use blocks::read_front;
 use answers::LONGEST;
+use blocks::read_front;
 use desk::answer;
 use desk::answer_block;
 use desk::log::refuse_sheet;

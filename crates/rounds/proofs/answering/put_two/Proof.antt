@@ -1,11 +1,11 @@
--- `rounds::writing::put_two` meets its contract. Assumes nothing.
+-- `rounds::answering::put_two` meets its contract. Assumes nothing.
 use Rattle.rounds.proofs.Lengths.{line-most}
 use Rattle.rounds.specs.RoundAnswer.{twoBytes}
 use Rattle.writing.proofs.Sheets.{then}
 use native.Mathlib.Omega.{arith}
 use borrow.Author.Needs.{needs}
-use Rattle.rounds.proofs.writing.put_two.Statement.{statement}
-use Rattle.rounds.proofs.writing.put_two.Tie as tie
+use Rattle.rounds.proofs.answering.put_two.Statement.{statement}
+use Rattle.rounds.proofs.answering.put_two.Tie as tie
 
 write-number-line-requires : tie.Need-write-number-line-requires
 write-number-line-requires c κs = ((c .before .before .before .before) .pre .0, omega (arith, (c .before .before .before .before) .pre .4, line-most ((c .before .before .before .before) .args .first .now) ((c .before .before .before .before) .args .x) ((c .before .before .before .before) .pre .2)))

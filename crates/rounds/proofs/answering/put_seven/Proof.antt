@@ -1,11 +1,11 @@
--- `rounds::writing::put_seven` meets its contract. Assumes nothing.
+-- `rounds::answering::put_seven` meets its contract. Assumes nothing.
 use Rattle.rounds.proofs.Lengths.{line-most}
 use Rattle.rounds.specs.RoundAnswer.{sevenBytes, keyDealer}
 use Rattle.writing.proofs.Sheets.{then}
 use native.Mathlib.Omega.{arith}
 use borrow.Author.Needs.{needs}
-use Rattle.rounds.proofs.writing.put_seven.Statement.{statement}
-use Rattle.rounds.proofs.writing.put_seven.Tie as tie
+use Rattle.rounds.proofs.answering.put_seven.Statement.{statement}
+use Rattle.rounds.proofs.answering.put_seven.Tie as tie
 
 slice-aggregate-put-two : tie.Need-slice-aggregate-put-two
 slice-aggregate-put-two c = search needs

@@ -1,9 +1,9 @@
--- `rounds::writing::judge` meets its contract. Assumes nothing.
+-- `rounds::answering::judge` meets its contract. Assumes nothing.
 use Rattle.rounds.specs.RoundText.{judgedOf}
 use mathlib.Core.Path.{sym, _∙_}
 use borrow.Author.Needs.{needs}
-use Rattle.rounds.proofs.writing.judge.Statement.{statement}
-use Rattle.rounds.proofs.writing.judge.Tie as tie
+use Rattle.rounds.proofs.answering.judge.Statement.{statement}
+use Rattle.rounds.proofs.answering.judge.Tie as tie
 
 array-read-is-choice : tie.Need-array-read-is-choice
 array-read-is-choice c = search needs

@@ -1,10 +1,10 @@
--- `rounds::writing::answer` meets its contract. Assumes nothing.
+-- `rounds::answering::answer` meets its contract. Assumes nothing.
 use Rattle.rounds.proofs.Lengths.{line-most, answer-good, answer-bad}
 use Rattle.rounds.specs.RoundAnswer.{keyCode}
 use native.Mathlib.Omega.{arith}
 use borrow.Author.Needs.{needs}
-use Rattle.rounds.proofs.writing.answer.Statement.{statement}
-use Rattle.rounds.proofs.writing.answer.Tie as tie
+use Rattle.rounds.proofs.answering.answer.Statement.{statement}
+use Rattle.rounds.proofs.answering.answer.Tie as tie
 
 read-numbers-requires : tie.Need-read-numbers-requires
 read-numbers-requires c κs = search needs

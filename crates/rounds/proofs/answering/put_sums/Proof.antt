@@ -1,10 +1,10 @@
--- `rounds::writing::put_sums` meets its contract. Assumes nothing.
+-- `rounds::answering::put_sums` meets its contract. Assumes nothing.
 use Rattle.rounds.specs.RoundAnswer.{sumsBytes}
 use Rattle.writing.proofs.Sheets.{then}
 use native.Mathlib.Omega.{arith}
 use borrow.Author.Needs.{needs}
-use Rattle.rounds.proofs.writing.put_sums.Statement.{statement}
-use Rattle.rounds.proofs.writing.put_sums.Tie as tie
+use Rattle.rounds.proofs.answering.put_sums.Statement.{statement}
+use Rattle.rounds.proofs.answering.put_sums.Tie as tie
 
 slice-aggregate-put-two : tie.Need-slice-aggregate-put-two
 slice-aggregate-put-two c = search needs

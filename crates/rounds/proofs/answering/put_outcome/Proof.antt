@@ -1,11 +1,11 @@
--- `rounds::writing::put_outcome` meets its contract. Assumes nothing.
+-- `rounds::answering::put_outcome` meets its contract. Assumes nothing.
 use Rattle.rounds.proofs.Lengths.{line-most, code-small, paid-bytes, two-bytes, eight-bytes}
 use Rattle.rounds.specs.RoundAnswer.{keyCode}
 use Rattle.writing.proofs.Sheets.{then}
 use native.Mathlib.Omega.{arith}
 use borrow.Author.Needs.{needs}
-use Rattle.rounds.proofs.writing.put_outcome.Statement.{statement}
-use Rattle.rounds.proofs.writing.put_outcome.Tie as tie
+use Rattle.rounds.proofs.answering.put_outcome.Statement.{statement}
+use Rattle.rounds.proofs.answering.put_outcome.Tie as tie
 
 code-of-requires : tie.Need-code-of-requires
 code-of-requires c κs = search needs

@@ -1,10 +1,10 @@
--- `rounds::writing::put_settled` meets its contract. Assumes nothing.
+-- `rounds::answering::put_settled` meets its contract. Assumes nothing.
 use Rattle.rounds.specs.RoundAnswer.{settledBytes}
 use Rattle.writing.proofs.Sheets.{then}
 use native.Mathlib.Omega.{arith}
 use borrow.Author.Needs.{needs}
-use Rattle.rounds.proofs.writing.put_settled.Statement.{statement}
-use Rattle.rounds.proofs.writing.put_settled.Tie as tie
+use Rattle.rounds.proofs.answering.put_settled.Statement.{statement}
+use Rattle.rounds.proofs.answering.put_settled.Tie as tie
 
 put-seven-requires : tie.Need-put-seven-requires
 put-seven-requires c κs = ((c .before .before .before) .pre .0 .backs, omega (arith, (c .before .before .before) .pre .1))
