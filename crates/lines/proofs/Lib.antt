@@ -2,3 +2,4 @@
 pub mod Keeps
 pub mod Cut
 pub mod Gathers
+pub mod Bad
