@@ -1,5 +1,7 @@
 // Places, a test program: a line of five card numbers after another on standard input, and for each the place of the hand, `place=N`; or `code=2` for
 // another count than five or a card above 51, then `code=8` for a card that comes twice.
+use cards::any_above;
+use cards::any_twice;
 use libc::STDIN_FILENO;
 use libc::STDOUT_FILENO;
 ghost use Prim.Native.Nat.{_+_, _≤_, _<_};
@@ -73,44 +75,6 @@ fn take_byte(l: Line, cards: &mut [u8], b: u8) -> Line
         word: grown(l.word, b),
         begun: true,
     }
-}
-
-// Whether a card is above 51.
-fn any_above(cards: &[u8]) -> bool {
-    let mut i = 0;
-    while i < cards.len() {
-        if 51 < cards[i] {
-            return true;
-        }
-        i += 1;
-    }
-    false
-}
-
-// Whether x is among the cards from `from` on.
-fn among(cards: &[u8], from: usize, x: u8) -> bool
-    requires { ⌜ from ≤ length (now cards) ⌝ }
-{
-    let mut i = from;
-    while i < cards.len() {
-        if x == cards[i] {
-            return true;
-        }
-        i += 1;
-    }
-    false
-}
-
-// Whether a card comes twice.
-fn any_twice(cards: &[u8]) -> bool {
-    let mut i = 0;
-    while i < cards.len() {
-        if among(cards, i + 1, cards[i]) {
-            return true;
-        }
-        i += 1;
-    }
-    false
 }
 
 // The paper's number for these cards; 0 for five different ones.
