@@ -120,7 +120,7 @@ fn pays_all(worths: &[u32], paid: &[u32], p: &[u32]) -> bool
 }
 
 // What is taken from row i in all.
-pub fn taken_from(p: &[u32], rows: usize, sittings: usize, i: usize) -> u64
+fn taken_from(p: &[u32], rows: usize, sittings: usize, i: usize) -> u64
     requires { ⌜ (rows ≤ 16) × (sittings ≤ 10) × (i ≤ 16) ⌝ }
     ensures { λ r. ⌜ r ≡ takenFrom rows sittings (now (p .entry)) i ⌝ }
 {
