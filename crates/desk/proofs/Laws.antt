@@ -50,7 +50,7 @@ use Rattle.answers.specs.declared.Shown.{Shown}
 use Rattle.answers.specs.Answer.{SmallRow, Small, answerBytes}
 use Rattle.desk.specs.declared.Judged.{Judged}
 use Rattle.desk.specs.declared.Answered.{Answered}
-use Rattle.desk.specs.Desk.{rowsOf, payoutShown, shownOf, refusedAt, noBlock, judgeParsed, judgeBlock, judgedOf, judgedBytes, blockBytes, answeredFrom, answeredOf, numberOfBlock, SmallPaid}
+use Rattle.desk.specs.Desk.{rowsOf, payoutShown, shownOf, refusedAt, noBlock, judgeParsed, judgeBlock, judgedOf, judgedBytes, blockBytes, answeredFrom, answeredOf, numberOfBlock, SmallPaid, Closed}
 use Rattle.chairs.specs.declared.What.the-variants as what
 
 -- ---- rows of sittings and what they are paid, one by one
@@ -326,9 +326,9 @@ rows-small (s ∷ ss) [] k h q = record { sitting = omega arith; paid = omega ar
 rows-small (s ∷ ss) (p ∷ ps) zero h q = record { sitting = h 0; paid = q 0 }
 rows-small (s ∷ ss) (p ∷ ps) (suc k) h q = rows-small ss ps k (λ i. h (suc i)) (λ i. q (suc i))
 
-shown-small : (n code : ℕ) (t : Table) (p : Paid) → Sound t → n < 10 ^ 9 → code < 256 → SmallPaid p → length (potsNow t) ≤ 9 → Small (shownOf n code t p)
+shown-small : (n code : ℕ) (t : Table) (p : Paid) → Sound t → n < 10 ^ 9 → code < 256 → SmallPaid p → length (potsNow t) ≤ 9 → Closed t p → Small (shownOf n code t p)
 unfolding shownOf potsNow backNow
-shown-small n code t p r a b w d =
+shown-small n code t p r a b w d z =
     let ts = totalsOf t in
     let live = livesOf t in
     let s : sumOf ts ≤ 100000000 = totals-small t r in
@@ -340,20 +340,21 @@ shown-small n code t p r a b w d =
       mark = omega (arith, r .mark);
       count = d;
       pots = λ k. omega (arith, padded-within 9 (potsOf ts live) k, all);
+      closed = z;
       back = omega arith;
       payout = record { fee = w .fee; rows = λ k. rows-small (p .sittings) (p .paid) k (w .sittings) (w .paid); unclaimed = w .unclaimed };
     }
 
 pub made-shown : (n code : ℕ) (t : Table) (p : Paid) {ps : Pots} {back k : ℕ} {po : Payout}
     → (ps .n ≡ length (potsNow t)) × (ps .list ≡ padded 9 (potsNow t)) × (ps .n ≤ 9)
-    → back ≡ backNow t → po ≡ payoutShown p → (k ≡ code) × (k < 256) → Sound t → n < 10 ^ 9 → SmallPaid p
+    → back ≡ backNow t → po ≡ payoutShown p → (k ≡ code) × (k < 256) → Sound t → n < 10 ^ 9 → SmallPaid p → Closed t p
     → (_≡_ {A = Shown} (record { n = n; code = k; turn = t .play .turn; mark = t .play .mark; pots = ps; back = back; settled = p .settled; payout = po }) (shownOf n code t p))
     × Small (record { n = n; code = k; turn = t .play .turn; mark = t .play .mark; pots = ps; back = back; settled = p .settled; payout = po })
 unfolding shownOf
-made-shown n code t p {ps} {back} {k} {po} v b o kc r h w =
+made-shown n code t p {ps} {back} {k} {po} v b o kc r h w z =
     let e : _≡_ {A = Shown} (record { n = n; code = k; turn = t .play .turn; mark = t .play .mark; pots = ps; back = back; settled = p .settled; payout = po }) (shownOf n code t p) =
     rw (kc .0, o, b) (ap (λ (z : Pots). record { n = n; code = code; turn = t .play .turn; mark = t .play .mark; pots = z; back = backNow t; settled = p .settled; payout = payoutShown p }) (pots-eq ps (v .0) (v .1))) in
-    (e, subst Small (sym e) (shown-small n code t p r h (omega arith) w (omega arith)))
+    (e, subst Small (sym e) (shown-small n code t p r h (omega arith) w (omega arith) z))
   where
     pots-eq : (z : Pots) {a : ℕ} {f : List Pot} → z .n ≡ a → z .list ≡ f → z ≡ record { n = a; list = f }
     pots-eq z e f = rw (e, f)

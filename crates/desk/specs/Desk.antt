@@ -2,6 +2,7 @@
 -- "12 stands in place of any of 0 to 10. After any of 1 to 10, or 12, the table and the count of taken entries equal those before."
 use Prim.Native.Nat.{ℕ, _≤_, _<_, _^_}
 use mathlib.Core.Bool.{true, false}
+use mathlib.Core.Path.{_≡_}
 use mathlib.Core.List.{List, [], _∷_}
 use lib.ListN.{length, getD}
 use Rattle.laws.specs.Tests.{pick}
@@ -101,3 +102,7 @@ pub record SmallPaid (p : Paid) : Type 0 where
   pub sittings : (k : ℕ) → getD (p .sittings) k 0 < 10 ^ 9
   pub paid : (k : ℕ) → getD (p .paid) k 0 < 10 ^ 9
   pub unclaimed : p .unclaimed < 10 ^ 9
+
+-- "the hand is closed before the lines are written": what a settle paid is shown of a table that has no pots
+abbrev pub Closed : Table → Paid → Type 0
+Closed t p = p .settled ≡ true → length (potsNow t) ≡ 0

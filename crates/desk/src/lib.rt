@@ -2,6 +2,7 @@
 use answers::Payout;
 use answers::Row;
 use answers::Shown;
+use answers::answer_len;
 use answers::write_answer;
 use blocks::Block;
 use blocks::Parsed;
@@ -18,7 +19,8 @@ ghost use Rattle.writing.specs.Sheet.{sheetAfter, writtenOf};
 ghost use Rattle.blocks.specs.Block.{blockOf, restOf};
 ghost use Rattle.answers.specs.Answer.{Small};
 ghost use Rattle.table.specs.Take.{Sound};
-ghost use Rattle.desk.specs.Desk.{rowsOf, payoutShown, shownOf, judgeParsed, refusedAt, noBlock, judgeBlock, judgedOf, judgedBytes, blockBytes, answeredFrom, answeredOf, numberOfBlock, SmallPaid};
+ghost use Rattle.desk.specs.Desk.{rowsOf, payoutShown, shownOf, judgeParsed, refusedAt, noBlock, judgeBlock, judgedOf, judgedBytes, blockBytes, answeredFrom, answeredOf, numberOfBlock, SmallPaid, Closed};
+ghost use Rattle.desk.specs.Room.{roomOf};
 
 pub mod log;
 
@@ -64,7 +66,7 @@ fn payout_shown(p: table::table::Payout) -> Payout
 
 // What an answer shows of a table, and of what a settle that was taken paid.
 fn shown_of(n: u32, code: u8, t: Table, paid: table::table::Payout) -> Shown
-    requires { ⌜ Sound t × (n < 10 ^ 9) × SmallPaid paid ⌝ }
+    requires { ⌜ Sound t × (n < 10 ^ 9) × SmallPaid paid × Closed t paid ⌝ }
     ensures { λ r. ⌜ (r ≡ shownOf n code t paid) × Small r ⌝ }
 {
     let stands = table::settle::stands_now(t);
@@ -220,6 +222,22 @@ pub fn answer(table: Table, log: &[u8], sheet: &mut [u8]) -> Answered
     ensures sound { λ r. ⌜ Sound (r .table) ⌝ }
 {
     answer_block(table, blocks::read_block(log), sheet)
+}
+
+// How many bytes the answer to the block at the front of a log takes, said before it is answered: nothing is taken, and a sheet of so many bytes has room
+// for it. No bytes are left: 0.
+pub fn answer_room(t: Table, log: &[u8]) -> usize
+    requires { ⌜ Sound t ⌝ }
+    ensures { λ r. ⌜ r ≡ roomOf t (now (log .entry)) ⌝ }
+{
+    let j = judge(t, log);
+    if !j.block {
+        return 0;
+    }
+    let u = j.table;
+    let paid = j.payout;
+    let s = shown_of(j.n, j.code, u, paid);
+    answer_len(s)
 }
 
 // What follows the block.

@@ -1,7 +1,10 @@
-// Every answer of a log into every sheet that is too short for it: code 12, and no byte changes; and into the one that is just long enough.
+// Every answer of a log into every sheet that is too short for it: code 12, and no byte changes; and into the one that is just long enough. How long that is
+// is asked beforehand.
 // Reads a log of at most 65,536 bytes on standard input, and says how many blocks it has, how many rooms were tried and how many went wrong.
+use answers::LONGEST;
 use blocks::rest;
 use desk::answer;
+use desk::answer_room;
 use libc::STDIN_FILENO;
 use libc::STDOUT_FILENO;
 use table::table::Table;
@@ -16,8 +19,6 @@ ghost use Rattle.table.specs.Take.{Sound};
 
 // What stands in a sheet before anything is written there: no answer has this byte.
 const BLANK: u8 = 170;
-
-const LONGEST: usize = 600;
 
 struct Tally {
     blocks: u64,
@@ -105,16 +106,17 @@ fn try_block(t: Table, log: &[u8], k: Tally) -> Tried
     requires { ⌜ Sound t ⌝ }
     ensures { λ r. ⌜ Sound (r .table) ⌝ }
 {
+    let need = answer_room(t, log);
     let mut sheet = [BLANK; LONGEST];
     let a = answer(t, log, &mut sheet);
-    let need = a.written;
     let u = a.table;
+    let said = no(a.written == need);
     let wrong = short_rooms(t, log, need);
     let exact = no(fits(t, log, need));
     let tally = Tally {
         blocks: more(k.blocks, 1),
         rooms: more(k.rooms, need as u64),
-        wrong: more(more(k.wrong, wrong), exact),
+        wrong: more(more(k.wrong, wrong), more(said, exact)),
     };
     Tried {
         table: u,

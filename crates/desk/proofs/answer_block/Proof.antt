@@ -1,5 +1,6 @@
 use Rattle.desk.specs.Desk.{judgeBlock}
 use Rattle.desk.proofs.Laws.{answered-is, none-answered}
+use Rattle.desk.proofs.Room.{judged-closed}
 use borrow.Author.Tests.{not-true, not-false}
 use mathlib.Core.Path.{refl}
 use borrow.Author.Needs.{needs}
@@ -21,7 +22,10 @@ returns c = none-answered ((c .before .before .before .before .before) .args .ta
 
 -- src/lib.rt:197:9
 shown-of-requires : tie.Need-shown-of-requires
-shown-of-requires c κs = search needs
+shown-of-requires c κs =
+    let a = c .before .before .before .before .before .before .args in
+    let j = c .before .before .before .before .judge-block .ensures in
+    (j .1, j .3, j .2, judged-closed (a .table) (a .b) (j .0))
 
 -- src/lib.rt:198:9
 write-answer-requires : tie.Need-write-answer-requires

@@ -17,7 +17,7 @@ returns c =
     let a = c .before .before .before .before .args in
     let h = c .before .before .before .before .pre in
     let k = c .before .before .before .stands-now .ensures in
-    made-shown (a .n) (a .code) (a .t) (a .paid) (k .0, k .1, k .2) (k .3) (c .before .payout-shown .ensures) (c .wide .ensures) (h .0) (h .1) (h .2)
+    made-shown (a .n) (a .code) (a .t) (a .paid) (k .0, k .1, k .2) (k .3) (c .before .payout-shown .ensures) (c .wide .ensures) (h .0) (h .1) (h .2) (h .3)
 
 pub shown-of-spec : {M : Type 1} → statement M
 shown-of-spec =

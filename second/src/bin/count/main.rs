@@ -1,7 +1,8 @@
 //! `count [--demand] LOG...`: runs the second program on the logs and prints
 //! what occurred in them. With `--demand` it fails where something that a run
-//! must contain was missed.
+//! must contain was missed, or a bound was broken.
 
+mod bounds;
 mod lifts;
 
 use second::answer::{answer_block, Answer};
@@ -48,8 +49,9 @@ impl Counts {
 
     fn missed(&self) -> Vec<String> {
         let codes = (0..=11).map(|code| format!("code {code:2}"));
-        let demanded = codes.chain(DEMANDED.map(String::from));
-        demanded.filter(|name| !self.0.contains_key(name)).collect()
+        let demanded = codes.chain(DEMANDED.map(String::from)).chain(bounds::DEMANDED.map(String::from));
+        let broken = self.0.keys().filter(|name| name.starts_with(bounds::BROKEN)).cloned();
+        demanded.filter(|name| !self.0.contains_key(name)).chain(broken).collect()
     }
 }
 
@@ -83,6 +85,7 @@ fn count_log(log: &[u8], counts: &mut Counts) {
     let (first, mut rest) = split_after_line(log, SHEET_KEYS.len());
     let Some(sheet) = sheet(first) else { return counts.add("code 11") };
     let mut table = Table::new(sheet, by_levels);
+    let mut turns = bounds::Turns::default();
     while !rest.is_empty() {
         let block;
         (block, rest) = split_after_line(rest, ENTRY_KEYS.len());
@@ -94,6 +97,7 @@ fn count_log(log: &[u8], counts: &mut Counts) {
             lifts::count(&before, &entry, answer.code, counts);
             if answer.code == 0 {
                 count_taken(&before, &entry, &answer, counts);
+                turns.count(&entry, &table, counts);
             }
         }
     }
@@ -103,6 +107,7 @@ fn count_answer(answer: &Answer, counts: &mut Counts) {
     counts.add("entries");
     counts.add(format!("code {:2}", answer.code));
     counts.add(format!("pots {}", answer.pots.pots.len()));
+    bounds::count_room(answer, counts);
 }
 
 fn count_taken(before: &Table, entry: &Entry, answer: &Answer, counts: &mut Counts) {
