@@ -1,6 +1,5 @@
 -- Change request No. 8, "how much room": the answer block line by line, in document 01's order, so that its lines and their bytes are counted. A further line is
 -- one more row here, and one more in `mostLines`. Assumes nothing.
--- a line: its key and its number
 use Prim.Native.Nat.{ℕ}
 use mathlib.Core.List.{List, [], _∷_, _++_, map}
 use lib.ListN.{take}
@@ -13,6 +12,7 @@ use Rattle.answers.specs.declared.Payout.{Payout}
 use Rattle.answers.specs.declared.Shown.{Shown}
 use Rattle.answers.specs.Answer.{keyN, keyCode, keyTurn, keyMark, keyPot, keyBack, keyFee, keySitting, keyPaid, keyUnclaimed}
 
+-- a line: its key and its number
 pub record Line : Type 0 where
   pub key : List ℕ
   pub number : ℕ

@@ -236,8 +236,7 @@ pub fn answer_room(t: Table, log: &[u8]) -> usize
     }
     let u = j.table;
     let paid = j.payout;
-    let s = shown_of(j.n, j.code, u, paid);
-    answer_len(s)
+    answer_len(shown_of(j.n, j.code, u, paid))
 }
 
 // What follows the block.

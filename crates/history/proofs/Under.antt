@@ -1,6 +1,5 @@
 -- Where every seat that owes then owed before, no more seats owe then, and fewer where one does no longer: by what befalls each chair. For any list of seats.
 -- Assumes nothing.
--- ---- counts of seats
 use Prim.Native.Nat.{ℕ, zero, suc, _+_, _≤_, _<_}
 use mathlib.Core.Bool.{Bool, true, false, not, true≢false, false≢true}
 use mathlib.Core.Path.{_≡_, refl, sym, ap, _∙_}
@@ -23,6 +22,7 @@ use Rattle.history.specs.Notebook.{tenSeats}
 use Rattle.history.specs.Turns.{countSeats}
 use Rattle.history.proofs.Turns.{counts}
 
+-- ---- counts of seats
 pub count-same : (p q : ℕ → Bool) → ((x : ℕ) → p x ≡ q x) → (xs : List ℕ) → countSeats p xs ≡ countSeats q xs
 count-same p q h [] = refl
 count-same p q h (x ∷ xs) = omega (arith, ap one (h x), count-same p q h xs)

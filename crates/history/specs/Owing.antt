@@ -1,6 +1,5 @@
 -- Change request No. 8, "how many turns": how many seats owe, by the notebook; which entries are turn entries, and after which a seat may owe that did not.
 -- No table is looked at. Lists of entries have the newest first. Assumes nothing.
--- how many of the table's seats owe, after some entries
 use Prim.Native.Nat.{ℕ, _+_, _<_}
 use mathlib.Core.Bool.{Bool, true, false}
 use mathlib.Core.Path.{_≡_}
@@ -13,6 +12,7 @@ use Rattle.chairs.specs.Chairs.{seatsFrom}
 use Rattle.history.specs.Notebook.{notebook}
 use Rattle.history.specs.Turns.{countSeats, owesBy}
 
+-- how many of the table's seats owe, after some entries
 unfoldable pub owingSeats : Sheet → List Entry → ℕ
 owingSeats sheet es = countSeats (owesBy (notebook sheet es)) (seatsFrom 0 (sheet .seats))
 

@@ -15,3 +15,4 @@ pub mod Written
 pub mod Payout
 pub mod Demands
 pub mod Box
+pub mod Room
