@@ -1,11 +1,12 @@
 -- Whole blocks that are answered where they lie do what their bytes do one by one. For any part and any room. Assumes nothing.
+-- ---- what is answered depends on the block alone
 use mathlib.Core.Path.{_≡_, refl, sym, ap, subst, _∙_}
 use mathlib.Core.List.{List, [], _∷_, _++_, append-assoc}
 use mathlib.Core.Bool.{Bool, true, false, true≢false}
 use mathlib.Core.Logic.{⊎-elim}
-use Prim.Native.Nat.{ℕ, zero, suc, _+_, _-_, _≤_, _<_}
+use Prim.Native.Nat.{ℕ, zero, suc, _-_, _≤_}
 use native.Mathlib.Omega.{arith}
-use lib.ListN.{length, take, drop, length-append, length-take, take-append-drop}
+use lib.ListN.{length, take, drop, length-append, take-append-drop}
 use lib.Seq.{take-append-seam}
 use lib.Dec.{eqb, ltb, leb}
 use borrow.Author.Tests.{leb-true, leb-false, le-leb, ne-eqb}
@@ -20,14 +21,12 @@ use Rattle.lines.proofs.Gathers.{gather-keeps, gather-lines, whole-kept}
 use Rattle.table.specs.declared.table.Table.{Table}
 use Rattle.desk.specs.declared.Judged.{Judged}
 use Rattle.desk.specs.Desk.{judgeBlock, judgedOf, blockBytes, judgedBytes}
-use Rattle.desk.specs.Log.{fitting, tableIn}
+use Rattle.desk.specs.Log.{tableIn}
 use Rattle.desk.proofs.Laws.{judged-most}
-use Rattle.stream.specs.Onward.{State, Open, Given, andThen, codeIn, answerOf, onward, anyShort}
+use Rattle.stream.specs.Onward.{Open, Given, andThen, codeIn, answerOf, onward, anyShort}
 use Rattle.stream.specs.InPlace.{InPlace, answersFront, inPlaceFrom, inPlaceOf, ranOf}
 use Rattle.stream.proofs.Onward.{onward-append, ends-onward}
-use Rattle.stream.proofs.Runs.{left-drop, from-none, from-more}
-
--- ---- what is answered depends on the block alone
+use Rattle.stream.proofs.Runs.{from-none, from-more}
 
 pub judged-same : (t : Table) (x y : List ℕ) → blockOf x ≡ blockOf y → judgedOf t x ≡ judgedOf t y
 unfolding judgedOf
