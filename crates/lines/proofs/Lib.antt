@@ -3,3 +3,4 @@ pub mod Keeps
 pub mod Cut
 pub mod Gathers
 pub mod Bad
+pub mod Whole

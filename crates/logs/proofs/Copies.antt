@@ -1,4 +1,5 @@
 -- Laws of one block's copy, by what reading and writing answered. Assumes nothing.
+-- no bytes are written anywhere
 use mathlib.Core.Path.{_≡_, refl, sym, ap, subst, _∙_}
 use mathlib.Core.List.{List, [], _∷_, _++_}
 use mathlib.Core.Bool.{Bool, true, false}
@@ -24,10 +25,9 @@ use Rattle.logs.specs.declared.Put.{Put}
 use Rattle.logs.specs.declared.Put.the-variants.{Bytes, NoRoom}
 use Rattle.logs.specs.declared.copy.Copied.{Copied}
 use Rattle.logs.specs.LogText.{entryText, isEntry, putOf, putAfter}
-use Rattle.logs.specs.FairCopy.{entryCopy, formCopy, blockCopy, noteText, noteIn, copiedAs, leftAs, entryCopied, formCopied, copiedOf}
+use Rattle.logs.specs.FairCopy.{entryCopy, formCopy, blockCopy, noteText, noteMost, noteIn, copiedAs, leftAs, entryCopied, formCopied, copiedOf}
 use Rattle.blocks.specs.declared.Parsed.the-variants as parsed
 
--- no bytes are written anywhere
 after-none : (buffer : List ℕ) → buffer ≡ sheetAfter [] buffer
 after-none buffer = go (leb 0 (length buffer))
   where
@@ -107,7 +107,7 @@ unfolding noteText
 note-parts number code =
     omega (arith, length-append ((98 ∷ 108 ∷ 111 ∷ 99 ∷ 107 ∷ 61 ∷ []) ++ digits number) (codeLine code), length-append (98 ∷ 108 ∷ 111 ∷ 99 ∷ 107 ∷ 61 ∷ []) (digits number))
 
-pub note-most : (number code : ℕ) → length (noteText number code) ≤ 31
+pub note-most : (number code : ℕ) → length (noteText number code) ≤ noteMost
 note-most number code =
     omega (arith, note-parts number code, line-count (32 ∷ 99 ∷ 111 ∷ 100 ∷ 101 ∷ []) code, count-most number, count-most code)
 
@@ -116,18 +116,18 @@ module _ (number code : ℕ) (buffer : List ℕ) where
   nothing-said e = (subst (λ (l : List ℕ). Wrote l buffer buffer 0) (sym e) (record { count = refl; sheet = refl }), omega arith)
 
   pub note-none : code ≡ 0 → Wrote (noteIn number code (length buffer)) buffer buffer 0 × (0 ≤ length buffer)
-  note-none e = nothing-said (ap (λ (t : Bool). pick t [] (pick (leb 31 (length buffer)) (noteText number code) [])) (eq-eqb code 0 e))
+  note-none e = nothing-said (ap (λ (t : Bool). pick t [] (pick (leb noteMost (length buffer)) (noteText number code) [])) (eq-eqb code 0 e))
 
-  some-note : (code ≡ 0 → ⊥) → noteIn number code (length buffer) ≡ pick (leb 31 (length buffer)) (noteText number code) []
-  some-note n = ap (λ (t : Bool). pick t [] (pick (leb 31 (length buffer)) (noteText number code) [])) (ne-eqb code 0 n)
+  some-note : (code ≡ 0 → ⊥) → noteIn number code (length buffer) ≡ pick (leb noteMost (length buffer)) (noteText number code) []
+  some-note n = ap (λ (t : Bool). pick t [] (pick (leb noteMost (length buffer)) (noteText number code) [])) (ne-eqb code 0 n)
 
-  pub note-short : (code ≡ 0 → ⊥) → length buffer < 31 → Wrote (noteIn number code (length buffer)) buffer buffer 0 × (0 ≤ length buffer)
-  note-short n h = nothing-said (some-note n ∙ ap (λ (t : Bool). pick t (noteText number code) []) (lt-leb 31 (length buffer) h))
+  pub note-short : (code ≡ 0 → ⊥) → length buffer < noteMost → Wrote (noteIn number code (length buffer)) buffer buffer 0 × (0 ≤ length buffer)
+  note-short n h = nothing-said (some-note n ∙ ap (λ (t : Bool). pick t (noteText number code) []) (lt-leb noteMost (length buffer) h))
 
-  pub note-done : {c r : ℕ} {new : List ℕ} → (code ≡ 0 → ⊥) → 31 ≤ length buffer → c ≡ code → Wrote (noteText number c) buffer new r
+  pub note-done : {c r : ℕ} {new : List ℕ} → (code ≡ 0 → ⊥) → noteMost ≤ length buffer → c ≡ code → Wrote (noteText number c) buffer new r
       → Wrote (noteIn number code (length buffer)) buffer new r × (r ≤ length buffer)
   note-done {c} {r} {new} n h e w =
       let v : Wrote (noteText number code) buffer new r = subst (λ (k : ℕ). Wrote (noteText number k) buffer new r) e w in (
-        subst (λ (l : List ℕ). Wrote l buffer new r) (sym (some-note n ∙ ap (λ (t : Bool). pick t (noteText number code) []) (le-leb 31 (length buffer) h))) v,
+        subst (λ (l : List ℕ). Wrote l buffer new r) (sym (some-note n ∙ ap (λ (t : Bool). pick t (noteText number code) []) (le-leb noteMost (length buffer) h))) v,
         omega (arith, v .count, note-most number code),
       )

@@ -88,9 +88,12 @@ nextNumber count = min count 999999998 + 1
 abbrev pub noteOf : ℕ → ℕ → List ℕ
 noteOf number code = pick (eqb code taken) [] (noteText number code)
 
--- no such line has more than 31 bytes: with less room nothing is written
+-- no such line is longer: with less room nothing is written
+abbrev pub noteMost : ℕ
+noteMost = 31
+
 abbrev pub noteIn : ℕ → ℕ → ℕ → List ℕ
-noteIn number code room = pick (eqb code taken) [] (pick (leb 31 room) (noteText number code) [])
+noteIn number code room = pick (eqb code taken) [] (pick (leb noteMost room) (noteText number code) [])
 
 -- for each block behind the first `count` its line, where it is left out
 abbrev pub notesFrom : ℕ → ℕ → Sheet → List ℕ → List ℕ

@@ -23,6 +23,9 @@ ghost use Rattle.writing.specs.Sheet.{Wrote, sheetAfter};
 ghost use Rattle.logs.specs.LogText.{sheetText, putOf, putAfter};
 ghost use Rattle.logs.specs.FairCopy.{entryCopy, blockCopy, noteText, noteIn, nextNumber, copiedAs, leftAs, entryCopied, copiedOf};
 
+// No line about a block that is left out is longer.
+pub const NOTE: usize = 31;
+
 // A block's code, 0 where it was copied, and how many bytes were written.
 pub struct Copied {
     pub code: u8,
@@ -121,7 +124,7 @@ pub fn write_note(number: u32, code: u8, buffer: &mut [u8]) -> usize
     if code == TAKEN {
         return 0;
     }
-    if buffer.len() < 31 {
+    if buffer.len() < NOTE {
         return 0;
     }
     put_note(buffer, number, wide(code))

@@ -4,3 +4,4 @@ pub mod Finds
 pub mod Foreign
 pub mod Steps
 pub mod Shown
+pub mod Parts

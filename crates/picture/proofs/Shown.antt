@@ -24,7 +24,7 @@ use Rattle.picture.specs.Lines.{lineKinds, keys, mosts, noLine, lineWith
 use Rattle.figures.specs.Row.{countedOf}
 use Rattle.picture.specs.Rows.{lineDrawn}
 use Rattle.picture.specs.Screen as screen
-use Rattle.picture.specs.Screen.{saidOf, shownOf, stepOf, closeOf, pictureFrom}
+use Rattle.picture.specs.Screen.{lineMost, saidOf, shownOf, stepOf, closeOf, pictureFrom}
 use Rattle.picture.specs.declared.Line.{Line}
 
 -- ---- the keys: letters, at most nine, no two alike in their first two
@@ -151,7 +151,7 @@ line-said k v l q h =
 -- ---- and how it is drawn
 
 -- the bytes of a line are kept until its LF comes
-drawn : (colour : Bool) (xs line rest : List ℕ) (last pots : ℕ) → NoLF xs → length line + length xs ≤ 40
+drawn : (colour : Bool) (xs line rest : List ℕ) (last pots : ℕ) → NoLF xs → length line + length xs ≤ lineMost
     → pictureFrom colour (record { line = line; long = false; last = last; pots = pots }) (xs ++ (10 ∷ rest))
     ≡ shownOf colour last false pots (saidOf false ((line ++ xs) ++ (10 ∷ []))) (line ++ xs)
     ++ pictureFrom colour (screen.afterLine pots (saidOf false ((line ++ xs) ++ (10 ∷ [])))) rest
@@ -159,7 +159,7 @@ unfolding stepOf
 drawn colour [] line rest last pots n h = rw (append-nil line)
 drawn colour (b ∷ xs) line rest last pots n h =
     let e : (line ++ (b ∷ [])) ++ xs ≡ line ++ (b ∷ xs) = append-assoc line (b ∷ []) xs in
-    let short : ltb (length line) 40 ≡ true = lt-ltb (length line) 40 (omega arith) in
+    let short : ltb (length line) lineMost ≡ true = lt-ltb (length line) lineMost (omega arith) in
     let r = drawn colour xs (line ++ (b ∷ [])) rest last pots (n .1) (omega (arith, length-append line (b ∷ []))) in
     rw (ne-eqb b 10 (n .0), short) (rw e at r)
 

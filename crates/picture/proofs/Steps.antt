@@ -15,7 +15,7 @@ use Rattle.figures.specs.Words.{rule}
 use Rattle.figures.specs.Row.{halfRow, leftOf, countedOf}
 use Rattle.picture.specs.Lines.{lineKinds}
 use Rattle.picture.specs.Rows.{numbered, frontOf, completes, startRow, restRow, columnNumber, lineDrawn, markOf, visibleAll, foreignRow}
-use Rattle.picture.specs.Screen.{Kept, stateOf, saidOf, shownOf, stepOf, closeOf}
+use Rattle.picture.specs.Screen.{lineMost, Kept, stateOf, saidOf, shownOf, stepOf, closeOf}
 use Rattle.picture.specs.declared.Line.{Line}
 use Rattle.picture.specs.declared.Screen.{Screen}
 use Rattle.figures.proofs.Puts.{next, put-none}
@@ -94,26 +94,26 @@ module _ (colour : Bool) (s : Screen) (buf : List ℕ) (b : ℕ) (room : s .coun
       )
 
   -- another byte, where there is room for it
-  pub step-kept : (a : ℕ) (out : List ℕ) → (b ≡ 10 → ⊥) → s .count < 40 → a ≤ length out → Put (stepOf colour (stateOf s buf) b .drawn) a out out a
+  pub step-kept : (a : ℕ) (out : List ℕ) → (b ≡ 10 → ⊥) → s .count < lineMost → a ≤ length out → Put (stepOf colour (stateOf s buf) b .drawn) a out out a
       × (stateOf (record { count = s .count + 1; long = s .long; last = s .last; pots = s .pots }) (set buf (s .count) b)
       ≡ stepOf colour (stateOf s buf) b .after)
   unfolding stepOf
   step-kept a out e h w =
       let k : length (take (s .count) buf) ≡ s .count = length-take-le (s .count) buf (omega arith) in (
-        rw (ne-eqb b 10 e, k, lt-ltb (s .count) 40 h) (put-none a out w),
-        rw (ne-eqb b 10 e, k, lt-ltb (s .count) 40 h) (kept-is (with-byte buf (s .count) room b) refl refl refl),
+        rw (ne-eqb b 10 e, k, lt-ltb (s .count) lineMost h) (put-none a out w),
+        rw (ne-eqb b 10 e, k, lt-ltb (s .count) lineMost h) (kept-is (with-byte buf (s .count) room b) refl refl refl),
       )
 
   -- and where there is none
-  pub step-full : {a r : ℕ} {out new : List ℕ} → (b ≡ 10 → ⊥) → 40 ≤ s .count → Put (foreignRow (s .last) (s .long) (take (s .count - 0) buf)) a out new r
+  pub step-full : {a r : ℕ} {out new : List ℕ} → (b ≡ 10 → ⊥) → lineMost ≤ s .count → Put (foreignRow (s .last) (s .long) (take (s .count - 0) buf)) a out new r
       → Put (stepOf colour (stateOf s buf) b .drawn) a out new r
       × (stateOf (record { count = 1; long = true; last = lineKinds; pots = 0 }) (set buf 0 b) ≡ stepOf colour (stateOf s buf) b .after)
   unfolding stepOf
   step-full e h p =
       let k : length (take (s .count) buf) ≡ s .count = length-take-le (s .count) buf (omega arith) in
       let z : s .count - 0 ≡ s .count = omega arith in (
-        rw (ne-eqb b 10 e, k, le-ltb (s .count) 40 h) (rw z at p),
-        rw (ne-eqb b 10 e, k, le-ltb (s .count) 40 h) (kept-is (with-byte buf 0 (omega arith) b) refl refl refl),
+        rw (ne-eqb b 10 e, k, le-ltb (s .count) lineMost h) (rw z at p),
+        rw (ne-eqb b 10 e, k, le-ltb (s .count) lineMost h) (kept-is (with-byte buf 0 (omega arith) b) refl refl refl),
       )
 
 -- ---- the end of the input

@@ -11,6 +11,20 @@ use Rattle.picture.specs.Lines.{lineKinds, answerLine, noLine}
 use Rattle.picture.specs.declared.Line.{Line}
 use Rattle.picture.specs.declared.Screen.{Screen}
 
+-- how many bytes of an unfinished line are kept, and the buffer that they and their LF lie in
+abbrev pub lineMost : ℕ
+lineMost = 40
+
+abbrev pub lineRoom : ℕ
+lineRoom = lineMost + 1
+
+-- no byte draws more bytes than this, and the end of the input no more than that
+abbrev pub drawnMost : ℕ
+drawnMost = 400
+
+abbrev pub closeMost : ℕ
+closeMost = 60
+
 -- what is kept between two bytes: the unfinished line, whether bytes of it were shown already, the kind of the line before, and how many pots were
 -- shown in a row
 pub record Kept : Type 0 where
@@ -29,9 +43,9 @@ startOf = record { count = 0; long = false; last = kindNone; pots = 0 }
 abbrev pub fresh : Kept
 fresh = record { line = []; long = false; last = kindNone; pots = 0 }
 
--- a line has at most 40 bytes kept
+-- an unfinished line is kept up to its bound
 pub record Held (s : Screen) : Type 0 where
-  pub count : s .count ≤ 40
+  pub count : s .count ≤ lineMost
   pub last : s .last ≤ lineKinds
   pub pots : s .pots ≤ 999_999_999
 
@@ -52,7 +66,7 @@ pub record Step : Type 0 where
   pub after : Kept
   pub drawn : List ℕ
 
--- one byte more: an LF ends the line; of a line that has 40 bytes these are shown behind the mark, and the rest of it is kept on
+-- one byte more: an LF ends the line; of a line that has as many bytes as are kept these are shown behind the mark, and the rest of it is kept on
 unfoldable pub stepOf : Bool → Kept → ℕ → Step
 stepOf colour k b =
     pick (eqb b 10)
@@ -60,7 +74,7 @@ stepOf colour k b =
       after = afterLine (k .pots) (saidOf (k .long) (k .line ++ (10 ∷ [])));
       drawn = shownOf colour (k .last) (k .long) (k .pots) (saidOf (k .long) (k .line ++ (10 ∷ []))) (k .line);
     })
-    (pick (ltb (length (k .line)) 40)
+    (pick (ltb (length (k .line)) lineMost)
     (record { after = record { line = k .line ++ (b ∷ []); long = k .long; last = k .last; pots = k .pots }; drawn = [] })
     (record {
       after = record { line = b ∷ []; long = true; last = kindNone; pots = 0 };

@@ -18,6 +18,7 @@ ghost use lib.ListN.{length};
 ghost use Rattle.figures.specs.Sheet.{Put};
 ghost use Rattle.figures.specs.Words.{refusals};
 ghost use Rattle.picture.specs.Lines.{lineKinds, Answering};
+ghost use Rattle.picture.specs.Screen.{drawnMost};
 ghost use Rattle.picture.specs.Rows.{verdictOf, lampOf, lampRow, frontOf, startRow, restRow, lineDrawn};
 
 // Taken, or refused with the refusal in words.
@@ -107,8 +108,8 @@ pub(crate) fn put_answer(
     pots: u32,
     l: Line,
 ) -> usize
-    requires { ⌜ Answering l × (l .kind < lineKinds) × (pots ≤ 999999999) × (at + 400 ≤ length (now out)) ⌝ }
-    ensures { λ r. ⌜ Put (lineDrawn colour last pots (l .kind) (l .value)) at (now (out .entry)) (now (out .exit)) r × (r ≤ at + 400) ⌝ }
+    requires { ⌜ Answering l × (l .kind < lineKinds) × (pots ≤ 999999999) × (at + drawnMost ≤ length (now out)) ⌝ }
+    ensures { λ r. ⌜ Put (lineDrawn colour last pots (l .kind) (l .value)) at (now (out .entry)) (now (out .exit)) r × (r ≤ at + drawnMost) ⌝ }
 {
     let kind = l.kind;
     let n = chosen(kind == 4, counted(pots, kind), l.value);

@@ -2,37 +2,47 @@
 // output is no terminal, without colour.
 use libc::STDIN_FILENO;
 use libc::STDOUT_FILENO;
-use output::flush;
+use output::ahead;
+use picture::CLOSE_MOST;
+use picture::LINE_ROOM;
 use picture::Screen;
 use picture::close;
+use picture::draw_on;
 use picture::start;
-use picture::step;
 ghost use mathlib.Core.Path.{_≡_};
+ghost use mathlib.Core.Bool.{false};
 ghost use Prim.Native.Nat.{_+_, _≤_, _<_};
 ghost use lib.ListN.{length};
-ghost use Rattle.picture.specs.Screen.{Held};
-
-// Rows are written out where less than a line's room is left behind them.
-const ENOUGH: usize = 65000;
+ghost use Rattle.picture.specs.Screen.{Held, lineRoom, drawnMost};
+ghost use Rattle.picture.specs.Parts.{DrawnTo};
 
 struct Shown {
     screen: Screen,
-    at: usize,
+    from: usize,
     ok: bool,
 }
 
-// One byte of the input.
-fn show_byte(colour: bool, s: Screen, buf: &mut [u8], b: u8, out: &mut [u8], at: usize) -> Shown
-    requires { ⌜ Held s × (41 ≤ length (now buf)) × (at ≤ length (now out)) × (length (now out) ≡ 65536) ⌝ }
-    ensures { λ r. ⌜ Held (r .screen) × (r .at ≤ length (now (out .entry))) ⌝ }
+// What is left of a part, as far as its picture has room in one sheet: it is written out, and the part goes on behind the bytes that were used up.
+fn show_one(
+    colour: bool,
+    s: Screen,
+    buf: &mut [u8],
+    part: &[u8],
+    from: usize,
+    out: &mut [u8],
+) -> Shown
+    requires { ⌜ Held s × (lineRoom ≤ length (now buf)) × (from < length (now part)) × (drawnMost ≤ length (now out)) ⌝ }
+    ensures drawn { λ r. ⌜ DrawnTo colour s (now (buf .entry)) (now (part .entry)) from (r .screen) (now (buf .exit)) (r .from) ⌝ }
+    ensures held { λ r. ⌜ Held (r .screen) × (from < r .from) × (r .from ≤ length (now (part .entry))) ⌝ }
 {
-    let w = flush(STDOUT_FILENO, &out[0..at], ENOUGH);
-    let d = step(colour, s, buf, b, out, w.at);
-    let next = d.screen;
+    let d = draw_on(colour, s, buf, &part[from..], out);
+    let next = ahead(from, d.used, part);
+    let n = d.written;
+    let after = d.screen;
     Shown {
-        screen: next,
-        at: d.at,
-        ok: w.ok,
+        screen: after,
+        from: next,
+        ok: io::write_all(STDOUT_FILENO, &out[0..n]),
     }
 }
 
@@ -43,17 +53,17 @@ struct Turn {
     more: bool,
 }
 
-// Draws every line that ends in this part of the input, in one write where the picture fits.
+// Draws every line that ends in this part of the input, in one write where the picture fits. Unless a write failed, every byte of it is drawn.
 fn show(colour: bool, s: Screen, buf: &mut [u8], part: &[u8]) -> Turn
-    requires { ⌜ Held s × (41 ≤ length (now buf)) ⌝ }
-    ensures { λ r. ⌜ Held (r .screen) ⌝ }
+    requires { ⌜ Held s × (lineRoom ≤ length (now buf)) ⌝ }
+    ensures drawn { λ r. ⌜ (r .failed ≡ false → DrawnTo colour s (now (buf .entry)) (now (part .entry)) 0 (r .screen) (now (buf .exit)) (length (now (part .entry)))) ⌝ }
+    ensures held { λ r. ⌜ Held (r .screen) ⌝ }
 {
     let mut out = io::large_buffer();
     let mut screen = s;
-    let mut at: usize = 0;
-    let mut i: usize = 0;
-    while i < part.len() {
-        let d = show_byte(colour, screen, buf, part[i], &mut out, at);
+    let mut from: usize = 0;
+    while from < part.len() {
+        let d = show_one(colour, screen, buf, part, from, &mut out);
         let next = d.screen;
         screen = next;
         if !d.ok {
@@ -63,20 +73,18 @@ fn show(colour: bool, s: Screen, buf: &mut [u8], part: &[u8]) -> Turn
                 more: false,
             };
         }
-        at = d.at;
-        i += 1;
+        from = d.from;
     }
-    let ok = io::write_all(STDOUT_FILENO, &out[0..at]);
     Turn {
         screen,
-        failed: !ok,
-        more: ok,
+        failed: false,
+        more: true,
     }
 }
 
 // One read, and the picture of it. A read that fails is no end of the input: then nothing more is drawn.
 fn read_some(colour: bool, s: Screen, buf: &mut [u8]) -> Turn
-    requires { ⌜ Held s × (41 ≤ length (now buf)) ⌝ }
+    requires { ⌜ Held s × (lineRoom ≤ length (now buf)) ⌝ }
     ensures { λ r. ⌜ Held (r .screen) ⌝ }
 {
     let mut input = io::large_buffer();
@@ -94,7 +102,7 @@ fn read_some(colour: bool, s: Screen, buf: &mut [u8]) -> Turn
 
 // Reads to the end of the input. A proved loop has to end, so it counts its turns down from a number that no run uses up.
 fn read_all(colour: bool, buf: &mut [u8]) -> Turn
-    requires { ⌜ 41 ≤ length (now buf) ⌝ }
+    requires { ⌜ lineRoom ≤ length (now buf) ⌝ }
     ensures { λ r. ⌜ Held (r .screen) ⌝ }
 {
     let mut screen = start();
@@ -117,9 +125,9 @@ fn read_all(colour: bool, buf: &mut [u8]) -> Turn
 
 // The input has ended.
 fn end(s: Screen, buf: &[u8])
-    requires { ⌜ Held s × (41 ≤ length (now buf)) ⌝ }
+    requires { ⌜ Held s × (lineRoom ≤ length (now buf)) ⌝ }
 {
-    let mut out = [0u8; 60];
+    let mut out = [0u8; CLOSE_MOST];
     let n = close(s, buf, &mut out, 0);
     io::write_all(STDOUT_FILENO, &out[0..n]);
 }
@@ -135,7 +143,7 @@ fn coloured() -> bool {
 }
 
 fn main() {
-    let mut buf = [0u8; 41];
+    let mut buf = [0u8; LINE_ROOM];
     let t = read_all(coloured(), &mut buf);
     if !t.failed {
         let s = t.screen;

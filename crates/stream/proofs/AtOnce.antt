@@ -23,6 +23,7 @@ use Rattle.blocks.proofs.Blocks.{rest-shorter}
 use Rattle.text.proofs.SheetLaws.{good-not, sheet-bad, sheet-same}
 use Rattle.lines.specs.Kept.{Kept, nothing, keepAll, Gathered, gatherOf}
 use Rattle.lines.proofs.Cut.{ended, cap, lfs, cap-lf, cap-in, kept-bytes, lfs-lf, lfs-on, ended-is, value-same, cap-lines, cap-value, lines-front, lines-lfs, front-line, lines-none}
+use Rattle.lines.proofs.Whole.{cut-block, kept-is, cut-some, cut-sheet, front-sheet, sheet-open}
 use Rattle.lines.proofs.Gathers.{gather-keeps, gather-lines, open-kept, whole-kept}
 use Rattle.table.specs.declared.table.Table.{Table}
 use Rattle.table.specs.Take.{freshTable}
@@ -30,7 +31,7 @@ use Rattle.desk.specs.Log.{tableIn}
 use Rattle.desk.proofs.Whole.{end-within}
 use Rattle.stream.specs.Onward.{State, Unread, Open, Shut, Given, still, andThen, answerOf, openOf, wanted, isShut, onward, closing, closed, eachFrom, atOnceFrom, atOnce}
 use Rattle.stream.proofs.Onward.{then-nothing, then-assoc, onward-append, shut-onward, kept-onward, ends-onward}
-use Rattle.stream.proofs.InPlace.{answer-same, cut-block, kept-is, block-further}
+use Rattle.stream.proofs.InPlace.{answer-same, block-further}
 
 -- ---- lines that are not all ended are kept
 
@@ -52,10 +53,6 @@ each-none (suc k) room t = refl
 each-one : (k room : ℕ) (t : Table) (log : List ℕ) → 0 < length log → eachFrom (suc k) room t log ≡ andThen (answerOf room t log) (eachFrom k room (tableIn t log room) (restOf log))
 each-one k room t log h =
     ap (λ (b : Bool). pick b (still (Open t) nothing) (andThen (answerOf room t log) (eachFrom k room (tableIn t log room) (restOf log)))) (ne-eqb (length log) 0 (λ z. omega arith))
-
--- what is kept of a block that has a byte has a byte
-cut-some : (b : ℕ) (l : List ℕ) → 0 < length (cap 0 (b ∷ l))
-cut-some b l = ⊎-elim (λ e. omega (arith, ap length (cap-lf 0 b l e))) (λ e. omega (arith, ap length (cap-in 0 b l e refl))) (test (eqb b 10))
 
 -- the last block, whose fifth LF has not come
 last-block : (k room : ℕ) (t : Table) (b : ℕ) (l : List ℕ) → lfs (b ∷ l) < 5 → closed room (onward room (Open t) nothing (b ∷ l)) ≡ eachFrom (suc k) room t (b ∷ l)
@@ -109,51 +106,6 @@ each-onward (suc k) room t log h = ⊎-elim
     empty : (x : List ℕ) → length x ≤ 0 → x ≡ []
     empty [] h = refl
     empty (b ∷ x) h = absurd (omega arith)
-
--- ---- the sheet depends on its lines alone, cut after 33 bytes, whatever follows them
-
-pub cut-sheet : (l : List ℕ) → sheetOf (cap 0 l) ≡ sheetOf l
-unfolding sheetNumber
-cut-sheet l = sheet-same (cap 0 l) l (λ k h. number k)
-  where
-    number : (k : ℕ) → sheetNumber k (cap 0 l) ≡ sheetNumber k l
-    number k = ap numberOf (ap (valueOf (getD sheetKeys k [])) (cap-lines k l) ∙ cap-value (getD sheetKeys k []) (afterLines k l))
-
-front-sheet : (xs rest : List ℕ) → sheetLines ≤ lfs xs → sheetOf (xs ++ rest) ≡ sheetOf xs
-unfolding sheetNumber
-front-sheet xs rest h = sheet-same (xs ++ rest) xs (λ k i. number k i)
-  where
-    number : (k : ℕ) → k < sheetLines → sheetNumber k (xs ++ rest) ≡ sheetNumber k xs
-    number k i =
-        let r = front-line (afterLines k xs) rest (omega (arith, lines-lfs k xs (omega arith))) in
-        ap numberOf
-        (ap (valueOf (getD sheetKeys k [])) (lines-front k xs rest (omega arith))
-        ∙ value-same (getD sheetKeys k []) (afterLines k xs ++ rest) (afterLines k xs) (r .0) (r .1) (r .2))
-
--- ---- a sheet without the LFs of all its lines is bad
-
-value-open : (key x : List ℕ) → ended x ≡ false → valueOf key x ≡ []
-unfolding valueOf
-value-open key x h =
-    let e : lineEnded x ≡ false = ap (λ (t : Bool). both t (leb (lineLen x) 32)) (ended-is x ∙ h) in
-    ap (λ (t : Bool). drop (pick (both t (hasKey key (lineOf x))) (length key + 1) (lineLen x)) (lineOf x)) e
-    ∙ drop-of-length-le (lineOf x) {i = lineLen x} (omega (arith, length-take (lineLen x) x))
-
-none-ended : (x : List ℕ) → lfs x ≡ 0 → ended x ≡ false
-none-ended [] h = refl
-none-ended (b ∷ x) h = ⊎-elim
-    (λ e. absurd (omega (arith, lfs-lf b x e)))
-    (λ e. ap (λ (t : Bool). pick t true (ended x)) e ∙ none-ended x (omega (arith, lfs-on b x e)))
-    (test (eqb b 10))
-
-number-open : (k : ℕ) (l : List ℕ) → lfs l ≡ k → isValue (sheetNumber k l) ≡ false
-unfolding sheetNumber numberOf wellFormed
-number-open k l h =
-    let z : lfs (afterLines k l) ≡ 0 = omega (arith, lines-lfs k l (omega arith)) in
-    ap (λ (v : List ℕ). isValue (numberOf v)) (value-open (getD sheetKeys k []) (afterLines k l) (none-ended (afterLines k l) z))
-
-sheet-open : (l : List ℕ) → lfs l < sheetLines → sheetOf l ≡ Bad
-sheet-open l h = sheet-bad l (good-not sheetLines (lfs l) l h (number-open (lfs l) l refl))
 
 -- ---- the whole log
 

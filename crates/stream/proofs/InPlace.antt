@@ -1,33 +1,32 @@
 -- Whole blocks that are answered where they lie do what their bytes do one by one. For any part and any room. Assumes nothing.
+-- ---- what is answered depends on the block alone
 use mathlib.Core.Path.{_≡_, refl, sym, ap, subst, _∙_}
 use mathlib.Core.List.{List, [], _∷_, _++_, append-assoc}
-use mathlib.Core.Bool.{Bool, true, false, true≢false}
+use mathlib.Core.Bool.{Bool, true, false}
 use mathlib.Core.Logic.{⊎-elim}
-use Prim.Native.Nat.{ℕ, zero, suc, _+_, _-_, _≤_, _<_}
+use Prim.Native.Nat.{ℕ, zero, suc, _-_, _≤_}
 use native.Mathlib.Omega.{arith}
-use lib.ListN.{length, take, drop, length-append, length-take, take-append-drop}
+use lib.ListN.{length, take, drop, length-append, take-append-drop}
 use lib.Seq.{take-append-seam}
-use lib.Dec.{eqb, ltb, leb}
-use borrow.Author.Tests.{leb-true, leb-false, le-leb, ne-eqb}
+use lib.Dec.{eqb, leb}
+use borrow.Author.Tests.{leb-true, le-leb, ne-eqb}
 use Rattle.laws.specs.Tests.{pick}
 use Rattle.laws.proofs.Tests.{test, both-true}
-use Rattle.text.specs.Line.{lineLen, afterLines}
 use Rattle.blocks.specs.Block.{restOf, blockOf}
 use Rattle.blocks.specs.Front.{blockEnded}
-use Rattle.lines.specs.Kept.{Kept, nothing, keepAll, Gathered, gatherOf}
-use Rattle.lines.proofs.Cut.{ended, cap, lfs, lfs-lf, lfs-on, kept-bytes, ended-is, cap-block, front-block, lines-lfs, lines-none}
-use Rattle.lines.proofs.Gathers.{gather-keeps, gather-lines, whole-kept}
+use Rattle.lines.specs.Kept.{nothing, Gathered, gatherOf}
+use Rattle.lines.proofs.Cut.{lfs}
+use Rattle.lines.proofs.Whole.{five-lfs, block-reads}
+use Rattle.lines.proofs.Gathers.{whole-kept}
 use Rattle.table.specs.declared.table.Table.{Table}
 use Rattle.desk.specs.declared.Judged.{Judged}
 use Rattle.desk.specs.Desk.{judgeBlock, judgedOf, blockBytes, judgedBytes}
-use Rattle.desk.specs.Log.{fitting, tableIn}
+use Rattle.desk.specs.Log.{tableIn}
 use Rattle.desk.proofs.Laws.{judged-most}
-use Rattle.stream.specs.Onward.{State, Open, Given, andThen, codeIn, answerOf, onward, anyShort}
+use Rattle.stream.specs.Onward.{Open, Given, andThen, codeIn, answerOf, onward, anyShort}
 use Rattle.stream.specs.InPlace.{InPlace, answersFront, inPlaceFrom, inPlaceOf, ranOf}
 use Rattle.stream.proofs.Onward.{onward-append, ends-onward}
-use Rattle.stream.proofs.Runs.{left-drop, from-none, from-more}
-
--- ---- what is answered depends on the block alone
+use Rattle.stream.proofs.Runs.{from-none, from-more}
 
 pub judged-same : (t : Table) (x y : List ℕ) → blockOf x ≡ blockOf y → judgedOf t x ≡ judgedOf t y
 unfolding judgedOf
@@ -69,31 +68,7 @@ answer-fits room t block h =
       bytes = pick b (blockBytes t block) [];
     }) (le-leb (length (blockBytes t block)) room h)
 
--- ---- a log whose fifth line is ended has five LFs
-
-ended-lfs : (l : List ℕ) → ended l ≡ true → 1 ≤ lfs l
-ended-lfs [] e = absurd (true≢false (sym e))
-ended-lfs (b ∷ l) e = ⊎-elim
-    (λ f. omega (arith, lfs-lf b l f))
-    (λ f. omega (arith, lfs-on b l f, ended-lfs l (sym (ap (λ (x : Bool). pick x true (ended l)) f) ∙ e)))
-    (test (eqb b 10))
-
-pub five-lfs : (l : List ℕ) → blockEnded l ≡ true → 5 ≤ lfs l
-unfolding blockEnded
-five-lfs l e = ⊎-elim
-    (λ t. omega (arith, lines-lfs 4 l (leb-true 4 (lfs l) t), ended-lfs (afterLines 4 l) (sym (ended-is (afterLines 4 l)) ∙ e)))
-    (λ t. absurd (true≢false (sym e ∙ ap (λ (x : List ℕ). ltb (lineLen x) (length x)) (lines-none 4 l (leb-false 4 (lfs l) t)))))
-    (test (leb 4 (lfs l)))
-
 -- ---- one block, from its first byte to its fifth LF
-
--- lines that are cut after 33 bytes read as the lines do
-pub cut-block : (l : List ℕ) → blockOf (cap 0 l) ≡ blockOf l
-cut-block [] = refl
-cut-block (b ∷ l) = cap-block b l
-
-pub kept-is : (raw : List ℕ) → keepAll nothing raw .bytes ≡ cap 0 raw
-kept-is raw = kept-bytes nothing raw
 
 abbrev first : List ℕ → Gathered
 first log = gatherOf 5 nothing log
@@ -102,19 +77,10 @@ module _ (room : ℕ) (t : Table) (log : List ℕ) (h : 5 ≤ lfs log) where
   abbrev front : List ℕ
   front = take (first log .used) log
 
-  reads : blockOf (first log .kept .bytes) ≡ blockOf log
-  reads =
-      let five : 5 ≤ lfs front = omega (arith, gather-lines 5 log, whole-kept 4 log h .0) in
-      ap (λ (k : Kept). blockOf (k .bytes)) (gather-keeps 5 nothing log)
-      ∙ ap blockOf (kept-is front)
-      ∙ cut-block front
-      ∙ sym (front-block front (drop (first log .used) log) five)
-      ∙ ap blockOf (take-append-drop (first log .used) log)
-
   pub block-onward : onward room (Open t) nothing front ≡ answerOf room t log
   block-onward =
       ends-onward room (Open t) refl nothing log (omega arith) (omega (arith, whole-kept 4 log h .0))
-      ∙ answer-same room t (first log .kept .bytes) log reads
+      ∙ answer-same room t (first log .kept .bytes) log (block-reads log h)
 
   pub block-rest : drop (first log .used) log ≡ restOf log
   unfolding restOf

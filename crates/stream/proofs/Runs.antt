@@ -1,4 +1,6 @@
 -- Whole blocks that are answered one after another where they lie: one block more, and the loop over them. For any part and any room. Assumes nothing.
+-- ---- one block more
+-- a whole block has bytes
 use mathlib.Core.Path.{_≡_, refl, sym, ap, subst, _∙_}
 use mathlib.Core.List.{List, [], _++_, append-assoc, append-nil}
 use mathlib.Core.Bool.{Bool, true, false}
@@ -34,9 +36,6 @@ use Rattle.desk.proofs.Whole.{answered-parts, fitting-within}
 use Rattle.stream.specs.declared.Ran.{Ran}
 use Rattle.stream.specs.InPlace.{InPlace, stopped, behind, answersFront, inPlaceFrom, inPlaceOf, ranOf}
 
--- ---- one block more
-
--- a whole block has bytes
 ended-some : (part : List ℕ) → blockEnded part ≡ true → 0 < length part
 unfolding blockEnded
 ended-some part e = omega (arith, after-lines-no-longer 4 part, ltb-true (lineLen (afterLines 4 part)) (length (afterLines 4 part)) e)
@@ -150,16 +149,16 @@ else-room t log sheet h = ⊎-elim (λ p. p) (λ p. absurd (h (twelve-when t log
 
 -- ---- the loop: what was written so far, and what is left
 
-pub record Running (t : Table) (part out : List ℕ) (table : Table) (used : ℕ) (now : List ℕ) (at : ℕ) : Type 0 where
+pub record Running (t : Table) (part out : List ℕ) (table : Table) (left now : List ℕ) (at : ℕ) : Type 0 where
   pub bs : List ℕ
   pub wrote : Wrote bs out now at
   pub within : at ≤ length out
   pub same : length now ≡ length out
-  pub inside : used ≤ length part
-  pub all : inPlaceOf t part (length out) ≡ behind bs (inPlaceOf table (drop used part) (length out - at))
+  pub inside : length left ≤ length part
+  pub all : inPlaceOf t part (length out) ≡ behind bs (inPlaceOf table left (length out - at))
   pub sound : Sound table
 
-pub run-start : (t : Table) (part out : List ℕ) → Sound t → Running t part out t 0 out 0
+pub run-start : (t : Table) (part out : List ℕ) → Sound t → Running t part out t part out 0
 run-start t part out h = record {
   bs = [];
   wrote = record { count = refl; sheet = refl };
@@ -176,17 +175,16 @@ Ends t part out table used now at =
     (_≡_ {A = Ran} (record { table = table; used = used; written = at }) (ranOf (inPlaceOf t part (length out)) part))
     × ((now ≡ over (inPlaceOf t part (length out) .bytes) out) × (Sound table × (used ≤ length part) × (at ≤ length out)))
 
-module _ {t : Table} {part out : List ℕ} {table : Table} {used : ℕ} {now : List ℕ} {at : ℕ} (g : Running t part out table used now at) where
+module _ {t : Table} {part out : List ℕ} {table : Table} {left now : List ℕ} {at : ℕ} (g : Running t part out table left now at) where
   -- no further block is answered
-  run-ends : {after : List ℕ} {n : ℕ} → answersFront table (drop used part) (length out - at) ≡ false → Wrote (g .bs ++ []) out after n → n ≡ at
-      → Ends t part out table used after at
-  run-ends {after} {n} z w m =
-      let q : inPlaceOf t part (length out) ≡ record { table = table; bytes = g .bs ++ []; left = drop used part } =
-      g .all ∙ ap (behind (g .bs)) (place-none table (drop used part) (length out - at) z) in
-      let u : used ≡ length part - length (drop used part) = omega (arith, g .inside, length-drop used part) in
+  run-ends : {after : List ℕ} {n used : ℕ} → answersFront table left (length out - at) ≡ false → Wrote (g .bs ++ []) out after n → n ≡ at
+      → used ≡ length part - length left → Ends t part out table used after at
+  run-ends {after} {n} {used} z w m u =
+      let q : inPlaceOf t part (length out) ≡ record { table = table; bytes = g .bs ++ []; left = left } =
+      g .all ∙ ap (behind (g .bs)) (place-none table left (length out - at) z) in
       let k : at ≡ length (g .bs ++ []) = sym m ∙ w .count in (
         same-ran u k ∙ ap (λ (p : InPlace). ranOf p part) (sym q),
-        (w .sheet ∙ ap (λ (p : InPlace). over (p .bytes) out) (sym q), (g .sound, g .inside, g .within)),
+        (w .sheet ∙ ap (λ (p : InPlace). over (p .bytes) out) (sym q), (g .sound, omega (arith, u), g .within)),
       )
     where
       same-ran : {u v m n : ℕ} → u ≡ v → m ≡ n → _≡_ {A = Ran} (record { table = table; used = u; written = m }) (record { table = table; used = v; written = n })
@@ -196,43 +194,35 @@ module _ {t : Table} {part out : List ℕ} {table : Table} {used : ℕ} {now : L
   wrote-nil = subst (λ (x : List ℕ). Wrote x out now at) (sym (append-nil (g .bs))) (g .wrote)
 
   -- the part is used up
-  pub run-out : length part ≤ used → Ends t part out table used now at
-  run-out h = run-ends (empty-front table (drop used part) (length out - at) (omega (arith, length-drop used part))) wrote-nil refl
+  pub run-out : {used : ℕ} → length left ≤ 0 → used ≡ length part - length left → Ends t part out table used now at
+  run-out h u = run-ends (empty-front table left (length out - at) h) wrote-nil refl u
 
-  module _ {left : List ℕ} {f : Front} (w : left ≡ drop used part) (e : f ≡ frontOf left) where
-    abbrev log : List ℕ
-    log = drop used part
-
-    front-is : f ≡ frontOf log
-    front-is = e ∙ ap frontOf w
-
-    pub run-used : used + f .used ≤ length part
-    run-used = omega (arith, g .inside, ap (λ (x : Front). x .used) front-is, length-drop used part)
-
-    pub run-moves : used < length part → used < used + f .used
-    run-moves h = omega (arith, ap (λ (x : Front). x .used) front-is, rest-shorter log (omega (arith, length-drop used part)))
+  module _ {f : Front} (e : f ≡ frontOf left) where
+    -- what follows the block is shorter
+    pub run-less : {rest : List ℕ} → rest ≡ restOf left → 0 < length left → length rest < length left
+    run-less r h = omega (arith, ap length r, rest-shorter left h)
 
     -- the next block is not whole
-    pub run-open : f .whole ≡ false → Ends t part out table used now at
-    run-open h =
-        let z : blockEnded log ≡ false = sym (ap (λ (x : Front). x .whole) front-is) ∙ h in
-        run-ends (ap (λ (x : Bool). both x (leb (length (blockBytes table log)) (length out - at))) z) wrote-nil refl
+    pub run-open : {used : ℕ} → f .whole ≡ false → used ≡ length part - length left → Ends t part out table used now at
+    run-open h u =
+        let z : blockEnded left ≡ false = sym (ap (λ (x : Front). x .whole) e) ∙ h in
+        run-ends (ap (λ (x : Bool). both x (leb (length (blockBytes table left)) (length out - at))) z) wrote-nil refl u
 
     module _ {a : Answered} (p : a ≡ answeredFrom table (judgeBlock table (f .block)) (writtenOf (judgedBytes (judgeBlock table (f .block))) (midOf at (length now - at) now))) where
       abbrev sheet : List ℕ
       sheet = midOf at (length now - at) now
 
       abbrev bytes : List ℕ
-      bytes = blockBytes table log
+      bytes = blockBytes table left
 
-      read : (a ≡ answeredOf table log sheet) × (judgedBytes (judgeBlock table (f .block)) ≡ bytes)
-      read = let k = read-answered table log sheet (ap (λ (x : Front). x .block) front-is) in (p ∙ k .0, k .1)
+      read : (a ≡ answeredOf table left sheet) × (judgedBytes (judgeBlock table (f .block)) ≡ bytes)
+      read = let k = read-answered table left sheet (ap (λ (x : Front). x .block) e) in (p ∙ k .0, k .1)
 
       room : length sheet ≡ length out - at
       room = ap length (part-is at now) ∙ length-drop at now ∙ rw (g .same)
 
       count : a .written ≡ length (fitting bytes (length sheet))
-      count = ap (λ (x : Answered). x .written) (read .0) ∙ answered-parts table log sheet .1 .count
+      count = ap (λ (x : Answered). x .written) (read .0) ∙ answered-parts table left sheet .1 .count
 
       pub run-room : at + a .written ≤ length out
       run-room = omega (arith, count, room, g .within, fitting-within bytes (length sheet))
@@ -240,48 +230,46 @@ module _ {t : Table} {part out : List ℕ} {table : Table} {used : ℕ} {now : L
       module _ {mid after : List ℕ} (q : mid ≡ sheetAfter (judgedBytes (judgeBlock table (f .block))) (midOf at (length now - at) now))
           (r : after ≡ putMid at (length now - at) now mid) where
         one : Wrote (fitting bytes (length sheet)) sheet mid (a .written)
-        one = rw (q, read .1, read .0) (answered-parts table log sheet .1)
+        one = rw (q, read .1, read .0) (answered-parts table left sheet .1)
 
         two : Wrote (g .bs ++ fitting bytes (length sheet)) out after (at + a .written)
         two = rw r (then (g .wrote) one)
 
         -- its answer has no room
-        pub run-full : a .code ≡ 12 → Ends t part out table used after at
-        run-full h =
-            let n : leb (length bytes) (length sheet) ≡ false = twelve-full table log sheet (sym (ap (λ (x : Answered). x .code) (read .0)) ∙ h) in
+        pub run-full : {used : ℕ} → a .code ≡ 12 → used ≡ length part - length left → Ends t part out table used after at
+        run-full h u =
+            let n : leb (length bytes) (length sheet) ≡ false = twelve-full table left sheet (sym (ap (λ (x : Answered). x .code) (read .0)) ∙ h) in
             let none : fitting bytes (length sheet) ≡ [] = ap (λ (x : Bool). pick x bytes []) n in
-            run-ends (ap (both (blockEnded log)) (ap (leb (length bytes)) (sym room) ∙ n) ∙ both-none (blockEnded log))
+            run-ends (ap (both (blockEnded left)) (ap (leb (length bytes)) (sym room) ∙ n) ∙ both-none (blockEnded left))
             (subst (λ (x : List ℕ). Wrote (g .bs ++ x) out after (at + a .written)) none two)
-            (omega (arith, count, ap length none))
+            (omega (arith, count, ap length none)) u
 
         -- it was answered
-        pub run-turn : f .whole ≡ true → (a .code ≡ 12 → ⊥) → Sound (a .table)
-            → Running t part out (a .table) (used + f .used) after (at + a .written)
-        run-turn h n s =
+        pub run-turn : {rest : List ℕ} → f .whole ≡ true → (a .code ≡ 12 → ⊥) → Sound (a .table) → rest ≡ restOf left
+            → Running t part out (a .table) rest after (at + a .written)
+        run-turn {rest} h n s d =
             let xs : List ℕ = g .bs ++ fitting bytes (length sheet) in
-            let fit : length bytes ≤ length sheet = else-room table log sheet (λ z. n (ap (λ (x : Answered). x .code) (read .0) ∙ z)) in
+            let fit : length bytes ≤ length sheet = else-room table left sheet (λ z. n (ap (λ (x : Answered). x .code) (read .0) ∙ z)) in
             let yes : leb (length bytes) (length sheet) ≡ true = le-leb (length bytes) (length sheet) fit in
             let full : fitting bytes (length sheet) ≡ bytes = ap (λ (x : Bool). pick x bytes []) yes in
-            let tab : a .table ≡ judgedOf table log .table =
-            ap (λ (x : Answered). x .table) (read .0) ∙ answered-parts table log sheet .0 ∙ ap (λ (x : Bool). pick x (judgedOf table log .table) table) yes in
-            let whole : blockEnded log ≡ true = sym (ap (λ (x : Front). x .whole) front-is) ∙ h in
-            let front : answersFront table log (length out - at) ≡ true =
+            let tab : a .table ≡ judgedOf table left .table =
+            ap (λ (x : Answered). x .table) (read .0) ∙ answered-parts table left sheet .0 ∙ ap (λ (x : Bool). pick x (judgedOf table left .table) table) yes in
+            let whole : blockEnded left ≡ true = sym (ap (λ (x : Front). x .whole) e) ∙ h in
+            let front : answersFront table left (length out - at) ≡ true =
             ap (λ (x : Bool). both x (leb (length bytes) (length out - at))) whole ∙ ap (leb (length bytes)) (sym room) ∙ yes in
-            let rest : drop (used + f .used) part ≡ restOf log =
-            sym (drop-drop (f .used) used part) ∙ ap (λ (x : Front). drop (x .used) log) front-is ∙ rest-drop log in
             let m : length out - (at + a .written) ≡ length out - at - length bytes = omega (arith, count, ap length full) in
             record {
               bs = g .bs ++ bytes;
               wrote = subst (λ (x : List ℕ). Wrote (g .bs ++ x) out after (at + a .written)) full two;
               within = run-room;
               same = omega (arith, ap length (two .sheet), length-append xs (drop (length xs) out), length-drop (length xs) out, two .count, run-room);
-              inside = run-used;
+              inside = omega (arith, ap length d, rest-shorter left (front-some table left (length out - at) front), g .inside);
               all =
                   g .all
-                  ∙ ap (behind (g .bs)) (place-more table log (length out - at) front)
-                  ∙ behind-behind (g .bs) bytes (inPlaceOf (judgedOf table log .table) (restOf log) (length out - at - length bytes))
-                  ∙ ap (λ (x : Table). behind (g .bs ++ bytes) (inPlaceOf x (restOf log) (length out - at - length bytes))) (sym tab)
-                  ∙ ap (λ (x : List ℕ). behind (g .bs ++ bytes) (inPlaceOf (a .table) x (length out - at - length bytes))) (sym rest)
-                  ∙ ap (λ (x : ℕ). behind (g .bs ++ bytes) (inPlaceOf (a .table) (drop (used + f .used) part) x)) (sym m);
+                  ∙ ap (behind (g .bs)) (place-more table left (length out - at) front)
+                  ∙ behind-behind (g .bs) bytes (inPlaceOf (judgedOf table left .table) (restOf left) (length out - at - length bytes))
+                  ∙ ap (λ (x : Table). behind (g .bs ++ bytes) (inPlaceOf x (restOf left) (length out - at - length bytes))) (sym tab)
+                  ∙ ap (λ (x : List ℕ). behind (g .bs ++ bytes) (inPlaceOf (a .table) x (length out - at - length bytes))) (sym d)
+                  ∙ ap (λ (x : ℕ). behind (g .bs ++ bytes) (inPlaceOf (a .table) rest x)) (sym m);
               sound = s;
             }

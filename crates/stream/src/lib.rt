@@ -1,5 +1,6 @@
 // A log that comes in parts: the unfinished sheet or block is kept, each line cut after 33 bytes, and answered at its last LF.
 use answers::LONGEST;
+use blocks::front_rest;
 use blocks::read_front;
 use desk::answer;
 use desk::answer_block;
@@ -156,7 +157,16 @@ pub struct Ran {
     pub written: usize,
 }
 
-// The whole blocks at the front of a part, each answered where it lies, up to one whose answer has no room.
+// How much of a part is used up, by what is left of it.
+fn used_up(part: &[u8], left: &[u8]) -> usize
+    requires { ⌜ length (now left) ≤ length (now part) ⌝ }
+    ensures { λ r. ⌜ r ≡ length (now (part .entry)) - length (now (left .entry)) ⌝ }
+{
+    part.len() - left.len()
+}
+
+// The whole blocks at the front of a part, each answered where it lies, up to one whose answer has no room. What follows a block is handed on as the rest of
+// the part.
 pub fn in_place(t: Table, part: &[u8], out: &mut [u8]) -> Ran
     requires { ⌜ Sound t ⌝ }
     ensures ran { λ r. ⌜ r ≡ ranOf (inPlaceOf t (now (part .entry)) (length (now (out .entry)))) (now (part .entry)) ⌝ }
@@ -164,14 +174,14 @@ pub fn in_place(t: Table, part: &[u8], out: &mut [u8]) -> Ran
     ensures sound { λ r. ⌜ Sound (r .table) × (r .used ≤ length (now (part .entry))) × (r .written ≤ length (now (out .entry))) ⌝ }
 {
     let mut table = t;
-    let mut used: usize = 0;
+    let mut left = part;
     let mut at: usize = 0;
-    while used < part.len() {
-        let f = read_front(&part[used..]);
+    while 0 < left.len() {
+        let f = read_front(left);
         if !f.whole {
             return Ran {
                 table,
-                used,
+                used: used_up(part, left),
                 written: at,
             };
         }
@@ -180,18 +190,19 @@ pub fn in_place(t: Table, part: &[u8], out: &mut [u8]) -> Ran
         if a.code == NO_ROOM {
             return Ran {
                 table,
-                used,
+                used: used_up(part, left),
                 written: at,
             };
         }
         let u = a.table;
         table = u;
         at += a.written;
-        used += f.used;
+        let next = front_rest(left, f.used);
+        left = &next[0..];
     }
     Ran {
         table,
-        used,
+        used: used_up(part, left),
         written: at,
     }
 }

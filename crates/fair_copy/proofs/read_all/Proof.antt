@@ -1,5 +1,6 @@
+-- `read_all` meets its contract: what is kept between two reads has its bounds.
 use mathlib.Core.Path.{_≡_, refl}
-use Rattle.fair_copy.specs.Kept.{Between}
+use Rattle.copier.specs.Feeding.{Held}
 use native.Mathlib.Omega.{arith}
 use lib.ListN.{length}
 use borrow.Author.Needs.{needs}
@@ -7,7 +8,7 @@ use Rattle.fair_copy.proofs.read_all.Statement.{statement}
 use Rattle.fair_copy.proofs.read_all.Tie as tie
 
 abbrev Inv-loop : tie.InvT-loop
-Inv-loop buf₀ copier₀ turns₀ buf copier turns = (length buf ≡ length buf₀) × Between copier
+Inv-loop buf₀ copier₀ turns₀ buf copier turns = (length buf ≡ length buf₀) × Held copier
 
 abbrev μ-loop : tie.MeasureT-loop
 μ-loop buf₀ copier₀ turns₀ buf copier turns = turns
@@ -16,7 +17,7 @@ start-requires : tie.Need-start-requires Inv-loop μ-loop
 start-requires c κs = search needs
 
 loop-holds : tie.Need-loop-holds Inv-loop μ-loop
-loop-holds c = (refl, c .start .ensures)
+loop-holds c = (refl, c .start .ensures .1)
 
 read-some-requires : tie.Need-read-some-requires Inv-loop μ-loop
 read-some-requires c κs = (c .before .before .loop .inv .1, omega (arith, c .before .before .loop .inv .0, (c .before .before .before .before .before) .pre))

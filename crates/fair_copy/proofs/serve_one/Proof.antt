@@ -1,55 +1,44 @@
--- `serve_one` meets its contract.
-use mathlib.Core.Path.{ap}
-use native.Mathlib.Omega.{arith}
-use lib.ListN.{length, length-drop}
-use Rattle.text.proofs.Parts.{part-is}
+-- `serve_one` meets its contract: the copier has heard the bytes that it used up, and the part goes on behind them.
+use Rattle.copier.proofs.On.{hears-one, hears-moves}
 use borrow.Author.Needs.{needs}
 use Rattle.fair_copy.proofs.serve_one.Statement.{statement}
 use Rattle.fair_copy.proofs.serve_one.Tie as tie
 
-make-room-requires : tie.Need-make-room-requires
-make-room-requires c κs = search needs
+sub-copy-on : tie.Need-sub-copy-on
+sub-copy-on c = search needs
 
-sub-feed : tie.Need-sub-feed
-sub-feed c = search needs
+part-copy-on-start : tie.Need-part-copy-on-start
+part-copy-on-start c = search needs
 
-part-feed-start : tie.Need-part-feed-start
-part-feed-start c = search needs
+part-copy-on-end : tie.Need-part-copy-on-end
+part-copy-on-end c = search needs
 
-part-feed-end : tie.Need-part-feed-end
-part-feed-end c = search needs
-
-sub-feed-2 : tie.Need-sub-feed-2
-sub-feed-2 c = search needs
-
-part-feed-start-2 : tie.Need-part-feed-start-2
-part-feed-start-2 c = search needs
-
-part-feed-end-2 : tie.Need-part-feed-end-2
-part-feed-end-2 c = search needs
-
-sub-feed-3 : tie.Need-sub-feed-3
-sub-feed-3 c = search needs
-
-part-feed-start-3 : tie.Need-part-feed-start-3
-part-feed-start-3 c = search needs
-
-part-feed-end-3 : tie.Need-part-feed-end-3
-part-feed-end-3 c = search needs
-
-feed-requires : tie.Need-feed-requires
-feed-requires c κs =
-    let s = c .before .before .before .before .before .before .before .before .before .before .before in
-    (s .pre .0, s .pre .1, omega (arith, s .pre .2, ap length (part-is (s .args .from) (s .args .part .now)), length-drop (s .args .from) (s .args .part .now)))
+copy-on-requires : tie.Need-copy-on-requires
+copy-on-requires c κs = search needs
 
 ahead-requires : tie.Need-ahead-requires
 ahead-requires c κs = search needs
 
-ahead-requires-2 : tie.Need-ahead-requires-2
-ahead-requires-2 c κs = search needs
+sub-write-out : tie.Need-sub-write-out
+sub-write-out c = search needs
 
-ahead-requires-3 : tie.Need-ahead-requires-3
-ahead-requires-3 c κs = search needs
+part-write-out-start : tie.Need-part-write-out-start
+part-write-out-start c = search needs
+
+part-write-out-end : tie.Need-part-write-out-end
+part-write-out-end c = search needs
+
+sub-write-out-2 : tie.Need-sub-write-out-2
+sub-write-out-2 c = search needs
+
+part-write-out-start-2 : tie.Need-part-write-out-start-2
+part-write-out-start-2 c = search needs
+
+part-write-out-end-2 : tie.Need-part-write-out-end-2
+part-write-out-end-2 c = search needs
+
+write-out-requires : tie.Need-write-out-requires
+write-out-requires c κs = search needs
 
 same-length : tie.Need-same-length
 same-length c = search needs
@@ -61,34 +50,29 @@ same-length-3 : tie.Need-same-length-3
 same-length-3 c = search needs
 
 returns : tie.Need-returns
-returns c =
-    let f = c .before .before .before .before .before .before .before .before .before .before .before .before .feed .ensures in
-    let a = c .before .before .before .before .before .ahead .ensures in (
-      f .0,
-      omega (arith, a .0, f .1 .0 .1),
-      a .1,
-      omega (arith, c .before .before .before .ahead2 .ensures .1, c .before .before .before .before .before .before .before .before .before .copy .given .1),
-      omega (arith, c .before .ahead3 .ensures .1, c .before .before .before .before .before .before .before .notes .given .1),
+returns c = let s = (c .before .before .before .before .before .before .before .before .before .before .before .before .before .before .before .before .before .before .before .before .before .before) in
+    let f = c .before .before .before .before .before .before .before .before .before .before .before .before .before .copy-on in
+    let a = c .before .before .before .before .before .before .ahead .ensures in (
+      hears-one (s .args .part .now) (s .args .from) (f .result) (f .ensures .0) (a .0),
+      (f .ensures .1 .0 .0, hears-moves (s .args .part .now) (s .args .from) (a .0) (s .pre .2) (λ h. f .ensures .1 .1 .1 h (s .pre .3) (s .pre .4)), a .1),
     )
 
 pub serve-one-spec : {M : Type 1} → statement M
 serve-one-spec =
     tie.close
     (tie.spec
-    make-room-requires
-    sub-feed
-    part-feed-start
-    part-feed-end
-    sub-feed-2
-    part-feed-start-2
-    part-feed-end-2
-    sub-feed-3
-    part-feed-start-3
-    part-feed-end-3
-    feed-requires
+    sub-copy-on
+    part-copy-on-start
+    part-copy-on-end
+    copy-on-requires
     ahead-requires
-    ahead-requires-2
-    ahead-requires-3
+    sub-write-out
+    part-write-out-start
+    part-write-out-end
+    sub-write-out-2
+    part-write-out-start-2
+    part-write-out-end-2
+    write-out-requires
     same-length
     same-length-2
     same-length-3

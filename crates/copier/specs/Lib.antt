@@ -1,0 +1,3 @@
+-- A log copied fair as it comes.
+pub mod Onward
+pub mod Feeding
