@@ -89,7 +89,7 @@ module _ (t : Ranking) (h r : Hand) (n j i : ℕ) (l : List ℕ) where
       (er ∙ ap (λ (k : ℕ). keep t g (valuesFrom t (digits j n) k (drop (i + 1) l))) z)
       ∙ ap (λ (k : ℕ). keep t h (valuesFrom t (digits j n) k (drop i l))) (sym z)
 
-no-hand : handIn 9895604649984 ≡ none
+pub no-hand : handIn 9895604649984 ≡ none
 unfolding handIn digits
 no-hand = refl
 

@@ -49,7 +49,7 @@ fn number_of(ranking: Ranking, h: Hand) -> u64
     ((high * 256 + h.r3 as u64) * 256 + h.r4 as u64) * 256 + h.r5 as u64
 }
 
-fn hand_in(n: u64) -> Hand
+pub(crate) fn hand_in(n: u64) -> Hand
     ensures { λ r. ⌜ r ≡ handIn n ⌝ }
 {
     let q = five_in(n);
@@ -88,7 +88,14 @@ fn with_rest(cards: &[u8], at: usize, chosen: u64) -> u64
 
 // The best hand so far, and of the choices that begin with the cards chosen and go on among those from `at` on: the next card is
 // taken, or skipped, until as many are left as are needed.
-fn best(ranking: Ranking, cards: &[u8], at: usize, chosen: u64, have: usize, so_far: u64) -> u64
+pub(crate) fn best(
+    ranking: Ranking,
+    cards: &[u8],
+    at: usize,
+    chosen: u64,
+    have: usize,
+    so_far: u64,
+) -> u64
     requires { ⌜ (at ≤ length (now cards)) × (have ≤ 5) × (5 - have ≤ length (now cards) - at) × Placed ranking × IsHand ranking «so_far» ⌝ }
     ensures is { λ r. ⌜ handIn r ≡ keep ranking (handIn «so_far») (valuesFrom ranking (digits have chosen) (5 - have) (drop at (now (cards .entry)))) ⌝ }
     ensures small { λ r. ⌜ IsHand ranking r ⌝ }
@@ -111,7 +118,7 @@ fn best(ranking: Ranking, cards: &[u8], at: usize, chosen: u64, have: usize, so_
 }
 
 // No hand: the class 9, which has no place.
-const NO_HAND: u64 = 9895604649984;
+pub(crate) const NO_HAND: u64 = 9895604649984;
 
 // By any ranking, the best hand of five among the cards, as they lie.
 fn best_of_choices(ranking: Ranking, cards: &[u8]) -> Hand

@@ -1,5 +1,6 @@
 -- Chairs above a table's seats add nothing: what is counted, summed, read off or done over the seats is so over all chairs. Over any number of chairs.
 -- Assumes nothing.
+-- a chair put down at a seat, and a sweep that leaves a chair as it is that nobody ever had
 use Prim.Native.Nat.{ℕ, zero, suc, _+_, _*_, _≤_, _<_}
 use mathlib.Core.Bool.{Bool, true, false}
 use mathlib.Core.Path.{_≡_, refl, sym, ap, ap₂, _∙_}
@@ -23,7 +24,6 @@ use Rattle.chairs.proofs.Laws.{sweepTo, closeTo}
 use Rattle.chairs.proofs.Over.{map-at}
 use Rattle.chairs.specs.declared.What.the-variants as col
 
--- a chair put down at a seat, and a sweep that leaves a chair as it is that nobody ever had
 pub above-put : (n : ℕ) (cs : List Chair) (x : ℕ) (d : Chair) → x ≤ n → Above n cs → Above n (putAt cs x d)
 above-put n cs x d l h s k = put-other cs x s d (λ e. omega arith) ∙ h s k
 
@@ -40,7 +40,7 @@ want-none LiveWithChips = refl
 want-none Chips = refl
 want-none (Owing mark alone) = refl
 want-none (Holding card) = refl
-want-none Bare = refl
+want-none (Bare game) = refl
 
 pub sweep-none : (k : Sweep) → sweepOf k noChair ≡ noChair
 sweep-none (Again full) = refl
@@ -122,8 +122,8 @@ module _ (f : Chair → ℕ) where
   store zero x xs = refl
   store (suc i) x xs = ap (λ (k : List ℕ). 0 ∷ k) (store i x xs)
 
-  pub read-turn : (i : ℕ) (cs : List Chair) → i < length cs → set (readFrom (suc i) cs) i (f (getD cs i noChair)) ≡ readFrom i cs
-  read-turn i cs l = store i (f (getD cs i noChair)) (map f (drop (suc i) cs)) ∙ ap (λ k. replicate i 0 ++ map f k) (sym (drop-cons cs i noChair l))
+  pub read-turn : (i : ℕ) (cs : List Chair) (d : Chair) → i < length cs → set (readFrom (suc i) cs) i (f (getD cs i d)) ≡ readFrom i cs
+  read-turn i cs d l = store i (f (getD cs i d)) (map f (drop (suc i) cs)) ∙ ap (λ k. replicate i 0 ++ map f k) (sym (drop-cons cs i d l))
 
   -- the same as a mask of the places that have a 1
   pub mask-start : f noChair ≡ 0 → (n : ℕ) (cs : List Chair) → Above n cs → maskAt (map f (drop n cs)) 1 ≡ 0
@@ -137,7 +137,7 @@ module _ (f : Chair → ℕ) where
   pub mask-small : (i : ℕ) (cs : List Chair) → length cs ≤ 10 → maskAt (map f (drop i cs)) 1 < 1024
   mask-small i cs l = mask-lt (map f (drop i cs)) 1 10 (omega (arith, length-map (drop i cs) f, length-drop i cs))
 
-  pub mask-turn : (i : ℕ) (cs : List Chair) → i < length cs
-      → maskAt (map f (drop i cs)) 1 ≡ has (f (getD cs i noChair)) 1 + 2 * maskAt (map f (drop (suc i) cs)) 1
+  pub mask-turn : (i : ℕ) (cs : List Chair) (d : Chair) → i < length cs
+      → maskAt (map f (drop i cs)) 1 ≡ has (f (getD cs i d)) 1 + 2 * maskAt (map f (drop (suc i) cs)) 1
   unfolding maskAt
-  mask-turn i cs l = ap (λ k. maskAt (map f k) 1) (drop-cons cs i noChair l)
+  mask-turn i cs d l = ap (λ k. maskAt (map f k) 1) (drop-cons cs i d l)

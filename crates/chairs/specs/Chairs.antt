@@ -4,7 +4,7 @@ use Prim.Native.Nat.{ℕ, zero, suc, _+_, _-_, _≤_, _<_, min}
 use mathlib.Core.Path.{_≡_}
 use mathlib.Core.Bool.{Bool, true, false, not}
 use mathlib.Core.List.{List, [], _∷_, _++_}
-use lib.ListN.{getD, set}
+use lib.ListN.{getD, set, take, replicate}
 use lib.Dec.{ltb, leb, eqb}
 use Rattle.laws.specs.Tests.{both, either, pick, one}
 use Rattle.chairs.specs.declared.Chair.{Chair}
@@ -34,13 +34,26 @@ roundOf c = c .dealt .total - c .dealt .start
 abbrev pub isOwing : ℕ → Bool → Chair → Bool
 isOwing mark alone c = both (isLiveWithChips c) (both (not (c .dealt .acted)) (not (both alone (eqb (roundOf c) mark))))
 
+-- the hole cards that were entered
+abbrev pub holeOf : Chair → List ℕ
+holeOf c = take (c .hole .count) (c .hole .cards)
+
+-- a card is among some
+abbrev pub hasCard : ℕ → List ℕ → Bool
+hasCard k [] = false
+hasCard k (x ∷ xs) = either (eqb x k) (hasCard k xs)
+
 -- the card was entered for this hand: also where it is folded, or its sitting gone
 abbrev pub isHolding : ℕ → Chair → Bool
-isHolding k c = both (c .hole .entered) (either (eqb (c .hole .first) k) (eqb (c .hole .second) k))
+isHolding k c = hasCard k (holeOf c)
 
--- a live hand whose cards were not entered
-abbrev pub isBare : Chair → Bool
-isBare c = both (c .dealt .live) (not (c .hole .entered))
+-- No. 5: all hole cards were entered that a hand of the game has
+abbrev pub isFull : ℕ → Chair → Bool
+isFull game c = eqb (c .hole .count) game
+
+-- a live hand whose cards were not all entered
+abbrev pub isBare : ℕ → Chair → Bool
+isBare game c = both (c .dealt .live) (not (isFull game c))
 
 abbrev pub wantOf : Who → Chair → Bool
 wantOf Live c = c .dealt .live
@@ -48,14 +61,14 @@ wantOf LiveWithChips c = isLiveWithChips c
 wantOf Chips c = isDealtIn c
 wantOf (Owing mark alone) c = isOwing mark alone c
 wantOf (Holding card) c = isHolding card c
-wantOf Bare c = isBare c
+wantOf (Bare game) c = isBare game c
 
 -- the record of nobody, and no cards
 abbrev pub noDealt : Dealt
 noDealt = record { sitting = 0; total = 0; start = 0; live = false; acted = false; spent = false }
 
 abbrev pub noHole : Hole
-noHole = record { entered = false; first = 0; second = 0 }
+noHole = record { count = 0; cards = replicate 4 0 }
 
 abbrev pub noChair : Chair
 noChair = record { sitting = 0; stack = 0; dealt = noDealt; hole = noHole }
@@ -153,9 +166,15 @@ sweepOf (Again full) c = againOf full c
 sweepOf Round c = roundedOf c
 sweepOf Deal c = dealtOf c
 
--- the hole cards are entered
+-- No. 5: "each seat's record holds four cards, entered by two `hole` entries": the first pair, or the second behind it
+abbrev pub holeWith : Hole → ℕ → ℕ → Hole
+holeWith h a b =
+    pick (eqb (h .count) 0) (record { count = 2; cards = a ∷ b ∷ 0 ∷ 0 ∷ [] })
+    (record { count = 4; cards = getD (h .cards) 0 0 ∷ getD (h .cards) 1 0 ∷ a ∷ b ∷ [] })
+
+-- two hole cards are entered
 abbrev pub heldOf : Chair → ℕ → ℕ → Chair
-heldOf c a b = record { sitting = c .sitting; stack = c .stack; dealt = c .dealt; hole = record { entered = true; first = a; second = b } }
+heldOf c a b = record { sitting = c .sitting; stack = c .stack; dealt = c .dealt; hole = holeWith (c .hole) a b }
 
 -- a sitting was dealt in, and it is still there
 abbrev pub isHere : Chair → Bool

@@ -17,7 +17,7 @@ ghost use Rattle.logs.specs.LogText.{sheetText, putOf, putAfter};
 fn values_of(s: Sheet) -> [u32; LINES]
     ensures { λ r. ⌜ r ≡ sheetValues s ⌝ }
 {
-    [s.seats, s.small, s.big, s.rate, s.cap, s.step]
+    [s.seats, s.small, s.big, s.rate, s.cap, s.step, s.game]
 }
 
 // How long a good sheet is.

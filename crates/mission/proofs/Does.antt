@@ -1,13 +1,14 @@
 -- Demand 2, second half: every entry that is taken does what document 01 says of its kind, and nothing else moves. At every table that `take` can hold.
 -- Assumes nothing.
+-- the table after the entry, counted
 use Prim.Native.Nat.{ℕ, suc, _+_, _-_, _≤_, _<_, min}
 use mathlib.Core.Bool.{Bool, true, not, false≢true}
 use mathlib.Core.Path.{_≡_, refl, sym, ap, _∙_, subst}
-use mathlib.Core.List.{map}
+use mathlib.Core.List.{[], _∷_, map}
 use mathlib.Core.Logic.{⊎-elim}
 use native.Mathlib.Omega.{arith}
 use lib.Dec.{eqb, ltb, leb}
-use lib.ListN.{length, getD}
+use lib.ListN.{length, getD, take}
 use borrow.Author.Tests.{eq-eqb, ne-eqb, ltb-true, leb-true, leb-false, le-leb, lt-leb}
 use Rattle.laws.specs.Tests.{both, pick}
 use Rattle.laws.proofs.Tests.{both-true}
@@ -16,8 +17,9 @@ use Rattle.paper.specs.declared.Entry.{Entry}
 use Rattle.paper.specs.declared.Entry.the-variants.{Sit, Leave, Hand, Hole, Fold, Check, Call, Wager, Board, Dead, Settle, Void}
 use Rattle.paper.proofs.Codes.{between-in}
 use Rattle.pots.proofs.Contest.{le-or-lt}
-use Rattle.chairs.specs.Chairs.{chairAt, putAt, noChair, noDealt, noHole, roundOf, isLiveWithChips, seatedOf, heldOf, foldedOf, actedOf, paidOf, againOf, roundedOf, closedOf, closeAll}
+use Rattle.chairs.specs.Chairs.{chairAt, putAt, noChair, noDealt, noHole, roundOf, isLiveWithChips, seatedOf, holeWith, heldOf, foldedOf, actedOf, paidOf, againOf, roundedOf, closedOf, closeAll}
 use Rattle.chairs.specs.declared.Chair.{Chair}
+use Rattle.chairs.specs.declared.Hole.{Hole as Record}
 use Rattle.chairs.proofs.Clockwise.{put-other}
 use Rattle.chairs.proofs.Over.{map-at}
 use Rattle.table.specs.State.{seatOf, withTaken, withChair, withCard}
@@ -40,7 +42,6 @@ use Rattle.mission.proofs.Taken.{taken-allowed}
 use Rattle.mission.proofs.DoesHand.{does-hand}
 use Rattle.mission.specs.Does.{Still, Puts, DoesSit, DoesLeave, DoesHole, GivenUp, DoesFold, DoesCheck, DoesCall, Again, DoesWager, DoesDead, DoesBoard, DoesSettle, Does}
 
--- the table after the entry, counted
 abbrev done : Table → ℕ → Entry → Table
 done t n e = withTaken (appliedTo t e) n
 
@@ -91,9 +92,8 @@ module _ (t : Table) (n x : ℕ) (st : Standing t) (l : seatOf t x .dealt .live 
   does-hole a b =
       let at = at-live (heldOf c a b) in
       record {
-        entered = ap (λ (c : Chair). c .hole .entered) at;
-        first = ap (λ (c : Chair). c .hole .first) at;
-        second = ap (λ (c : Chair). c .hole .second) at;
+        first = λ e. let r = ap (λ (c : Chair). c .hole) at ∙ is-first e in (ap (λ (h : Record). h .count) r, ap (λ (h : Record). take (h .count) (h .cards)) r);
+        second = λ e. let r = ap (λ (c : Chair). c .hole) at ∙ is-second e in (ap (λ (h : Record). h .count) r, ap (λ (h : Record). take (h .count) (h .cards)) r);
         sitting = ap (λ (c : Chair). c .sitting) at;
         stack = ap (λ (c : Chair). c .stack) at;
         dealt = ap (λ (c : Chair). c .dealt) at;
@@ -101,6 +101,18 @@ module _ (t : Table) (n x : ℕ) (st : Standing t) (l : seatOf t x .dealt .live 
         quiet = record { rest = record { sheet = refl; sittings = refl; opened = refl; puck = refl }; board = refl; mark = refl; lift = refl };
         turn = refl;
       }
+    where
+      one : Record
+      one = record { count = 2; cards = a ∷ b ∷ 0 ∷ 0 ∷ [] }
+
+      two : Record
+      two = record { count = 4; cards = getD (c .hole .cards) 0 0 ∷ getD (c .hole .cards) 1 0 ∷ a ∷ b ∷ [] }
+
+      is-first : c .hole .count ≡ 0 → holeWith (c .hole) a b ≡ one
+      is-first e = ap (λ (z : Bool). pick z one two) (eq-eqb (c .hole .count) 0 e)
+
+      is-second : (c .hole .count ≡ 0 → ⊥) → holeWith (c .hole) a b ≡ two
+      is-second e = ap (λ (z : Bool). pick z one two) (ne-eqb (c .hole .count) 0 e)
 
   given-up : GivenUp c (chairAt (putAt (t .chairs) x (foldedOf c)) x)
   given-up = subst (GivenUp c) (sym (at-live (foldedOf c))) (record { sitting = refl; stack = refl; dealt = refl; total = refl; live = refl; hole = refl })

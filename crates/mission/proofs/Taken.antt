@@ -1,4 +1,5 @@
 -- Demand 2: an entry is taken exactly when document 01 allows it. Assumes nothing.
+-- ---- a code of 0, and its parts
 use Prim.Native.Nat.{ℕ, zero, suc, _+_, _-_}
 use mathlib.Core.Bool.{Bool, true, false, not, true≢false, false≢true}
 use mathlib.Core.Path.{_≡_, refl, sym, _∙_}
@@ -12,7 +13,7 @@ use Rattle.paper.specs.Paper.{when, orElse, inRange}
 use Rattle.paper.proofs.Codes.{or-zero, when-zero}
 use Rattle.paper.specs.declared.Entry.{Entry}
 use Rattle.paper.specs.declared.Entry.the-variants.{Sit, Leave, Hand, Hole, Fold, Check, Call, Wager, Board, Dead, Settle, Void}
-use Rattle.chairs.specs.Chairs.{countOf, wantOf, roundOf, chipsOf}
+use Rattle.chairs.specs.Chairs.{isFull, countOf, wantOf, roundOf, chipsOf}
 use Rattle.chairs.specs.declared.Who.the-variants.{Chips, Bare}
 use Rattle.table.specs.Betting.{liveHands, nobodyOwes, mayRaise, isWager, turnCode, checkCode, callCode, wagerCode, deadCode}
 use Rattle.table.specs.Dealing.{inThisHand, holeCode, boardCode}
@@ -25,7 +26,6 @@ use Rattle.table.specs.declared.table.Table.{Table}
 use Rattle.mission.specs.Allowed.{SomeoneOwes, MaySit, MayLeave, MayOpen, MayHole, MayAct, MayCheck, MayCall, MayWager, MayBoard, MayDead, MaySettle, May, Allowed}
 use Rattle.mission.proofs.Someone.{someone, nobody, not-nobody}
 
--- ---- a code of 0, and its parts
 zero-or : (a b : ℕ) → a ≡ 0 → b ≡ 0 → orElse a b ≡ 0
 zero-or zero b p q = q
 zero-or (suc a) b p q = absurd (omega arith)
@@ -217,7 +217,7 @@ hole-taken : (t : Table) (s a b : ℕ) → holeCode t s a b ≡ 0 → MayHole t 
 unfolding holeCode
 hole-taken t s a b h =
     let live = seatOf t s .dealt .live in
-    let full = seatOf t s .hole .entered in
+    let full = isFull (t .sheet .game) (seatOf t s) in
     let same = eqb a b in
     let old = either (inThisHand t a) (inThisHand t b) in
     let p = or-zero (when (not (t .play .opened)) 4) (orElse (when (either (not live) full) 5) (when (either same old) 8)) h in
@@ -228,7 +228,7 @@ hole-taken t s a b h =
     record {
       opened = passes (t .play .opened) 3 (p .0);
       live = not-false live (r .0);
-      bare = r .1;
+      few = eqb-false (seatOf t s .hole .count) (t .sheet .game) (r .1);
       two = eqb-false a b (u .0);
       first = v .0;
       second = v .1;
@@ -238,9 +238,9 @@ hole-code : (t : Table) (s a b : ℕ) → MayHole t s a b → holeCode t s a b �
 unfolding holeCode
 hole-code t s a b m =
     let live = seatOf t s .dealt .live in
-    let full = seatOf t s .hole .entered in
+    let full = isFull (t .sheet .game) (seatOf t s) in
     zero-or _ _ (passed (t .play .opened) 4 (m .opened))
-    (zero-or _ _ (zero-when (either (not live) full) 5 (neither (not live) full (off live (m .live)) (m .bare)))
+    (zero-or _ _ (zero-when (either (not live) full) 5 (neither (not live) full (off live (m .live)) (ne-eqb (seatOf t s .hole .count) (t .sheet .game) (m .few))))
     (zero-when (either (eqb a b) (either (inThisHand t a) (inThisHand t b))) 8 (neither (eqb a b) _ (ne-eqb a b (m .two)) (neither (inThisHand t a) (inThisHand t b) (m .first) (m .second)))))
 
 -- ---- board, dead, settle
@@ -299,7 +299,7 @@ settle-taken t h =
     let five = eqb (t .board .count) 5 in
     let done = both (nobodyOwes t) five in
     let many = leb 2 (liveHands t) in
-    let bare = eqb (countOf (wantOf Bare) (t .chairs)) 0 in
+    let bare = eqb (countOf (wantOf (Bare (t .sheet .game))) (t .chairs)) 0 in
     let now = both (t .play .opened) (either sole done) in
     let p = or-zero (when (not now) 4) (when (both many (not bare)) 10) h in
     let q = both-true (t .play .opened) (either sole done) (passes now 3 (p .0)) in
@@ -308,7 +308,7 @@ settle-taken t h =
       moment = ⊎-elim (λ e. inl (eqb-true (liveHands t) 1 e))
           (λ e. let r = both-true (nobodyOwes t) five e in inr ((λ o. true≢false (sym (r .0) ∙ not-nobody t o)), eqb-true (t .board .count) 5 (r .1)))
           (one-of sole done (q .1));
-      cards = λ l. ⊎-elim (λ e. eqb-true (countOf (wantOf Bare) (t .chairs)) 0 e)
+      cards = λ l. ⊎-elim (λ e. eqb-true (countOf (wantOf (Bare (t .sheet .game))) (t .chairs)) 0 e)
           (λ e. absurd (true≢false (sym (two many (not bare) (le-leb 2 (liveHands t) l) (on bare e)) ∙ when-zero (both many (not bare)) 9 (p .1))))
           (test bare);
     }
@@ -320,13 +320,13 @@ settle-code t m =
     let five = eqb (t .board .count) 5 in
     let done = both (nobodyOwes t) five in
     let many = leb 2 (liveHands t) in
-    let bare = eqb (countOf (wantOf Bare) (t .chairs)) 0 in
+    let bare = eqb (countOf (wantOf (Bare (t .sheet .game))) (t .chairs)) 0 in
     zero-or _ _
     (passed (both (t .play .opened) (either sole done)) 4
     (two (t .play .opened) (either sole done) (m .opened)
     (⊎-elim (λ e. left-of sole done (eq-eqb (liveHands t) 1 e)) (λ e. right-of sole done (two (nobodyOwes t) five (nobody t (e .0)) (eq-eqb (t .board .count) 5 (e .1)))) (m .moment))))
     (zero-when (both many (not bare)) 10
-    (⊎-elim (λ e. go many (not bare) (off bare (eq-eqb (countOf (wantOf Bare) (t .chairs)) 0 (m .cards (leb-true 2 (liveHands t) e))))) (λ e. none many (not bare) e) (test many)))
+    (⊎-elim (λ e. go many (not bare) (off bare (eq-eqb (countOf (wantOf (Bare (t .sheet .game))) (t .chairs)) 0 (m .cards (leb-true 2 (liveHands t) e))))) (λ e. none many (not bare) e) (test many)))
   where
     go : (a b : Bool) → b ≡ false → both a b ≡ false
     go true b h = h

@@ -111,18 +111,18 @@ module _ (sheet : Sheet) (ok : isSheet sheet ≡ true) (es : List Entry) (taken 
       let dead : bitAt (livesBy n) i ≡ 0 =
       mask-bit (map (λ x. one (partAt n x .live)) tenSeats) 1 i (omega arith) ∙ ap (λ (v : ℕ). has v 1) (at-seat (λ x. one (partAt n x .live)) i l ∙ ap one (gone-dead (suc i) e)) ∙ has-truth false in
       let out = pots-all (λ m. bitAt m i ≡ 0) (putsBy n) (livesBy n) (λ j p. contender-live (putsBy n) (livesBy n) j i p dead) in
-      let won = won-none (scoresBy n) (ruleBy sheet n) (n .play .puck) i puck l (ruleBy sheet n .cap) (potsOf (putsBy n) (livesBy n)) (pots-manned (putsBy n) (livesBy n)) out in
-      let w = wonOf (scoresBy n) (ruleBy sheet n) (n .play .puck) (ruleBy sheet n .cap) (potsOf (putsBy n) (livesBy n)) in
-      let lw = won-length (scoresBy n) (ruleBy sheet n) (n .play .puck) (ruleBy sheet n .cap) (potsOf (putsBy n) (livesBy n)) in
+      let won = won-none (scoresBy sheet n) (ruleBy sheet n) (n .play .puck) i puck l (ruleBy sheet n .cap) (potsOf (putsBy n) (livesBy n)) (pots-manned (putsBy n) (livesBy n)) out in
+      let w = wonOf (scoresBy sheet n) (ruleBy sheet n) (n .play .puck) (ruleBy sheet n .cap) (potsOf (putsBy n) (livesBy n)) in
+      let lw = won-length (scoresBy sheet n) (ruleBy sheet n) (n .play .puck) (ruleBy sheet n .cap) (potsOf (putsBy n) (livesBy n)) in
       let at = plus-at w (map (returnedOf (putsBy n) (livesBy n)) (putsBy n)) i (omega (arith, lw)) (omega (arith, lw)) in
       let back = map-at (returnedOf (putsBy n) (livesBy n)) (putsBy n) i l ∙ ap (returnedOf (putsBy n) (livesBy n)) (at-seat (λ x. partAt n x .put) i l) in
       omega (arith, at, won, back)
 
   due-length : length (dueBy sheet n) ≡ 10
-  due-length = plus-length w (map (returnedOf (putsBy n) (livesBy n)) (putsBy n)) ∙ won-length (scoresBy n) (ruleBy sheet n) (n .play .puck) (ruleBy sheet n .cap) (potsOf (putsBy n) (livesBy n))
+  due-length = plus-length w (map (returnedOf (putsBy n) (livesBy n)) (putsBy n)) ∙ won-length (scoresBy sheet n) (ruleBy sheet n) (n .play .puck) (ruleBy sheet n .cap) (potsOf (putsBy n) (livesBy n))
     where
       w : List ℕ
-      w = wonOf (scoresBy (notebook sheet es)) (ruleBy sheet (notebook sheet es)) (notebook sheet es .play .puck) (ruleBy sheet (notebook sheet es) .cap) (potsOf (putsBy (notebook sheet es)) (livesBy (notebook sheet es)))
+      w = wonOf (scoresBy sheet (notebook sheet es)) (ruleBy sheet (notebook sheet es)) (notebook sheet es .play .puck) (ruleBy sheet (notebook sheet es) .cap) (potsOf (putsBy (notebook sheet es)) (livesBy (notebook sheet es)))
 
   -- "if it has left, they are unclaimed (house)": these chips, and no others
   pub unclaimed-left : unclaimedBy sheet n ≡ leftBehind n

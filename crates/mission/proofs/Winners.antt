@@ -1,5 +1,6 @@
 -- Demand 2: of two hands the better wins. Of every pot of every taken settle the winners are exactly its contenders whose best hand no contender's best hand
 -- beats, whatever the number of seats; and hands tie exactly when neither is better (cards, `tie-iff`). A sole contender needs no cards. Assumes nothing.
+-- ---- what is told seat by seat
 use Prim.Native.Nat.{ℕ, zero, suc, _+_, _/_, _≤_, _<_, _^_}
 use mathlib.Core.Bool.{Bool, true, false, not, true≢false}
 use mathlib.Core.Path.{_≡_, refl, sym, ap, ap₂, _∙_, subst}
@@ -18,7 +19,9 @@ use Rattle.paper.specs.declared.Sheet.{Sheet}
 use Rattle.paper.specs.declared.Entry.{Entry}
 use Rattle.paper.specs.declared.Entry.the-variants.{Settle}
 use Rattle.paper.proofs.Codes.{or-zero, when-zero}
-use Rattle.cards.specs.Order.{ranking52, beatsBy, bestOf}
+use Rattle.cards.specs.Order.{ranking52, beatsBy, bestAmong}
+use Rattle.cards.specs.Omaha.{allowed}
+use Rattle.cards.specs.declared.Hand.{Hand}
 use Rattle.cards.proofs.Above.{beats-irrefl}
 use Rattle.pots.specs.Heights.{has, chipsAt, liveOf, maskAt, contenders, contested, contest}
 use Rattle.pots.specs.Runs.{potsOf}
@@ -29,7 +32,7 @@ use Rattle.pots.proofs.Hands.{Manned, manned, pots-manned}
 use Rattle.pots.proofs.Masks.{live-length, live-at, mask-lt, mask-bit, ones-mask}
 use Rattle.pots.proofs.PotRuns.{pots-all}
 use Rattle.pots.proofs.Winners.{winners-sole, winners-are}
-use Rattle.chairs.specs.Chairs.{seatsFrom}
+use Rattle.chairs.specs.Chairs.{holeOf, seatsFrom}
 use Rattle.chairs.proofs.Above.{has-truth}
 use Rattle.table.specs.State.{seatOf}
 use Rattle.table.specs.Settle.{isShown, scoreOf, handScore}
@@ -37,15 +40,14 @@ use Rattle.table.specs.declared.table.Table.{Table}
 use Rattle.history.specs.AsNoted.{AsNoted}
 use Rattle.history.specs.Codes.{liveBy, nobodyBy, kindBy, codeBy}
 use Rattle.history.specs.History.{run, AllTaken}
-use Rattle.history.specs.Notebook.{Part, Notebook, tenSeats, partAt, putsBy, livesBy, potsBy, scoreBy, notebook}
+use Rattle.history.specs.Notebook.{Part, Notebook, tenSeats, partAt, putsBy, livesBy, potsBy, shownBy, scoreBy, notebook}
 use Rattle.history.specs.Turns.{countSeats, liveAt, turnOf}
 use Rattle.history.proofs.AsNoted.{as-noted}
 use Rattle.history.proofs.Codes.{taken-by}
 use Rattle.history.proofs.Kept.{cards-is}
-use Rattle.history.proofs.Shown.{cardsOf, scores-compare}
+use Rattle.history.proofs.Shown.{cards-after, scores-compare}
 use Rattle.mission.specs.Winners.{bestAt, scoresBy, Contends, BestWin}
 
--- ---- what is told seat by seat
 pub seat-at : (f : ℕ → ℕ) (k m i : ℕ) → i < m → getD (map f (seatsFrom k m)) i 0 ≡ f (suc (i + k))
 seat-at f k zero i l = absurd (omega arith)
 seat-at f k (suc m) zero l = let z : suc k ≡ suc (0 + k) = omega arith in ap f z
@@ -131,9 +133,9 @@ module _ (sheet : Sheet) (ok : isSheet sheet ≡ true) (es : List Entry) (taken 
   says = as-noted sheet ok es (taken .1)
 
   abbrev bare : ℕ → Bool
-  bare x = both (liveAt n x) (not (partAt n x .shown))
+  bare x = both (liveAt n x) (not (eqb (partAt n x .count) (sheet .game)))
 
-  -- with two live or more no live seat is without cards
+  -- with two live or more no live seat is without all its cards
   all-shown : 2 ≤ liveBy n → countSeats bare tenSeats ≡ 0
   all-shown l =
       let now = when (not (both (n .play .opened) (either (eqb (liveBy n) 1) (both (nobodyBy sheet n) (eqb (n .board .count) 5))))) 4 in
@@ -153,14 +155,14 @@ module _ (sheet : Sheet) (ok : isSheet sheet ≡ true) (es : List Entry) (taken 
 
   -- the hand of seat x can be compared
   abbrev Shown : ℕ → Type 0
-  Shown x = both (partAt n x .live) (partAt n x .shown) ≡ true
+  Shown x = shownBy (sheet .game) (partAt n x) ≡ true
 
   seen : (i : ℕ) → i < 10 → 2 ≤ liveBy n → bitAt (livesBy n) i ≡ 1 → Shown (suc i)
   seen i l m e =
       let live : liveAt n (suc i) ≡ true = one-true (liveAt n (suc i)) (sym (live-bit i l) ∙ e) in
       let w : suc (i + 0) ≡ suc i = omega arith in
       let none : bare (suc i) ≡ false = ap bare (sym w) ∙ none-counted bare 0 10 i (all-shown m) l in
-      both-are (liveAt n (suc i)) (partAt n (suc i) .shown) live none
+      both-are (liveAt n (suc i)) (eqb (partAt n (suc i) .count) (sheet .game)) live none
     where
       both-are : (a b : Bool) → a ≡ true → both a (not b) ≡ false → both a b ≡ true
       both-are true true p q = refl
@@ -168,31 +170,39 @@ module _ (sheet : Sheet) (ok : isSheet sheet ≡ true) (es : List Entry) (taken 
       both-are false b p q = absurd (true≢false (sym p))
 
   -- one best hand beats another exactly where it counts more
-  compare : (x y : ℕ) → Shown x → Shown y → beatsBy ranking52 (bestAt n x) (bestAt n y) ≡ ltb (scoreBy (n .board .cards) (partAt n y)) (scoreBy (n .board .cards) (partAt n x))
+  compare : (x y : ℕ) → Shown x → Shown y
+      → beatsBy ranking52 (bestAt sheet n x) (bestAt sheet n y) ≡ ltb (scoreBy (sheet .game) (n .board .cards) (partAt n y)) (scoreBy (sheet .game) (n .board .cards) (partAt n x))
   unfolding scoreOf handScore scoreBy
   compare x y p q =
-      sym (ap₂ (λ (a b : List ℕ). beatsBy ranking52 (bestOf ranking52 a) (bestOf ranking52 b)) (same-cards x) (same-cards y))
-      ∙ scores-compare sheet es (taken .1) x y (shown-at x ∙ p) (shown-at y ∙ q)
-      ∙ ap₂ ltb (score-at y) (score-at x)
+      sym (ap₂ (beatsBy ranking52) (same-hand x) (same-hand y)) ∙ scores-compare sheet ok es (taken .1) x y (shown-at x ∙ p) (shown-at y ∙ q) ∙ ap₂ ltb (score-at y) (score-at x)
     where
-      same-cards : (x : ℕ) → cardsOf (run sheet es) x ≡ (partAt (notebook sheet es) x .first ∷ partAt (notebook sheet es) x .second ∷ notebook sheet es .board .cards)
-      same-cards x =
-          ap₂ (λ (c : Part) (b : List ℕ). c .first ∷ c .second ∷ b) (says .chairs x .part) (cards-is (notebook sheet es) (run sheet es) says)
+      game : run sheet es .sheet .game ≡ sheet .game
+      game = ap (λ (z : Sheet). z .game) (cards-after sheet ok es (taken .1) .rules)
 
-      shown-at : (x : ℕ) → isShown (seatOf (run sheet es) x) ≡ both (partAt (notebook sheet es) x .live) (partAt (notebook sheet es) x .shown)
-      shown-at x = ap (λ (c : Part). both (c .live) (c .shown)) (says .chairs x .part)
+      best : ℕ → List ℕ → List ℕ → Hand
+      best g hole board = bestAmong ranking52 (allowed g hole board)
 
-      score-at : (x : ℕ) → scoreOf (run sheet es .board) (seatOf (run sheet es) x) ≡ scoreBy (notebook sheet es .board .cards) (partAt (notebook sheet es) x)
-      score-at x = ap₂ (λ (c : Part) (b : List ℕ). scoreBy b c) (says .chairs x .part) (cards-is (notebook sheet es) (run sheet es) says)
+      same-hand : (x : ℕ) → best (run sheet es .sheet .game) (holeOf (seatOf (run sheet es) x)) (run sheet es .board .cards) ≡ bestAt sheet (notebook sheet es) x
+      same-hand x =
+          ap (λ (g : ℕ). best g (holeOf (seatOf (run sheet es) x)) (run sheet es .board .cards)) game
+          ∙ ap₂ (λ (c : Part) (b : List ℕ). best (sheet .game) (c .hole) b) (says .chairs x .part) (cards-is (notebook sheet es) (run sheet es) says)
+
+      shown-at : (x : ℕ) → isShown (run sheet es .sheet .game) (seatOf (run sheet es) x) ≡ shownBy (sheet .game) (partAt (notebook sheet es) x)
+      shown-at x = ap (λ (g : ℕ). isShown g (seatOf (run sheet es) x)) game ∙ ap (shownBy (sheet .game)) (says .chairs x .part)
+
+      score-at : (x : ℕ) → scoreOf (run sheet es .sheet .game) (run sheet es .board) (seatOf (run sheet es) x) ≡ scoreBy (sheet .game) (notebook sheet es .board .cards) (partAt (notebook sheet es) x)
+      score-at x =
+          ap (λ (g : ℕ). scoreOf g (run sheet es .board) (seatOf (run sheet es) x)) game
+          ∙ ap₂ (λ (c : Part) (b : List ℕ). scoreBy (sheet .game) b c) (says .chairs x .part) (cards-is (notebook sheet es) (run sheet es) says)
 
   abbrev score : ℕ → ℕ
-  score i = getD (scoresBy n) i 0
+  score i = getD (scoresBy sheet n) i 0
 
   abbrev told : ℕ → ℕ
-  told i = scoreBy (n .board .cards) (partAt n (suc i))
+  told i = scoreBy (sheet .game) (n .board .cards) (partAt n (suc i))
 
   score-is : (i : ℕ) → i < 10 → score i ≡ told i
-  score-is i l = at-seat (λ x. scoreBy (n .board .cards) (partAt n x)) i l
+  score-is i l = at-seat (λ x. scoreBy (sheet .game) (n .board .cards) (partAt n x)) i l
 
   -- ---- one pot
   module _ (p : Pot) (low : p .who < 2 ^ 10) (some : 0 < ones 10 (p .who)) (few : ones 10 (p .who) ≤ liveBy n) (live : (i : ℕ) → bitAt (livesBy n) i ≡ 0 → bitAt (p .who) i ≡ 0) where
@@ -207,40 +217,40 @@ module _ (sheet : Sheet) (ok : isSheet sheet ≡ true) (es : List Entry) (taken 
     shown : 2 ≤ ones 10 (p .who) → (i : ℕ) → i < 10 → Contends p i → Shown (suc i)
     shown m i l c = seen i l (omega arith) (is-live i l c)
 
-    several : 2 ≤ ones 10 (p .who) → BestWin n p
+    several : 2 ≤ ones 10 (p .who) → BestWin sheet n p
     several m =
         record {
           wins = λ i l e.
-              let q = winners-are (scoresBy n) (p .who) i low some l .0 e in
+              let q = winners-are (scoresBy sheet n) (p .who) i low some l .0 e in
               (q .0, λ j k c. compare (suc j) (suc i) (shown m j k c) (shown m i l (q .0)) ∙ le-ltb (told i) (told j) (omega (arith, q .1 j k c, score-is i l, score-is j k)));
           unbeaten = λ i l q.
-              winners-are (scoresBy n) (p .who) i low some l .1
+              winners-are (scoresBy sheet n) (p .who) i low some l .1
               (q .0, λ j k c. omega (arith, score-is i l, score-is j k, ltb-false (told i) (told j) (sym (compare (suc j) (suc i) (shown m j k c) (shown m i l (q .0))) ∙ q .1 j k c)));
           sole = λ e. absurd (omega arith);
         }
 
-    alone : ones 10 (p .who) ≡ 1 → BestWin n p
+    alone : ones 10 (p .who) ≡ 1 → BestWin sheet n p
     alone m =
         record {
           wins = λ i l e.
-              let q = winners-are (scoresBy n) (p .who) i low some l .0 e in
-              (q .0, λ j k c. subst (λ (z : ℕ). beatsBy ranking52 (bestAt n (suc j)) (bestAt n (suc z)) ≡ false) (only-bit 10 (p .who) j i k l c (q .0) (omega arith)) (beats-irrefl ranking52 (bestAt n (suc j))));
-          unbeaten = λ i l q. ap (λ (w : ℕ). bitAt w i) (winners-sole (scoresBy n) (p .who) m) ∙ q .0;
+              let q = winners-are (scoresBy sheet n) (p .who) i low some l .0 e in
+              (q .0, λ j k c. subst (λ (z : ℕ). beatsBy ranking52 (bestAt sheet n (suc j)) (bestAt sheet n (suc z)) ≡ false) (only-bit 10 (p .who) j i k l c (q .0) (omega arith)) (beats-irrefl ranking52 (bestAt sheet n (suc j))));
+          unbeaten = λ i l q. ap (λ (w : ℕ). bitAt w i) (winners-sole (scoresBy sheet n) (p .who) m) ∙ q .0;
           sole = λ e scores len. winners-sole scores (p .who) (ap (λ (k : ℕ). ones k (p .who)) len ∙ e);
         }
 
-    one-pot : BestWin n p
+    one-pot : BestWin sheet n p
     one-pot = ⊎-elim (λ (m : 2 ≤ ones 10 (p .who)). several m) (λ (m : ones 10 (p .who) < 2). alone (omega arith)) (le-or-lt 2 (ones 10 (p .who)))
 
   -- every pot
   abbrev Fits : ℕ → Type 0
   Fits m = (m < 2 ^ 10) × ((i : ℕ) → bitAt (livesBy n) i ≡ 0 → bitAt m i ≡ 0)
 
-  each-pot : (ps : List Pot) → Manned 10 ps → All (λ (p : Pot). ones 10 (p .who) ≤ ones 10 (livesBy n)) ps → All (λ (p : Pot). Fits (p .who)) ps → All (BestWin n) ps
+  each-pot : (ps : List Pot) → Manned 10 ps → All (λ (p : Pot). ones 10 (p .who) ≤ ones 10 (livesBy n)) ps → All (λ (p : Pot). Fits (p .who)) ps → All (BestWin sheet n) ps
   each-pot [] m f a = tt
   each-pot (p ∷ ps) (manned some m) f a = (one-pot p (a .0 .0) some (omega (arith, f .0, lives-are)) (a .0 .1), each-pot ps m (f .1) (a .1))
 
-  pub better-wins : All (BestWin n) (potsBy n)
+  pub better-wins : All (BestWin sheet n) (potsBy n)
   unfolding potsBy
   better-wins =
       each-pot (potsOf (putsBy n) (livesBy n)) (pots-manned (putsBy n) (livesBy n)) (contenders-few (putsBy n) (livesBy n))

@@ -1,5 +1,7 @@
 -- Document 01, the table of entries, "Opening" and "Betting": when an entry is allowed, said as conditions and not as a code. One record for each kind.
 -- Assumes nothing.
+-- "A seat owes if it is live, has chips, hasn't acted since the last wager of this round by another, and two hands or more are live; but the only live
+-- seat with chips owes nothing once its round total equals the mark."
 use Prim.Native.Nat.{ℕ, _+_, _-_, _≤_, _<_}
 use mathlib.Core.Bool.{true, false}
 use mathlib.Core.Path.{_≡_}
@@ -16,8 +18,6 @@ use Rattle.table.specs.Opening.{nextDealtIn}
 use Rattle.table.specs.State.{seatOf}
 use Rattle.table.specs.declared.table.Table.{Table}
 
--- "A seat owes if it is live, has chips, hasn't acted since the last wager of this round by another, and two hands or more are live; but the only live
--- seat with chips owes nothing once its round total equals the mark."
 pub record Owes (t : Table) (c : Chair) : Type 0 where
   pub live : c .dealt .live ≡ true
   pub chips : 0 < c .stack
@@ -50,11 +50,11 @@ pub record MayOpen (t : Table) (s : ℕ) : Type 0 where
   pub dealt : 0 < seatOf t s .stack
   pub next : (t .play .puck ≡ 0) ⊎ (nextDealtIn t (t .play .puck) ≡ s)
 
--- hole: a hand is open; live, no cards yet; two different cards that are not in this hand
+-- hole: a hand is open; live, not all hole cards of the game yet; two different cards that are not in this hand
 pub record MayHole (t : Table) (s a b : ℕ) : Type 0 where
   pub opened : t .play .opened ≡ true
   pub live : seatOf t s .dealt .live ≡ true
-  pub bare : seatOf t s .hole .entered ≡ false
+  pub few : seatOf t s .hole .count ≡ t .sheet .game → ⊥
   pub two : a ≡ b → ⊥
   pub first : inThisHand t a ≡ false
   pub second : inThisHand t b ≡ false
@@ -98,11 +98,11 @@ pub record MayDead (t : Table) (s : ℕ) : Type 0 where
   pub two : 2 ≤ liveHands t
   pub live : seatOf t s .dealt .live ≡ true
 
--- settle: one live; or nobody owes and five board cards lie. With two live or more no live seat is without cards
+-- settle: one live; or nobody owes and five board cards lie. With two live or more no live seat is without all its cards
 pub record MaySettle (t : Table) : Type 0 where
   pub opened : t .play .opened ≡ true
   pub moment : (liveHands t ≡ 1) ⊎ ((SomeoneOwes t → ⊥) × (t .board .count ≡ 5))
-  pub cards : 2 ≤ liveHands t → countOf (wantOf Bare) (t .chairs) ≡ 0
+  pub cards : 2 ≤ liveHands t → countOf (wantOf (Bare (t .sheet .game))) (t .chairs) ≡ 0
 
 -- void: never in this edition
 abbrev pub May : Table → Entry → Type 0

@@ -72,7 +72,7 @@ pub record Demand2 (sheet : Sheet) (g : Given) : Type 0 where
   pub turn : g .shown .turn ≡ turnOf sheet (g .taken)
   pub mark : g .shown .mark ≡ notebook sheet (g .taken) .play .mark
   -- "Of two hands the better by the published order wins": at a settle, of every pot
-  pub hands : g .shown .settled ≡ true → All (BestWin (notebook sheet (g .had))) (potsBy (notebook sheet (g .had)))
+  pub hands : g .shown .settled ≡ true → All (BestWin sheet (notebook sheet (g .had))) (potsBy (notebook sheet (g .had)))
 
 -- ---- demand 3
 

@@ -1,13 +1,16 @@
 -- Document 01, "Sittings", "Opening", "Betting" and "The answer block": what a taken entry does to a table t, so that it is the table u. One record for each kind:
 -- what becomes of stacks, totals, mark, lift, turn and of who owes again, and that nothing else moves. Assumes nothing.
+-- ---- what is kept
+-- every seat but x
 use Prim.Native.Nat.{ℕ, suc, _+_, _-_, _≤_, _<_, min}
 use mathlib.Core.Bool.{Bool, true, false, not}
 use mathlib.Core.Path.{_≡_}
+use mathlib.Core.List.{[], _∷_}
 use lib.ListN.{getD, set}
 use Rattle.laws.specs.Tests.{both}
 use Rattle.paper.specs.declared.Entry.{Entry}
 use Rattle.paper.specs.declared.Entry.the-variants.{Sit, Leave, Hand, Hole, Fold, Check, Call, Wager, Board, Dead, Settle, Void}
-use Rattle.chairs.specs.Chairs.{roundOf, noDealt, noHole}
+use Rattle.chairs.specs.Chairs.{holeOf, roundOf, noDealt, noHole}
 use Rattle.chairs.specs.declared.Chair.{Chair}
 use Rattle.table.specs.Betting.{firstOwing, nobodyOwes}
 use Rattle.table.specs.Opening.{nextDealtIn}
@@ -15,9 +18,6 @@ use Rattle.table.specs.Settle.{payoutNow}
 use Rattle.table.specs.State.{seatOf, noBoard}
 use Rattle.table.specs.declared.table.Table.{Table}
 
--- ---- what is kept
-
--- every seat but x
 abbrev pub Others : Table → Table → ℕ → Type 0
 Others t u x = (y : ℕ) → (x ≡ y → ⊥) → seatOf u y ≡ seatOf t y
 
@@ -112,9 +112,9 @@ pub record DoesHand (t : Table) (p : ℕ) (u : Table) : Type 0 where
   pub board : u .board ≡ t .board
 
 pub record DoesHole (t : Table) (x a b : ℕ) (u : Table) : Type 0 where
-  pub entered : seatOf u x .hole .entered ≡ true
-  pub first : seatOf u x .hole .first ≡ a
-  pub second : seatOf u x .hole .second ≡ b
+  -- the first pair, or the second behind it
+  pub first : seatOf t x .hole .count ≡ 0 → (seatOf u x .hole .count ≡ 2) × (holeOf (seatOf u x) ≡ a ∷ b ∷ [])
+  pub second : (seatOf t x .hole .count ≡ 0 → ⊥) → (seatOf u x .hole .count ≡ 4) × (holeOf (seatOf u x) ≡ getD (seatOf t x .hole .cards) 0 0 ∷ getD (seatOf t x .hole .cards) 1 0 ∷ a ∷ b ∷ [])
   pub sitting : seatOf u x .sitting ≡ seatOf t x .sitting
   pub stack : seatOf u x .stack ≡ seatOf t x .stack
   pub dealt : seatOf u x .dealt ≡ seatOf t x .dealt

@@ -82,7 +82,7 @@ charged step =
     fees ++ less (amounts seven 7) fees
 
 abbrev sheet11 : Sheet
-sheet11 = record { seats = 3; small = 5; big = 10; rate = 50; cap = 15; step = 1 }
+sheet11 = record { seats = 3; small = 5; big = 10; rate = 50; cap = 15; step = 1; game = 2 }
 
 -- the mark, the lift, the seat's round total and stack, and the code of its wager to a
 abbrev wagers : List Entry → ℕ → ℕ → List ℕ
@@ -102,7 +102,7 @@ opening k = Hand 1 ∷ Sit 3 k ∷ Sit 2 500 ∷ Sit 1 500 ∷ []
 abbrev shortLift : List Entry
 shortLift = Wager 1 17 ∷ Call 3 ∷ Hand 1 ∷ Sit 3 500 ∷ Sit 2 500 ∷ Sit 1 17 ∷ []
 
--- P12, with request No. 3's line `step=1` in its sheet: the log and the whole output, byte for byte
+-- P12, with the lines of requests No. 3 and No. 5, `step=1` and `game=2`, in its sheet: the log and the whole output, byte for byte
 abbrev log12 : List ℕ
 log12 =
     115 ∷ 101 ∷ 97 ∷ 116 ∷ 115 ∷ 61 ∷ 51 ∷ 10  -- seats=3
@@ -111,6 +111,7 @@ log12 =
     ∷ 114 ∷ 97 ∷ 116 ∷ 101 ∷ 61 ∷ 53 ∷ 48 ∷ 10  -- rate=50
     ∷ 99 ∷ 97 ∷ 112 ∷ 61 ∷ 49 ∷ 53 ∷ 10  -- cap=15
     ∷ 115 ∷ 116 ∷ 101 ∷ 112 ∷ 61 ∷ 49 ∷ 10  -- step=1
+    ∷ 103 ∷ 97 ∷ 109 ∷ 101 ∷ 61 ∷ 50 ∷ 10  -- game=2
     ∷ 110 ∷ 61 ∷ 49 ∷ 10  -- n=1
     ∷ 100 ∷ 111 ∷ 61 ∷ 115 ∷ 105 ∷ 116 ∷ 10  -- do=sit
     ∷ 115 ∷ 101 ∷ 97 ∷ 116 ∷ 61 ∷ 49 ∷ 10  -- seat=1

@@ -3,15 +3,17 @@
 use Prim.Native.Nat.{ℕ, zero, suc, _≤_, _<_, _^_}
 use mathlib.Core.Bool.{Bool, true}
 use mathlib.Core.List.{List, [], _∷_}
-use mathlib.Core.Path.{_≡_, refl}
+use mathlib.Core.Path.{_≡_, refl, sym, ap, _∙_}
+use mathlib.Core.Logic.{_⊎_, inl, inr, ⊎-elim}
 use native.Mathlib.Omega.{arith}
 use lib.ListN.{getD}
-use lib.Dec.{leb}
-use borrow.Author.Tests.{leb-true}
+use lib.Dec.{leb, eqb}
+use borrow.Author.Tests.{leb-true, eqb-true}
 use Rattle.laws.specs.Lists.{sumOf}
-use Rattle.laws.proofs.Tests.{both-true}
+use Rattle.laws.specs.Tests.{either}
+use Rattle.laws.proofs.Tests.{both-true, test}
 use Rattle.laws.proofs.Sums.{at-most-sum}
-use Rattle.paper.specs.SheetAndEntries.{between, allOf, sheetValues, sheetBy, isSheet, standIn}
+use Rattle.paper.specs.SheetAndEntries.{between, allOf, sheetValues, sheetBy, isGame, isSheet, standIn}
 use Rattle.paper.specs.declared.Sheet.{Sheet}
 use Rattle.paper.proofs.Codes.{between-in}
 
@@ -22,6 +24,10 @@ each-holds (t ∷ []) h (suc k) = refl
 each-holds (t ∷ u ∷ ts) h zero = both-true t (allOf (u ∷ ts)) h .0
 each-holds (t ∷ u ∷ ts) h (suc k) = each-holds (u ∷ ts) (both-true t (allOf (u ∷ ts)) h .1) k
 
+-- the two games
+pub game-is : (x : ℕ) → isGame x ≡ true → (x ≡ 2) ⊎ (x ≡ 4)
+game-is x h = ⊎-elim (λ e. inl (eqb-true x 2 e)) (λ e. inr (eqb-true x 4 (sym (ap (λ (b : Bool). either b (eqb x 4)) e) ∙ h))) (test (eqb x 2))
+
 -- the ranges of a good sheet
 pub record InRange (s : Sheet) : Type 0 where
   pub seats : (2 ≤ s .seats) × (s .seats ≤ 10)
@@ -30,12 +36,13 @@ pub record InRange (s : Sheet) : Type 0 where
   pub rate : s .rate ≤ 100
   pub cap : s .cap ≤ 1000000
   pub step : (1 ≤ s .step) × (s .step ≤ 1000)
+  pub game : (s .game ≡ 2) ⊎ (s .game ≡ 4)
 
 pub good-ranged : (s : Sheet) → isSheet s ≡ true → InRange s
 unfolding isSheet
 good-ranged s h =
     let tests : List Bool =
-    between 2 10 (s .seats) ∷ leb 1 (s .small) ∷ leb (s .small) (s .big) ∷ leb (s .big) 10000 ∷ leb (s .rate) 100 ∷ leb (s .cap) 1000000 ∷ between 1 1000 (s .step) ∷ [] in
+    between 2 10 (s .seats) ∷ leb 1 (s .small) ∷ leb (s .small) (s .big) ∷ leb (s .big) 10000 ∷ leb (s .rate) 100 ∷ leb (s .cap) 1000000 ∷ between 1 1000 (s .step) ∷ isGame (s .game) ∷ [] in
     let each = each-holds tests h in
     record {
       seats = between-in 2 10 (s .seats) (each 0);
@@ -44,14 +51,18 @@ good-ranged s h =
       rate = leb-true (s .rate) 100 (each 4);
       cap = leb-true (s .cap) 1000000 (each 5);
       step = between-in 1 1000 (s .step) (each 6);
+      game = game-is (s .game) (each 7);
     }
+
+game-small : (x : ℕ) → (x ≡ 2) ⊎ (x ≡ 4) → x ≤ 4
+game-small x h = ⊎-elim (λ e. omega arith) (λ e. omega arith) h
 
 -- so each number has at most nine digits
 pub good-small : (s : Sheet) → isSheet s ≡ true → (k : ℕ) → getD (sheetValues s) k 0 < 10 ^ 9
 unfolding sumOf
 good-small s h k =
     let r = good-ranged s h in
-    omega (arith, r .seats, r .small, r .big, r .rate, r .cap, r .step, at-most-sum (sheetValues s) k)
+    omega (arith, r .seats, r .small, r .big, r .rate, r .cap, r .step, game-small (s .game) (r .game), at-most-sum (sheetValues s) k)
 
 -- the numbers of a sheet make it
 pub sheet-made : (s : Sheet) → sheetBy (sheetValues s) ≡ s

@@ -26,10 +26,14 @@ allOf (t ∷ u ∷ ts) = both t (allOf (u ∷ ts))
 
 -- its numbers in the order of its lines, and the sheet of such numbers
 abbrev pub sheetValues : Sheet → List ℕ
-sheetValues s = s .seats ∷ s .small ∷ s .big ∷ s .rate ∷ s .cap ∷ s .step ∷ []
+sheetValues s = s .seats ∷ s .small ∷ s .big ∷ s .rate ∷ s .cap ∷ s .step ∷ s .game ∷ []
 
 abbrev pub sheetBy : List ℕ → Sheet
-sheetBy vs = record { seats = getD vs 0 0; small = getD vs 1 0; big = getD vs 2 0; rate = getD vs 3 0; cap = getD vs 4 0; step = getD vs 5 0 }
+sheetBy vs = record { seats = getD vs 0 0; small = getD vs 1 0; big = getD vs 2 0; rate = getD vs 3 0; cap = getD vs 4 0; step = getD vs 5 0; game = getD vs 6 0 }
+
+-- request No. 5: "A seventh sheet line `game` is 2 or 4", the number of hole cards
+abbrev pub isGame : ℕ → Bool
+isGame x = either (eqb x 2) (eqb x 4)
 
 -- seats (2 to 10), small, big (1 ≤ small ≤ big ≤ 10,000), rate (0 to 100, thousandths), cap (0 to 1,000,000); request No. 3: "a sixth sheet line `step` (1 to 1,000)".
 -- All that is asked of a sheet's numbers, one by one and of some together, stands here
@@ -43,11 +47,12 @@ isSheet s =
     ∷ leb (s .rate) 100
     ∷ leb (s .cap) 1000000
     ∷ between 1 1000 (s .step)
+    ∷ isGame (s .game)
     ∷ [])
 
 -- a sheet that stands in where none is read yet
 abbrev pub standIn : Sheet
-standIn = sheetBy (2 ∷ 1 ∷ 1 ∷ 0 ∷ 0 ∷ 1 ∷ [])
+standIn = sheetBy (2 ∷ 1 ∷ 1 ∷ 0 ∷ 0 ∷ 1 ∷ 2 ∷ [])
 
 -- ---- the numbers of an entry
 

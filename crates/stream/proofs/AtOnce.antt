@@ -4,7 +4,7 @@ use mathlib.Core.Path.{_≡_, refl, sym, ap, subst, _∙_}
 use mathlib.Core.List.{List, [], _∷_, _++_}
 use mathlib.Core.Bool.{Bool, true, false}
 use mathlib.Core.Logic.{⊎-elim}
-use Prim.Native.Nat.{ℕ, zero, suc, _+_, _≤_, _<_}
+use Prim.Native.Nat.{ℕ, zero, suc, _+_, _-_, _≤_, _<_}
 use native.Mathlib.Omega.{arith}
 use lib.ListN.{length, getD, take, drop, length-take, take-append-drop, drop-of-length-le}
 use lib.Seq.{take-all}
@@ -122,7 +122,7 @@ unfolding atOnce sheetEnd
 sheet-whole room log h =
     let g : Gathered = gatherOf sheetLines nothing log in
     let front : List ℕ = take (g .used) log in
-    let all : sheetLines ≤ lfs front = omega (arith, gather-lines sheetLines log, whole-kept 5 log h .0) in
+    let all : sheetLines ≤ lfs front = omega (arith, gather-lines sheetLines log, whole-kept (sheetLines - 1) log h .0) in
     let reads : sheetOf (g .kept .bytes) ≡ sheetOf log =
     ap (λ (k : Kept). sheetOf (k .bytes)) (gather-keeps sheetLines nothing log)
     ∙ ap sheetOf (kept-is front)
@@ -130,12 +130,12 @@ sheet-whole room log h =
     ∙ sym (front-sheet front (drop (g .used) log) all)
     ∙ ap sheetOf (take-append-drop (g .used) log) in
     let one : onward room Unread nothing front ≡ openOf room (sheetOf log) =
-    ends-onward room Unread refl nothing log (omega arith) (omega (arith, whole-kept 5 log h .0)) ∙ ap (openOf room) reads in
+    ends-onward room Unread refl nothing log (omega arith) (omega (arith, whole-kept (sheetLines - 1) log h .0)) ∙ ap (openOf room) reads in
     ap (closed room)
     (ap (onward room Unread nothing) (sym (take-append-drop (g .used) log))
     ∙ onward-append room Unread nothing front (drop (g .used) log)
     ∙ ap (λ (x : Given). andThen x (onward room (x .state) (x .kept) (drop (g .used) log))) one
-    ∙ ap (λ (l : List ℕ). andThen (openOf room (sheetOf log)) (onward room (openOf room (sheetOf log) .state) (openOf room (sheetOf log) .kept) l)) (whole-kept 5 log h .1))
+    ∙ ap (λ (l : List ℕ). andThen (openOf room (sheetOf log)) (onward room (openOf room (sheetOf log) .state) (openOf room (sheetOf log) .kept) l)) (whole-kept (sheetLines - 1) log h .1))
     ∙ opened-onward room (sheetOf log) log
 
 pub heard-at-once : (room : ℕ) (log : List ℕ) → closed room (onward room Unread nothing log) ≡ atOnce room log

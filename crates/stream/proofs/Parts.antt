@@ -14,6 +14,7 @@ use Rattle.laws.proofs.Tests.{test, both-true}
 use Rattle.laws.proofs.Sums.{le-or-lt}
 use Rattle.writing.specs.Sheet.{over}
 use Rattle.lines.specs.declared.Mark.{Mark}
+use Rattle.text.specs.TableSheet.{sheetLines}
 use Rattle.lines.specs.Kept.{Kept, nothing, keepOf, Gathered, gatherOf, keptIn, markOf, gotOf, Room, keptMost}
 use Rattle.lines.proofs.Keeps.{mark-back, empty-room}
 use Rattle.lines.proofs.Gathers.{gather-some, keep-room, gather-room}
@@ -43,7 +44,7 @@ record Fine (s : State) (k : Kept) : Type 0 where
   room : Room (markOf k)
   lines : k .lines < wanted s
 
-want-few : (s : State) → (0 < wanted s) × (wanted s ≤ 6)
+want-few : (s : State) → (0 < wanted s) × (wanted s ≤ sheetLines)
 want-few Unread = (omega arith, omega arith)
 want-few (Open t) = (omega arith, omega arith)
 want-few Shut = (omega arith, omega arith)
@@ -196,7 +197,7 @@ record Called (c : Clerk) (buf : List ℕ) (x : Served) : Type 0 where
   state : stateOf (x .clerk) ≡ x .given .state
   kept : keptBy (x .clerk) (x .buf) ≡ x .given .kept
 
-few-lines : (o : Bool) → linesOf o ≤ 6
+few-lines : (o : Bool) → linesOf o ≤ sheetLines
 few-lines true = omega arith
 few-lines false = omega arith
 
@@ -331,7 +332,7 @@ start-state = refl
 
 start-held : Held startOf
 unfolding isSheet
-start-held = record { sound = sound-fresh (record { seats = 2; small = 1; big = 1; rate = 0; cap = 0; step = 1 }) refl; room = empty-room; lines = omega arith; shut = λ q. absurd (true≢false (sym q)) }
+start-held = record { sound = sound-fresh (record { seats = 2; small = 1; big = 1; rate = 0; cap = 0; step = 1; game = 2 }) refl; room = empty-room; lines = omega arith; shut = λ q. absurd (true≢false (sym q)) }
 
 pub parts-whole : (room : ℕ) (buf : List ℕ) (parts : List (List ℕ)) → keptMost ≤ length buf → servedOf room buf parts ≡ atOnce room (whole parts)
 unfolding servedOf

@@ -1,6 +1,6 @@
 -- What a code of 0 says of the seat and of the moment, kind by kind. Assumes nothing.
 use Prim.Native.Nat.{ℕ, _+_, _-_, _≤_}
-use mathlib.Core.Bool.{Bool, true, false, not}
+use mathlib.Core.Bool.{true, false, not}
 use mathlib.Core.Path.{_≡_}
 use lib.Dec.{eqb, ltb, leb}
 use native.Mathlib.Omega.{arith}
@@ -9,9 +9,8 @@ use Rattle.paper.specs.Paper.{when, orElse}
 use Rattle.laws.specs.Tests.{both, either}
 use Rattle.paper.proofs.Codes.{or-zero, when-zero}
 use Rattle.laws.proofs.Tests.{either-false, both-true}
-use Rattle.chairs.specs.Chairs.{roundOf, chipsOf, countOf, wantOf}
+use Rattle.chairs.specs.Chairs.{roundOf, isFull, chipsOf, countOf, wantOf}
 use Rattle.chairs.specs.declared.Who.the-variants.{Chips}
-use Rattle.chairs.specs.declared.Chair.{Chair}
 use Rattle.table.specs.State.{seatOf}
 use Rattle.table.specs.Betting.{liveHands, nobodyOwes, turnCode, checkCode, callCode, wagerCode, deadCode, mayRaise, isWager}
 use Rattle.table.specs.Sittings.{sitCode, leaveCode}
@@ -71,7 +70,7 @@ pub hole-open : (t : Table) (x a b : ℕ) → holeCode t x a b ≡ 0 → t .play
 unfolding holeCode
 hole-open t x a b h =
     let o = t .play .opened in
-    not-false o (when-zero (not o) 3 (or-zero (when (not o) 4) (orElse (when (either (not (seatOf t x .dealt .live)) (seatOf t x .hole .entered)) 5) (when (either (eqb a b) (either (inThisHand t a) (inThisHand t b))) 8)) h .0))
+    not-false o (when-zero (not o) 3 (or-zero (when (not o) 4) (orElse (when (either (not (seatOf t x .dealt .live)) (isFull (t .sheet .game) (seatOf t x))) 5) (when (either (eqb a b) (either (inThisHand t a) (inThisHand t b))) 8)) h .0))
 
 pub board-open : (t : Table) (k : ℕ) → boardCode t k ≡ 0 → t .play .opened ≡ true
 unfolding boardCode

@@ -1,16 +1,15 @@
 -- Laws of owing seats, of cards that are out and of what a code of 0 says, over tables. Assumes nothing.
 use Prim.Native.Nat.{ℕ, zero, suc, _+_, _<_, _≤_}
 use mathlib.Core.Bool.{Bool, true, false, not}
-use mathlib.Core.Path.{_≡_, refl, sym, _∙_}
-use mathlib.Core.List.{List, [], _∷_, map}
-use native.Mathlib.Numerals.{add-one}
+use mathlib.Core.Path.{_≡_, refl, sym, ap, _∙_}
+use mathlib.Core.List.{List, [], _∷_, _++_, map}
 use native.Mathlib.Omega.{arith}
-use lib.ListN.{length, getD, drop}
-use lib.Seq.{drop-cons}
-use lib.Dec.{eqb, leb, ltb}
+use lib.ListN.{length, getD, take}
+use lib.Seq.{take-all}
+use lib.Dec.{leb, ltb}
 use borrow.Author.Tests.{le-leb, lt-leb, leb-false}
 use Rattle.paper.proofs.Sheets.{good-ranged}
-use Rattle.paper.specs.Paper.{when, isSheet}
+use Rattle.paper.specs.Paper.{when, isGame, isSheet}
 use Rattle.laws.specs.Tests.{either, pick}
 use Rattle.paper.proofs.Codes.{or-zero, when-zero}
 use Rattle.laws.proofs.Tests.{either-false}
@@ -19,19 +18,22 @@ use Rattle.laws.specs.Lists.{sumOf}
 use Rattle.pots.specs.declared.Commission.{Commission}
 use Rattle.pots.specs.Hand.{feeOfHand, dueOf, paidOf, unclaimedOf}
 use Rattle.pots.proofs.Hands.{none-lost, map-length, paid-and-unclaimed, at-most-sum}
-use Rattle.cards.specs.Order.{ranking52, bestOf, strengthBy}
+use Rattle.cards.specs.Order.{ranking52, bestAmong, bestOf, strengthBy}
+use Rattle.cards.specs.Omaha.{fromBoth, allowed}
+use Rattle.cards.specs.declared.Hand.{Hand}
+use Rattle.laws.proofs.Five.{five-list}
 use Rattle.cards.proofs.Spelled.{strength-small}
 use Rattle.table.specs.Settle.{Payable, totalsOf, livesOf, hereOf, isShown, handScore, scoreOf, scoresOf, dueNow, commissionOf, payoutNow}
 use Rattle.table.specs.declared.table.Board.{Board}
 use Rattle.table.specs.declared.table.Payout.{Payout}
-use Rattle.chairs.specs.Chairs.{firstOf, chipsOf, wantOf, clockwise, columnOf, noChair, paidOf as paysOf}
+use Rattle.chairs.specs.Chairs.{holeOf, firstOf, chipsOf, wantOf, clockwise, columnOf, noChair, paidOf as paysOf}
 use Rattle.chairs.proofs.Laws.{first-cong, chips-put, chips-paid}
 use Rattle.chairs.specs.declared.Chair.{Chair}
 use Rattle.chairs.specs.declared.Who.the-variants.{Owing}
 use Rattle.table.specs.State.{seatOf}
 use Rattle.table.specs.Betting.{liveHands, onlyWithChips, owes, firstOwing, nobodyOwes}
 use Rattle.table.specs.Opening.{postedTo}
-use Rattle.table.specs.Dealing.{hasCard, inThisHand, boardCode}
+use Rattle.table.specs.Dealing.{inThisHand, boardCode}
 use Rattle.table.specs.declared.table.Table.{Table}
 use Rattle.chairs.specs.declared.What.the-variants as what
 
@@ -54,10 +56,6 @@ owing-many t s h = first-cong (owes t) (wantOf (Owing (t .play .mark) (onlyWithC
   where
     same : (c : Chair) → owes t c ≡ wantOf (Owing (t .play .mark) (onlyWithChips t)) c
     same c = rw (le-leb 2 (liveHands t) h)
-
-pub has-step : (k : ℕ) (xs : List ℕ) (i : ℕ) → i < length xs
-    → hasCard k (drop i xs) ≡ either (eqb (getD xs i 0) k) (hasCard k (drop (i + 1) xs))
-has-step k xs i h = rw (add-one, drop-cons xs i 0)
 
 -- a blind makes no chips
 pub chips-posted : (t : Table) (s a : ℕ) → chipsOf (postedTo t s a .chairs) ≤ chipsOf (t .chairs)
@@ -82,7 +80,7 @@ unfolding sumOf
 totals-within [] = omega arith
 totals-within (c ∷ cs) = omega (arith, totals-within cs)
 
--- what is used of a good sheet: the bounds of its seats, big, rate and step
+-- what is used of a good sheet: the bounds of its seats, big, rate and step, and its game
 pub sheet-seats : (s : Sheet) → isSheet s ≡ true → s .seats ≤ 10
 sheet-seats s h = good-ranged s h .seats .1
 
@@ -95,22 +93,44 @@ sheet-rate s h = good-ranged s h .rate
 pub sheet-step : (s : Sheet) → isSheet s ≡ true → 1 ≤ s .step
 sheet-step s h = good-ranged s h .step .0
 
+pub sheet-game : (s : Sheet) → isSheet s ≡ true → isGame (s .game) ≡ true
+sheet-game s h = good-ranged s h .game
+
 -- ---- what a settle pays
-score-small : (b : Board) (c : Chair) → scoreOf b c ≤ 100000000
+score-small : (game : ℕ) (b : Board) (c : Chair) → scoreOf game b c ≤ 100000000
 unfolding scoreOf handScore
-score-small b c = go (isShown c)
+score-small game b c = go (isShown game c)
   where
-    go : (s : Bool) → pick s (strengthBy ranking52 (bestOf ranking52 (c .hole .first ∷ c .hole .second ∷ b .cards))) 0 ≤ 100000000
-    go true = omega (arith, strength-small ranking52 (bestOf ranking52 (c .hole .first ∷ c .hole .second ∷ b .cards)))
+    go : (s : Bool) → pick s (handScore game (holeOf c) (b .cards)) 0 ≤ 100000000
+    go true = omega (arith, strength-small ranking52 (bestAmong ranking52 (allowed game (holeOf c) (b .cards))))
     go false = omega arith
 
-score-at : (b : Board) (cs : List Chair) (i : ℕ) → getD (map (scoreOf b) cs) i 0 ≤ 100000000
-score-at b [] i = omega arith
-score-at b (c ∷ cs) zero = score-small b c
-score-at b (c ∷ cs) (suc i) = score-at b cs i
+score-at : (game : ℕ) (b : Board) (cs : List Chair) (i : ℕ) → getD (map (scoreOf game b) cs) i 0 ≤ 100000000
+score-at game b [] i = omega arith
+score-at game b (c ∷ cs) zero = score-small game b c
+score-at game b (c ∷ cs) (suc i) = score-at game b cs i
 
-pub scores-within : (b : Board) (cs : List Chair) (xs : List ℕ) → xs ≡ map (scoreOf b) cs → (i : ℕ) → getD xs i 0 ≤ 100000000
-scores-within b cs xs e i = rw e (score-at b cs i)
+pub scores-within : (game : ℕ) (b : Board) (cs : List Chair) (xs : List ℕ) → xs ≡ map (scoreOf game b) cs → (i : ℕ) → getD xs i 0 ≤ 100000000
+scores-within game b cs xs e i = rw e (score-at game b cs i)
+
+-- the best of the seven cards, for two hole cards
+pub seven-score : (n : ℕ) (d k : List ℕ) {h : Hand} → n ≡ 2 → length d ≡ 4 → length k ≡ 5
+    → h ≡ bestOf ranking52 (getD d 0 0 ∷ getD d 1 0 ∷ getD k 0 0 ∷ getD k 1 0 ∷ getD k 2 0 ∷ getD k 3 0 ∷ getD k 4 0 ∷ []) → strengthBy ranking52 h ≡ handScore 2 (take n d) k
+unfolding handScore allowed bestOf
+seven-score n d k e ld lk q =
+    let l : _≡_ {A = List ℕ} (getD d 0 0 ∷ getD d 1 0 ∷ getD k 0 0 ∷ getD k 1 0 ∷ getD k 2 0 ∷ getD k 3 0 ∷ getD k 4 0 ∷ []) (take n d ++ k) =
+    ap (λ (m : List ℕ). getD d 0 0 ∷ getD d 1 0 ∷ m) (sym (five-list 0 k lk)) ∙ ap (λ (m : List ℕ). m ++ k) (two d ld) ∙ ap (λ (i : ℕ). take i d ++ k) (sym e) in
+    ap (strengthBy ranking52) (q ∙ ap (bestOf ranking52) l)
+  where
+    two : (d : List ℕ) → length d ≡ 4 → getD d 0 0 ∷ getD d 1 0 ∷ [] ≡ take 2 d
+    two [] e = absurd (omega arith)
+    two (a ∷ []) e = absurd (omega arith)
+    two (a ∷ b ∷ d) e = refl
+
+-- the best of two and three, for four hole cards
+pub both-score : (n : ℕ) (d k : List ℕ) {h : Hand} → n ≡ 4 → length d ≡ 4 → h ≡ bestAmong ranking52 (fromBoth 2 3 d k) → strengthBy ranking52 h ≡ handScore 4 (take n d) k
+unfolding handScore allowed
+both-score n d k e ld q = ap (strengthBy ranking52) (q ∙ ap (λ (l : List ℕ). bestAmong ranking52 (fromBoth 2 3 l k)) (sym (take-all n d (omega arith))))
 
 due-within : (ts : List ℕ) (live : ℕ) (scores : List ℕ) (rule : Commission) (puck : ℕ) → length scores ≡ length ts → rule .rate ≤ 1000 → sumOf (dueOf ts live scores rule puck) ≤ sumOf ts
 due-within ts live scores rule puck l r = omega (arith, none-lost ts live scores rule puck l r)
@@ -119,7 +139,7 @@ due-within ts live scores rule puck l r = omega (arith, none-lost ts live scores
 pub due-totals : (t : Table) → Payable t → sumOf (dueNow t) ≤ sumOf (totalsOf t)
 due-totals t h =
     due-within (totalsOf t) (livesOf t) (scoresOf t) (commissionOf t) (t .play .puck)
-    (map-length (scoreOf (t .board)) (t .chairs) ∙ sym (map-length (columnOf what.Total) (t .chairs)))
+    (map-length (scoreOf (t .sheet .game) (t .board)) (t .chairs) ∙ sym (map-length (columnOf what.Total) (t .chairs)))
     (omega (arith, sheet-rate (t .sheet) (h .sheet)))
 
 pub due-small : (t : Table) → Payable t → sumOf (dueNow t) ≤ 100000000

@@ -1,5 +1,6 @@
 -- Document 01, "Refusal numbers", at the table: codes are 0 and 2 to 10 only; a taken entry moves the count of taken entries by exactly one; after any
 -- other code the table is the one before, and nothing is paid. Assumes nothing.
+-- a code that the table gives
 use Prim.Native.Nat.{ℕ, zero, suc, _+_, _≤_}
 use mathlib.Core.Bool.{Bool, true, false, not}
 use mathlib.Core.Path.{_≡_, refl, sym}
@@ -8,7 +9,7 @@ use native.Mathlib.Omega.{arith}
 use borrow.Author.Tests.{eq-eqb, ne-eqb}
 use lib.Dec.{eqb, ltb, leb}
 use Rattle.laws.specs.Tests.{both, either}
-use Rattle.chairs.specs.Chairs.{chipsOf, countOf, wantOf, roundOf}
+use Rattle.chairs.specs.Chairs.{isFull, chipsOf, countOf, wantOf, roundOf}
 use Rattle.chairs.specs.declared.Who.the-variants.{Chips, Bare}
 use Rattle.table.specs.State.{seatOf}
 use Rattle.paper.specs.Paper.{when, orElse, inRange}
@@ -23,7 +24,6 @@ use Rattle.table.specs.Take.{kindCode, codeOf, nextOf, payoutOf}
 use Rattle.table.specs.declared.table.Table.{Table}
 use Rattle.table.proofs.Sounds.{passed}
 
--- a code that the table gives
 unfoldable Code : ℕ → Type 0
 Code k = (k ≡ 0) ⊎ ((2 ≤ k) × (k ≤ 10))
 
@@ -54,7 +54,7 @@ hole-code : (t : Table) (s a b : ℕ) → Code (holeCode t s a b)
 unfolding holeCode
 hole-code t s a b =
     let off = not (t .play .opened) in
-    let out = either (not (seatOf t s .dealt .live)) (seatOf t s .hole .entered) in
+    let out = either (not (seatOf t s .dealt .live)) (isFull (t .sheet .game) (seatOf t s)) in
     let old = either (eqb a b) (either (inThisHand t a) (inThisHand t b)) in
     two off 4 (orElse (when out 5) (when old 8)) (omega arith) (omega arith) (two out 5 (when old 8) (omega arith) (omega arith) (when-code old 8 (omega arith) (omega arith)))
 
@@ -74,8 +74,17 @@ kind-code t (Board k) =
 kind-code t (Dead s) = two (either (not (t .play .opened)) (ltb (liveHands t) 2)) 4 _ (omega arith) (omega arith) (when-code (not (seatOf t s .dealt .live)) 5 (omega arith) (omega arith))
 kind-code t Settle =
     two (not (both (t .play .opened) (either (eqb (liveHands t) 1) (both (nobodyOwes t) (eqb (t .board .count) 5))))) 4 _ (omega arith) (omega arith)
-    (when-code (both (leb 2 (liveHands t)) (not (eqb (countOf (wantOf Bare) (t .chairs)) 0))) 10 (omega arith) (omega arith))
+    (when-code (both (leb 2 (liveHands t)) (not (eqb (countOf (wantOf (Bare (t .sheet .game))) (t .chairs)) 0))) 10 (omega arith) (omega arith))
 kind-code t Void = when-code true 4 (omega arith) (omega arith)
+
+-- No. 5: "a third with 5": once all hole cards of the game were entered, a further `hole` in the open hand gets 5, whatever its cards
+pub hole-full : (t : Table) (s a b : ℕ) → t .play .opened ≡ true → seatOf t s .hole .count ≡ t .sheet .game → holeCode t s a b ≡ 5
+unfolding holeCode
+hole-full t s a b o e = rw (o, eq-eqb (seatOf t s .hole .count) (t .sheet .game) e) (go (seatOf t s .dealt .live) _)
+  where
+    go : (live : Bool) (k : ℕ) → orElse (when (either (not live) true) 5) k ≡ 5
+    go true k = refl
+    go false k = refl
 
 -- codes are 0 and 2 to 10 only
 pub codes : (t : Table) (n : ℕ) (e : Entry) → (codeOf t n e ≡ 0) ⊎ ((2 ≤ codeOf t n e) × (codeOf t n e ≤ 10))

@@ -8,13 +8,14 @@ use lib.Dec.{ltb, leb, eqb}
 use lib.ListN.{replicate}
 use Rattle.paper.specs.Paper.{wrongMoment, cardsMissing, when, orElse, isSheet}
 use Rattle.laws.specs.Tests.{both, either, pick}
-use Rattle.cards.specs.Order.{ranking52, bestOf, strengthBy}
+use Rattle.cards.specs.Order.{ranking52, bestAmong, strengthBy}
+use Rattle.cards.specs.Omaha.{allowed}
 use Rattle.pots.specs.Heights.{maskAt, backOf}
 use Rattle.pots.specs.Runs.{potsOf}
 use Rattle.pots.specs.Hand.{feeOfHand, dueOf, paidOf, unclaimedOf}
 use Rattle.pots.specs.declared.Pot.{Pot}
 use Rattle.pots.specs.declared.Commission.{Commission}
-use Rattle.chairs.specs.Chairs.{countOf, wantOf, columnOf, chipsOf, closeAll}
+use Rattle.chairs.specs.Chairs.{countOf, wantOf, holeOf, isFull, columnOf, chipsOf, closeAll}
 use Rattle.chairs.specs.declared.Chair.{Chair}
 use Rattle.chairs.specs.declared.Who.the-variants.{Bare}
 use Rattle.chairs.specs.declared.What.the-variants as what
@@ -25,11 +26,11 @@ use Rattle.table.specs.declared.table.Play.{Play}
 use Rattle.table.specs.declared.table.Board.{Board}
 use Rattle.table.specs.declared.table.Payout.{Payout}
 
--- settle: one live; or nobody owes and five board cards lie. With two live or more, each live seat has its cards entered
+-- settle: one live; or nobody owes and five board cards lie. With two live or more, each live seat has its cards entered; No. 5: "`settle` asks for all four"
 unfoldable pub settleCode : Table → ℕ
 settleCode t =
     orElse (when (not (both (t .play .opened) (either (eqb (liveHands t) 1) (both (nobodyOwes t) (eqb (t .board .count) 5))))) wrongMoment)
-    (when (both (leb 2 (liveHands t)) (not (eqb (countOf (wantOf Bare) (t .chairs)) 0))) cardsMissing)
+    (when (both (leb 2 (liveHands t)) (not (eqb (countOf (wantOf (Bare (t .sheet .game))) (t .chairs)) 0))) cardsMissing)
 
 -- what each sitting dealt in has put in, and the live ones as a mask of dealt-in seats
 abbrev pub totalsOf : Table → List ℕ
@@ -49,20 +50,20 @@ potsNow t = potsOf (totalsOf t) (livesOf t)
 unfoldable pub backNow : Table → ℕ
 backNow t = backOf (totalsOf t) (livesOf t)
 
--- a live hand whose cards were entered: one that can be compared
-abbrev pub isShown : Chair → Bool
-isShown c = both (c .dealt .live) (c .hole .entered)
+-- a live hand whose cards were all entered: one that can be compared
+abbrev pub isShown : ℕ → Chair → Bool
+isShown game c = both (c .dealt .live) (isFull game c)
 
--- the number of the best hand of five among a seat's two hole and the five board cards
-unfoldable pub handScore : Board → Chair → ℕ
-handScore b c = strengthBy ranking52 (bestOf ranking52 (c .hole .first ∷ c .hole .second ∷ b .cards))
+-- the number of the best of the choices of five that the game allows of hole and board cards
+unfoldable pub handScore : ℕ → List ℕ → List ℕ → ℕ
+handScore game hole board = strengthBy ranking52 (bestAmong ranking52 (allowed game hole board))
 
 -- what a seat's hand counts in a contest; 0 where there is none to compare ("A sole contender needs no cards")
-unfoldable pub scoreOf : Board → Chair → ℕ
-scoreOf b c = pick (isShown c) (handScore b c) 0
+unfoldable pub scoreOf : ℕ → Board → Chair → ℕ
+scoreOf game b c = pick (isShown game c) (handScore game (holeOf c) (b .cards)) 0
 
 abbrev pub scoresOf : Table → List ℕ
-scoresOf t = map (scoreOf (t .board)) (t .chairs)
+scoresOf t = map (scoreOf (t .sheet .game) (t .board)) (t .chairs)
 
 -- what the commission of the open hand goes by: the sheet's lines, and "the count of board cards"
 abbrev pub commissionOf : Table → Commission

@@ -11,11 +11,10 @@ use paper::or_else;
 use paper::when;
 ghost use mathlib.Core.Path.{_≡_};
 ghost use Prim.Native.Nat.{_≤_, _<_};
-ghost use lib.ListN.{take};
-ghost use Rattle.table.specs.Dealing.{hasCard, inThisHand, holeCode, heldTo, boardCode, boardedTo};
+ghost use Rattle.table.specs.Dealing.{inThisHand, holeCode, heldTo, boardCode, boardedTo};
 ghost use Rattle.table.specs.Standing.{Standing, Seated};
 
-// The seat is live and has no cards yet, and the cards are two new ones.
+// The seat is live and has not all its cards yet, and the cards are two new ones.
 pub(crate) fn hole_code(t: Table, s: u32, a: u32, b: u32) -> u8
     requires { ⌜ Standing t ⌝ }
     ensures { λ r. ⌜ r ≡ holeCode t s a b ⌝ }
@@ -23,7 +22,7 @@ pub(crate) fn hole_code(t: Table, s: u32, a: u32, b: u32) -> u8
     let c = table::seat_of(t, s);
     let off = !t.play.opened;
     let out = !c.dealt.live;
-    let full = c.hole.entered;
+    let full = c.hole.count as u32 == t.sheet.game;
     let same = a == b;
     let old = either(used(t, a), used(t, b));
     or_else(
@@ -68,24 +67,6 @@ pub(crate) fn boarded(t: Table, k: u32) -> Table
     if 3 <= n { betting::new_round(u) } else { u }
 }
 
-// Whether one of the first n cards is the card.
-fn on_board(board: [u8; 5], n: u8, card: u32) -> bool
-    ensures { λ r. ⌜ r ≡ hasCard card (take n board) ⌝ }
-{
-    let mut i: usize = 0;
-    while i < 5 {
-        if n as usize <= i {
-            return false;
-        }
-        let x = board[i];
-        if x as u32 == card {
-            return true;
-        }
-        i += 1;
-    }
-    false
-}
-
 // Whether a card lies on the board or was entered for a hand.
 fn used(t: Table, card: u32) -> bool
     requires { ⌜ Standing t ⌝ }
@@ -93,7 +74,7 @@ fn used(t: Table, card: u32) -> bool
 {
     let cs = t.chairs;
     let bs = t.board.cards;
-    let lies = on_board(bs, t.board.count, card);
+    let lies = chairs::has_card(&bs, t.board.count, card);
     let held = chairs::seats::count(cs, t.sheet.seats, Who::Holding(card)) != 0;
     laws::either(lies, held)
 }

@@ -6,6 +6,7 @@ use crate::table::Payout;
 use crate::table::Play;
 use crate::table::Table;
 use chairs::Chair;
+use chairs::Hole;
 use chairs::What;
 use chairs::Who;
 use chairs::seats::PutIn;
@@ -20,7 +21,9 @@ use pots::Stands;
 ghost use mathlib.Core.Path.{_≡_};
 ghost use mathlib.Core.List.{map};
 ghost use Prim.Native.Nat.{_+_, _-_, _≤_, _<_};
-ghost use lib.ListN.{length, replicate};
+ghost use lib.ListN.{length, replicate, take};
+ghost use mathlib.Core.Bool.{true};
+ghost use Rattle.paper.specs.Paper.{isGame};
 ghost use Rattle.chairs.specs.Chairs.{chipsOf, closeAll};
 ghost use Rattle.laws.specs.Tests.{pick};
 ghost use Rattle.pots.specs.Runs.{padded};
@@ -34,7 +37,7 @@ pub struct Done {
     pub payout: Payout,
 }
 
-// One live; or nobody owes and five board cards lie. With two live or more each live seat has its cards.
+// One live; or nobody owes and five board cards lie. With two live or more each live seat has all its cards.
 pub(crate) fn settle_code(t: Table) -> u8
     requires { ⌜ Standing t ⌝ }
     ensures { λ r. ⌜ r ≡ settleCode t ⌝ }
@@ -44,7 +47,7 @@ pub(crate) fn settle_code(t: Table) -> u8
     let none = betting::nobody_owes(t);
     let five = t.board.count == 5;
     let now = both(t.play.opened, either(live == 1, both(none, five)));
-    let bare = chairs::seats::count(cs, t.sheet.seats, Who::Bare) != 0;
+    let bare = chairs::seats::count(cs, t.sheet.seats, Who::Bare(t.sheet.game)) != 0;
     or_else(
         when(!now, WRONG_MOMENT),
         when(both(2 <= live, bare), CARDS_MISSING),
@@ -69,46 +72,73 @@ fn here_seats(t: Table) -> u16
     pots::mask_at(chairs::seats::column(cs, t.sheet.seats, What::Here), 1)
 }
 
-// The number of the best hand of the seven cards.
-fn hand_score(b: Board, c: Chair) -> u32
-    ensures { λ r. ⌜ r ≡ handScore b c ⌝ }
+// The number of the best hand of two hole cards and the board, any mixture.
+fn two_score(b: Board, h: Hole) -> u32
+    requires { ⌜ h .count ≡ 2 ⌝ }
+    ensures { λ r. ⌜ r ≡ handScore 2 (take (h .count) (h .cards)) (b .cards) ⌝ }
 {
+    let d = h.cards;
     let k = b.cards;
-    let seven = [c.hole.first, c.hole.second, k[0], k[1], k[2], k[3], k[4]];
+    let seven = [d[0], d[1], k[0], k[1], k[2], k[3], k[4]];
     cards::strength(cards::best_hand(&seven))
 }
 
-// What a seat's hand counts in a contest: a hand that is not live, or has no cards, is not looked at.
-fn score(b: Board, c: Chair) -> u32
-    ensures { λ r. ⌜ r ≡ scoreOf b c ⌝ }
+// The number of the best hand of two of four hole cards with three of the board.
+fn four_score(b: Board, h: Hole) -> u32
+    requires { ⌜ h .count ≡ 4 ⌝ }
+    ensures { λ r. ⌜ r ≡ handScore 4 (take (h .count) (h .cards)) (b .cards) ⌝ }
 {
-    if both(c.dealt.live, c.hole.entered) {
-        return hand_score(b, c);
+    let d = h.cards;
+    let k = b.cards;
+    cards::strength(cards::best_omaha(d, &k))
+}
+
+// The number of the best hand that a seat's cards make, where all of them were entered.
+fn hand_score(game: u32, b: Board, h: Hole) -> u32
+    requires { ⌜ (isGame game ≡ true) × (h .count ≡ game) ⌝ }
+    ensures { λ r. ⌜ r ≡ handScore game (take (h .count) (h .cards)) (b .cards) ⌝ }
+{
+    if game == 4 {
+        return four_score(b, h);
+    }
+    two_score(b, h)
+}
+
+// What a seat's hand counts in a contest: a hand that is not live, or has not all its cards, is not looked at.
+fn score(game: u32, b: Board, c: Chair) -> u32
+    requires { ⌜ isGame game ≡ true ⌝ }
+    ensures { λ r. ⌜ r ≡ scoreOf game b c ⌝ }
+{
+    let h = c.hole;
+    if both(c.dealt.live, h.count as u32 == game) {
+        return hand_score(game, b, h);
     }
     0
 }
 
-fn scores(b: Board, cs: [Chair; 10]) -> [u32; 10]
-    ensures { λ r. ⌜ r ≡ map (scoreOf b) cs ⌝ }
+fn scores(game: u32, b: Board, cs: [Chair; 10]) -> [u32; 10]
+    requires { ⌜ isGame game ≡ true ⌝ }
+    ensures { λ r. ⌜ r ≡ map (scoreOf game b) cs ⌝ }
 {
     let mut a = [0u32; 10];
     let mut i: usize = 0;
     while i < 10 {
         let c = cs[i];
-        a[i] = score(b, c);
+        a[i] = score(game, b, c);
         i += 1;
     }
     a
 }
 
 // The scores that a settle goes by: where one hand alone is live it needs no cards, and no hand is looked at.
-fn scores_needed(b: Board, cs: [Chair; 10], live: u16) -> [u32; 10]
-    ensures { λ r. ⌜ r ≡ pick (sole 10 live) (replicate 10 0) (map (scoreOf b) cs) ⌝ }
+fn scores_needed(game: u32, b: Board, cs: [Chair; 10], live: u16) -> [u32; 10]
+    requires { ⌜ isGame game ≡ true ⌝ }
+    ensures { λ r. ⌜ r ≡ pick (sole 10 live) (replicate 10 0) (map (scoreOf game b) cs) ⌝ }
 {
     if pots::hand::sole(live) {
         return [0u32; 10];
     }
-    scores(b, cs)
+    scores(game, b, cs)
 }
 
 // What the commission of the open hand goes by.
@@ -131,7 +161,7 @@ fn payout(t: Table) -> Payout
     let cs = t.chairs;
     let b = t.board;
     let put = put_in(t);
-    let sc = scores_needed(b, cs, put.live);
+    let sc = scores_needed(t.sheet.game, b, cs, put.live);
     let puck = t.play.puck as usize;
     let totals = put.totals;
     let s = pots::hand::settle_hand(totals, put.live, sc, commission(t), puck);

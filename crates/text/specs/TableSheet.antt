@@ -1,5 +1,5 @@
 -- Document 01, "The table sheet and the entries": "The sheet comes first: seats (2 to 10), small, big (1 ≤ small ≤ big ≤ 10,000), rate (0 to 100, thousandths), cap (0 to 1,000,000)."
--- Request No. 3: "the room's smallest chip, a sixth sheet line step (1 to 1,000)".
+-- Request No. 3: "the room's smallest chip, a sixth sheet line step (1 to 1,000)". Request No. 5: "A seventh sheet line game is 2 or 4."
 -- Refusal 11: "a sheet line is missing, malformed or out of its range".
 use Prim.Native.Nat.{ℕ, zero, suc, _+_, _*_}
 use mathlib.Core.List.{List, [], _∷_}
@@ -29,6 +29,8 @@ sheetKeys =
     ∷ (99 ∷ 97 ∷ 112 ∷ [])
     -- step
     ∷ (115 ∷ 116 ∷ 101 ∷ 112 ∷ [])
+    -- game
+    ∷ (103 ∷ 97 ∷ 109 ∷ 101 ∷ [])
     ∷ []
 
 -- how many lines a sheet has

@@ -15,7 +15,7 @@ pub enum Opening {
 }
 
 // How many lines a sheet has.
-pub const LINES: usize = 6;
+pub const LINES: usize = 7;
 
 // The most bytes that are kept of a sheet or of a block: a line is kept up to its 33rd byte, and its LF.
 pub const ROOM: usize = LINES * 34;
@@ -49,6 +49,10 @@ pub const KEYS: [Key; LINES] = [
     },
     Key {
         bytes: *b"step ",
+        letters: 4,
+    },
+    Key {
+        bytes: *b"game ",
         letters: 4,
     },
 ];
@@ -115,6 +119,7 @@ fn sheet_with(log: &[u8]) -> Sheet
         rate: value_at(log, 3),
         cap: value_at(log, 4),
         step: value_at(log, 5),
+        game: value_at(log, 6),
     }
 }
 

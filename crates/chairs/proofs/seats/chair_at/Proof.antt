@@ -1,6 +1,8 @@
 use native.Mathlib.Omega.{arith}
+use Prim.Native.Nat.{_-_}
 use lib.ListN.{length}
-use Rattle.chairs.proofs.Laws.{chair-in, chair-out}
+use Rattle.chairs.specs.Chairs.{noChair}
+use Rattle.chairs.proofs.Laws.{unread, read-any, chair-in, chair-out}
 use mathlib.Core.Path.{_≡_, sym, _∙_}
 use borrow.Author.Needs.{needs}
 use Rattle.chairs.proofs.seats.chair_at.Statement.{statement}
@@ -33,7 +35,11 @@ array-copy-out-result : tie.Need-array-copy-out-result
 array-copy-out-result c = search needs
 
 returns-3 : tie.Need-returns-3
-returns-3 c = sym (chair-in (c .before .before .before .args .t1) (c .before .before .before .args .s) (c .before .before .if1 .left))
+returns-3 c =
+    let cs = c .before .before .before .args .t1 in
+    let s = c .before .before .before .args .s in
+    let len : length cs ≡ 10 = search needs in
+    read-any cs (s - 1) unread noChair (omega arith) ∙ sym (chair-in cs s (c .before .before .if1 .left))
 
 pub chair-at-spec : {M : Type 1} → statement M
 chair-at-spec =

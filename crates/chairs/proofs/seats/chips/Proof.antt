@@ -4,7 +4,7 @@ use mathlib.Core.Path.{_≡_, ap}
 use native.Mathlib.Omega.{arith}
 use lib.ListN.{length, drop}
 use Rattle.chairs.specs.Chairs.{chipsOf}
-use Rattle.chairs.proofs.Laws.{sum-step}
+use Rattle.chairs.proofs.Laws.{unread, sum-step}
 use Rattle.chairs.proofs.Above.{above-chips}
 use Rattle.chairs.proofs.seats.chips.Statement.{statement}
 use Rattle.chairs.proofs.seats.chips.Tie as tie
@@ -46,7 +46,7 @@ loop-again : tie.Need-loop-again Inv-loop μ-loop
 loop-again c =
     let cs = c .before .before .before .before .before .args .t1 in
     let len : length cs ≡ 10 = search needs in
-    omega (arith, sum-step cs (c .before .before .before .before .loop .i) (omega arith))
+    omega (arith, sum-step cs (c .before .before .before .before .loop .i) unread (omega arith))
 
 returns : tie.Need-returns Inv-loop μ-loop
 returns c =

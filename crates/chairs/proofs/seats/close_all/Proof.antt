@@ -6,7 +6,7 @@ use native.Mathlib.Omega.{arith}
 use native.Mathlib.Numerals.{add-one}
 use lib.ListN.{length, set, getD}
 use Rattle.chairs.specs.Chairs.{noChair, closedOf}
-use Rattle.chairs.proofs.Laws.{closeTo, close-at, close-step}
+use Rattle.chairs.proofs.Laws.{unread, read-any, closeTo, close-at, close-step}
 use Rattle.chairs.proofs.Above.{above-close}
 use Rattle.chairs.specs.declared.Chair.{Chair}
 use Rattle.chairs.proofs.seats.close_all.Statement.{statement}
@@ -38,7 +38,8 @@ closed-requires c κs =
     let i = c .before .before .loop .i in
     let cs = c .before .before .before .args .cs in
     let ps = c .before .before .before .args .t3 in
-    let e = ap (λ (l : List Chair). getD l i noChair .stack) (c .before .before .loop .inv .2) ∙ ap (λ (d : Chair). d .stack) (close-at i cs ps) in
+    let lc : length cs ≡ 10 = search needs in
+    let e = ap (λ (l : List Chair). getD l i unread .stack) (c .before .before .loop .inv .2) ∙ ap (λ (d : Chair). d .stack) (close-at i cs ps unread ∙ read-any cs i unread noChair (omega arith)) in
     omega (arith, e, c .before .before .before .pre .2 i)
 
 mul-ds : tie.Need-mul-ds Inv-loop μ-loop
@@ -61,13 +62,13 @@ loop-again c =
     let ds = c .before .before .before .loop .ds in
     let lc : length cs ≡ 10 = search needs in
     let lp : length ps ≡ 10 = search needs in
-    let at = ap (λ (l : List Chair). getD l i noChair) (c .before .before .before .loop .inv .2) ∙ close-at i cs ps in (
+    let at = ap (λ (l : List Chair). getD l i unread) (c .before .before .before .loop .inv .2) ∙ close-at i cs ps unread in (
       omega arith,
       omega arith,
       rw add-one (
           ap (λ (d : Chair). set ds i d) (c .closed .ensures ∙ ap (λ (d : Chair). closedOf d (getD ps i 0)) at)
-          ∙ ap (λ (l : List Chair). set l i (closedOf (getD cs i noChair) (getD ps i 0))) (c .before .before .before .loop .inv .2)
-          ∙ close-step i cs ps (omega arith) (omega arith)),
+          ∙ ap (λ (l : List Chair). set l i (closedOf (getD cs i unread) (getD ps i 0))) (c .before .before .before .loop .inv .2)
+          ∙ close-step i cs ps unread (omega arith) (omega arith)),
     )
 
 returns : tie.Need-returns Inv-loop μ-loop

@@ -4,7 +4,8 @@ use Prim.Native.Nat.{suc, _-_, _≤_}
 use mathlib.Core.Path.{_≡_, sym, ap, _∙_}
 use native.Mathlib.Omega.{arith}
 use lib.ListN.{length, getD, set, replicate}
-use Rattle.chairs.specs.Chairs.{noChair, columnOf}
+use Rattle.chairs.specs.Chairs.{columnOf}
+use Rattle.chairs.proofs.Laws.{unread}
 use Rattle.chairs.proofs.Above.{column-none, readFrom, read-start, read-turn}
 use Rattle.chairs.proofs.seats.column.Statement.{statement}
 use Rattle.chairs.proofs.seats.column.Tie as tie
@@ -52,8 +53,8 @@ loop-again c =
     let e : i ≡ suc (i - 1) = omega arith in (
       omega arith,
       ap (λ x. set (c .before .before .before .loop .a) (i - 1) x) (c .reading .ensures)
-          ∙ ap (λ l. set l (i - 1) (f (getD cs (i - 1) noChair))) (c .before .before .before .loop .inv .1 ∙ ap (λ j. readFrom f j cs) e)
-          ∙ read-turn f (i - 1) cs (omega arith),
+          ∙ ap (λ l. set l (i - 1) (f (getD cs (i - 1) unread))) (c .before .before .before .loop .inv .1 ∙ ap (λ j. readFrom f j cs) e)
+          ∙ read-turn f (i - 1) cs unread (omega arith),
     )
 
 returns : tie.Need-returns Inv-loop μ-loop

@@ -5,8 +5,8 @@ use mathlib.Core.Logic.{⊎-elim}
 use borrow.Author.Needs.{needs}
 use Prim.Native.Nat.{_≤_, _+_, _-_}
 use native.Mathlib.Omega.{arith}
-use Rattle.chairs.specs.Chairs.{wantOf, countOf, noChair}
-use Rattle.chairs.proofs.Laws.{count-step}
+use Rattle.chairs.specs.Chairs.{wantOf, countOf}
+use Rattle.chairs.proofs.Laws.{unread, count-step}
 use Rattle.chairs.proofs.Above.{want-none, above-count}
 use Rattle.chairs.proofs.seats.count.Statement.{statement}
 use Rattle.chairs.proofs.seats.count.Tie as tie
@@ -45,7 +45,7 @@ loop-again c =
     let i = c .before .before .before .before .loop .i in
     let e = c .before .wants .ensures in
     let len : length cs ≡ 10 = search needs in
-    let st = count-step p cs i noChair (omega arith) in
+    let st = count-step p cs i unread (omega arith) in
     ⊎-elim
     (λ u. omega (arith, rw (sym e ∙ u .0 .taken) at st))
     (λ u. omega (arith, rw (sym e ∙ u .0 .left) at st))

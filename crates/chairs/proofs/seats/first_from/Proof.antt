@@ -4,8 +4,9 @@ use Prim.Native.Nat.{_-_, _≤_}
 use mathlib.Core.Bool.{true, false}
 use mathlib.Core.Path.{_≡_, refl, sym, ap, _∙_}
 use native.Mathlib.Omega.{arith}
-use lib.ListN.{drop, drop-of-length-le}
-use Rattle.chairs.specs.Chairs.{wantOf, firstOf, clockwise}
+use lib.ListN.{length, drop, drop-of-length-le}
+use Rattle.chairs.specs.Chairs.{noChair, wantOf, firstOf, clockwise}
+use Rattle.chairs.proofs.Laws.{unread, read-any}
 use Rattle.chairs.proofs.Clockwise.{clock-length, first-turn}
 use Rattle.chairs.proofs.seats.first_from.Statement.{statement}
 use Rattle.chairs.proofs.seats.first_from.Tie as tie
@@ -45,7 +46,8 @@ returns c =
     let s = c .before .before .before .before .before .before .args .s in
     let k = c .before .before .before .before .before .loop .k in
     let at = c .before .before .before .place-on .ensures .0 in
-    let e = sym (c .before .wants .ensures) ∙ c .if1 .taken in
+    let len : length cs ≡ 10 = search needs in
+    let e = ap w (read-any cs (c .before .before .before .place-on .result) noChair unread (omega arith)) ∙ sym (c .before .wants .ensures) ∙ c .if1 .taken in
     omega (arith, c .before .before .before .before .before .loop .inv .1, first-turn w cs n s k _ true (search needs) (search needs) at e)
 
 add-k : tie.Need-add-k Inv-loop μ-loop
@@ -62,7 +64,8 @@ loop-again c =
     let s = c .before .before .before .before .before .before .args .s in
     let k = c .before .before .before .before .before .loop .k in
     let at = c .before .before .before .place-on .ensures .0 in
-    let e = sym (c .before .wants .ensures) ∙ c .if1 .left in
+    let len : length cs ≡ 10 = search needs in
+    let e = ap w (read-any cs (c .before .before .before .place-on .result) noChair unread (omega arith)) ∙ sym (c .before .wants .ensures) ∙ c .if1 .left in
     (search needs, sym (first-turn w cs n s k _ false (search needs) (search needs) at e) ∙ c .before .before .before .before .before .loop .inv .1)
 
 returns-2 : tie.Need-returns-2 Inv-loop μ-loop

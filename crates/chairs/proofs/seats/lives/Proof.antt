@@ -6,9 +6,9 @@ use Prim.Native.Nat.{_≤_, _+_, _-_}
 use native.Mathlib.Omega.{arith}
 use Rattle.laws.specs.Tests.{one}
 use Rattle.laws.proofs.Often.{one-small}
-use Rattle.chairs.specs.Chairs.{wantOf, countOf, noChair}
+use Rattle.chairs.specs.Chairs.{wantOf, countOf}
 use Rattle.chairs.specs.declared.Who.the-variants.{Live, LiveWithChips}
-use Rattle.chairs.proofs.Laws.{count-step}
+use Rattle.chairs.proofs.Laws.{unread, count-step}
 use Rattle.chairs.proofs.Above.{above-count}
 use Rattle.chairs.proofs.seats.lives.Statement.{statement}
 use Rattle.chairs.proofs.seats.lives.Tie as tie
@@ -34,7 +34,7 @@ one-requires : tie.Need-one-requires Inv-loop μ-loop
 one-requires c κs = search needs
 
 add-hands : tie.Need-add-hands Inv-loop μ-loop
-add-hands c = omega (arith, c .one .ensures, one-small (getD (c .before .before .before .before .args .t1) (c .before .before .before .loop .i) noChair .dealt .live))
+add-hands c = omega (arith, c .one .ensures, one-small (getD (c .before .before .before .before .args .t1) (c .before .before .before .loop .i) unread .dealt .live))
 
 live-with-chips-requires : tie.Need-live-with-chips-requires Inv-loop μ-loop
 live-with-chips-requires c κs = search needs
@@ -56,12 +56,12 @@ loop-again c =
     let cs = c .before .before .before .before .before .before .args .t1 in
     let i = c .before .before .before .before .before .loop .i in
     let len : length cs ≡ 10 = search needs in
-    let l = wantOf Live (getD cs i noChair) in
+    let l = wantOf Live (getD cs i unread) in
     let h : c .before .before .one .result ≡ one l = c .before .before .one .ensures in
-    let r = wantOf LiveWithChips (getD cs i noChair) in
+    let r = wantOf LiveWithChips (getD cs i unread) in
     let k : c .one2 .result ≡ one r = c .one2 .ensures ∙ ap one (c .before .live-with-chips .ensures) in
-    let a = count-step (wantOf Live) cs i noChair (omega arith) in
-    let b = count-step (wantOf LiveWithChips) cs i noChair (omega arith) in
+    let a = count-step (wantOf Live) cs i unread (omega arith) in
+    let b = count-step (wantOf LiveWithChips) cs i unread (omega arith) in
     (omega arith, omega arith, omega (arith, h, one-small l), omega (arith, k, one-small r), omega (arith, h, a), omega (arith, k, b))
 
 returns : tie.Need-returns Inv-loop μ-loop

@@ -7,8 +7,9 @@ use native.Mathlib.Omega.{arith}
 use lib.ListN.{length, getD, set, replicate, drop}
 use Rattle.laws.proofs.Often.{one-small}
 use Rattle.pots.specs.Heights.{maskAt}
-use Rattle.chairs.specs.Chairs.{noChair, columnOf}
+use Rattle.chairs.specs.Chairs.{columnOf}
 use Rattle.chairs.specs.declared.What.the-variants.{Total, Live}
+use Rattle.chairs.proofs.Laws.{unread}
 use Rattle.chairs.proofs.Above.{column-none, readFrom, read-start, read-turn, mask-start, mask-turn, mask-small, has-truth}
 use Rattle.chairs.proofs.seats.put_in.Statement.{statement}
 use Rattle.chairs.proofs.seats.put_in.Tie as tie
@@ -58,7 +59,7 @@ add-live c =
     let cs = c .before .before .before .before .args .t1 in
     let len : length cs ≡ 10 = search needs in
     let m = mask-small (columnOf Live) (c .before .before .before .loop .i) cs (omega arith) in
-    record { fits = omega (arith, c .before .before .before .loop .inv .2, m, c .bit .ensures, one-small (getD cs (c .before .before .before .loop .i - 1) noChair .dealt .live)) }
+    record { fits = omega (arith, c .before .before .before .loop .inv .2, m, c .bit .ensures, one-small (getD cs (c .before .before .before .loop .i - 1) unread .dealt .live)) }
 
 loop-less : tie.Need-loop-less Inv-loop μ-loop
 loop-less c = search needs
@@ -67,13 +68,13 @@ loop-again : tie.Need-loop-again Inv-loop μ-loop
 loop-again c =
     let cs = c .before .before .before .before .args .t1 in
     let i = c .before .before .before .loop .i in
-    let l = getD cs (i - 1) noChair .dealt .live in
+    let l = getD cs (i - 1) unread .dealt .live in
     let len : length cs ≡ 10 = search needs in
     let e : i ≡ suc (i - 1) = omega arith in
-    let m = mask-turn (columnOf Live) (i - 1) cs (omega arith) in (
+    let m = mask-turn (columnOf Live) (i - 1) cs unread (omega arith) in (
       omega arith,
-      ap (λ k. set k (i - 1) (getD cs (i - 1) noChair .dealt .total)) (c .before .before .before .loop .inv .1 ∙ ap (λ j. readFrom (columnOf Total) j cs) e)
-          ∙ read-turn (columnOf Total) (i - 1) cs (omega arith),
+      ap (λ k. set k (i - 1) (getD cs (i - 1) unread .dealt .total)) (c .before .before .before .loop .inv .1 ∙ ap (λ j. readFrom (columnOf Total) j cs) e)
+          ∙ read-turn (columnOf Total) (i - 1) cs unread (omega arith),
       omega (arith, c .bit .ensures, c .before .before .before .loop .inv .2, ap (λ j. maskAt (map (columnOf Live) (drop j cs)) 1) e, has-truth l, m),
     )
 

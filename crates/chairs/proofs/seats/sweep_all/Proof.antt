@@ -5,8 +5,8 @@ use mathlib.Core.List.{List}
 use native.Mathlib.Omega.{arith}
 use native.Mathlib.Numerals.{add-one}
 use lib.ListN.{length, set, getD}
-use Rattle.chairs.specs.Chairs.{sweepOf, noChair}
-use Rattle.chairs.proofs.Laws.{sweepTo, sweep-step}
+use Rattle.chairs.specs.Chairs.{sweepOf}
+use Rattle.chairs.proofs.Laws.{unread, sweepTo, sweep-step}
 use Rattle.chairs.proofs.Above.{sweep-none, above-sweep}
 use Rattle.chairs.specs.declared.Chair.{Chair}
 use Rattle.chairs.proofs.seats.sweep_all.Statement.{statement}
@@ -52,8 +52,8 @@ loop-again c =
       omega arith,
       rw add-one (
           ap (λ (d : Chair). set (c .before .before .before .loop .ds) i d) (c .swept .ensures)
-          ∙ ap (λ (l : List Chair). set l i (f (getD l i noChair))) (c .before .before .before .loop .inv .2)
-          ∙ sweep-step f i cs (omega arith)),
+          ∙ ap (λ (l : List Chair). set l i (f (getD l i unread))) (c .before .before .before .loop .inv .2)
+          ∙ sweep-step f i cs unread (omega arith)),
     )
 
 returns : tie.Need-returns Inv-loop μ-loop

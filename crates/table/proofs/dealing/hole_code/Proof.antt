@@ -6,6 +6,9 @@ use Rattle.table.proofs.dealing.hole_code.Tie as tie
 seat-of-requires : tie.Need-seat-of-requires
 seat-of-requires c κs = search needs
 
+cast-full : tie.Need-cast-full
+cast-full c = search needs
+
 used-requires : tie.Need-used-requires
 used-requires c κs = search needs
 
@@ -38,13 +41,14 @@ or-else-requires-2 c κs = search needs
 
 returns : tie.Need-returns
 unfolding holeCode
-returns c = rw (c .before .or-else .ensures, c .before .before .when3 .ensures, c .before .before .before .either3 .ensures, c .before .before .before .before .when2 .ensures, c .before .before .before .before .before .either2 .ensures, c .before .before .before .before .before .before .when .ensures, c .before .before .before .before .before .before .before .either .ensures, c .before .before .before .before .before .before .before .before .used2 .ensures, c .before .before .before .before .before .before .before .before .before .used .ensures, c .before .before .before .before .before .before .before .before .before .before .before .before .seat-of .ensures) at (c .or-else2 .ensures)
+returns c = rw (c .before .or-else .ensures, c .before .before .when3 .ensures, c .before .before .before .either3 .ensures, c .before .before .before .before .when2 .ensures, c .before .before .before .before .before .either2 .ensures, c .before .before .before .before .before .before .when .ensures, c .before .before .before .before .before .before .before .either .ensures, c .before .before .before .before .before .before .before .before .used2 .ensures, c .before .before .before .before .before .before .before .before .before .used .ensures, c .before .before .before .before .before .before .before .before .before .before .before .before .before .before .seat-of .ensures) at (c .or-else2 .ensures)
 
 pub hole-code-spec : {M : Type 1} → statement M
 hole-code-spec =
     tie.close
     (tie.spec
     seat-of-requires
+    cast-full
     used-requires
     used-requires-2
     either-requires

@@ -3,8 +3,11 @@ use borrow.Author.Needs.{needs}
 use Rattle.table.proofs.dealing.used.Statement.{statement}
 use Rattle.table.proofs.dealing.used.Tie as tie
 
-on-board-requires : tie.Need-on-board-requires
-on-board-requires c κs = search needs
+slice-aggregate-has-card : tie.Need-slice-aggregate-has-card
+slice-aggregate-has-card c = search needs
+
+has-card-requires : tie.Need-has-card-requires
+has-card-requires c κs = search needs
 
 count-requires : tie.Need-count-requires
 count-requires c κs = search needs
@@ -14,7 +17,7 @@ either-requires c κs = search needs
 
 returns : tie.Need-returns
 unfolding inThisHand
-returns c = rw (c .before .count .ensures, c .before .before .on-board .ensures) at (c .either .ensures)
+returns c = rw (c .before .count .ensures, c .before .before .has-card .ensures) at (c .either .ensures)
 
 pub used-spec : {M : Type 1} → statement M
-used-spec = tie.close (tie.spec on-board-requires count-requires either-requires returns)
+used-spec = tie.close (tie.spec slice-aggregate-has-card has-card-requires count-requires either-requires returns)
