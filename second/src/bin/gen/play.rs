@@ -125,7 +125,7 @@ impl Player {
     }
 
     fn hole(&mut self, table: &Table, hand: &Hand) -> Option<Entry> {
-        let lacking = |seat| table.dealt(seat).is_some_and(|dealt| dealt.live && dealt.cards.is_none());
+        let lacking = |seat| table.dealt(seat).is_some_and(|dealt| dealt.live && table.lacks_cards(dealt));
         let lacking = self.seats(table, lacking);
         let seat = self.random.one_of(&lacking)?;
         let first = self.fresh_card(hand);
