@@ -74,7 +74,8 @@ impl Player {
             return self.sit(table, seat);
         }
         self.mood = Mood {
-            tie: self.random.chance(self.profile.tie),
+            // Four hole cards for each seat are more than the cards kept off the boards that make ties.
+            tie: self.random.chance(self.profile.tie) && table.sheet.game == 2,
             cards_early: self.random.chance(50),
             quiet: self.random.chance(10),
         };
