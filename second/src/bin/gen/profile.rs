@@ -102,8 +102,9 @@ pub static PROFILES: [Profile; 10] = [
 
 impl Profile {
     /// The sheet's text: good, out of range, or with damaged bytes.
-    pub fn sheet(&self, random: &mut Random) -> Vec<u8> {
-        let good = self.sheet_numbers(random);
+    pub fn sheet(&self, seats: Option<u64>, random: &mut Random) -> Vec<u8> {
+        let mut good = self.sheet_numbers(random);
+        good[0] = seats.unwrap_or(good[0]);
         let bad = random.chance(self.bad_sheet);
         let numbers = if bad && random.chance(50) { out_of_range(good, random) } else { good };
         let lines = SHEET_KEYS.iter().zip(numbers).map(|(key, number)| format!("{key}={number}\n"));
