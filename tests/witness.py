@@ -11,6 +11,7 @@ SECOND = "second/target/release/second"
 GEN = "second/target/release/gen"
 COUNT = "second/target/release/count"
 SECONDS_ALLOWED = 120
+SHEET_LINES = 7
 
 # Each profile of the generator with the length of its logs: a table needs
 # some time to reach its limit, and one sheet is enough for a look at sheets.
@@ -24,6 +25,7 @@ PROFILES = {
     "refusals": 1000,
     "damage": 1000,
     "sheets": 10,
+    "four": 1000,
 }
 
 
@@ -68,10 +70,10 @@ def make_log(seed, entries, profile):
 
 
 def blocks_of(log):
-    """The sheet's six lines, then block after block, each with its five LFs if it has them."""
+    """The sheet's lines, then block after block, each with its five LFs if it has them."""
     lines = [line + b"\n" for line in log.split(b"\n")]
     lines[-1] = lines[-1][:-1]
-    return [b"".join(lines[:6])] + [b"".join(lines[i : i + 5]) for i in range(6, len(lines), 5)]
+    return [b"".join(lines[:SHEET_LINES])] + [b"".join(lines[i : i + 5]) for i in range(SHEET_LINES, len(lines), 5)]
 
 
 def difference(log):

@@ -89,7 +89,7 @@ impl Table {
             round_total: 0,
             live: true,
             acted: false,
-            cards: None,
+            cards: Vec::new(),
         };
         let with_chips = |chair: &Option<Sitter>| chair.as_ref().filter(|s| s.stack > 0).map(dealt_in);
         let dealt = self.chairs.iter().map(with_chips).collect();

@@ -1,4 +1,5 @@
-//! "Hand order": the best of the 21 choices of five among seven cards.
+//! "Hand order": the best of the 21 choices of five among seven cards, and
+//! (request No. 5) of the 60 of two hole cards with three of the board.
 
 use crate::entries::Card;
 use std::cmp::Reverse;
@@ -67,6 +68,25 @@ pub fn best_of_seven(cards: [Card; 7]) -> Strength {
         }
     }
     best
+}
+
+/// Exactly two of four hole cards with exactly three of the board: all 60,
+/// as pairs of places times the pairs of board cards left out.
+pub fn best_of_both(hole: [Card; 4], board: [Card; 5]) -> Strength {
+    let mut best = Strength { class: 0, ranks: [0; 5] };
+    for (first, second) in pairs(4) {
+        for (left, out) in pairs(5) {
+            let mut lying = (0..5).filter(|place| *place != left && *place != out).map(|place| board[place]);
+            let mut next = || lying.next().expect("three of five");
+            best = best.max(of_five([hole[first], hole[second], next(), next(), next()]));
+        }
+    }
+    best
+}
+
+/// Every two places below `count`, the lower first.
+fn pairs(count: usize) -> impl Iterator<Item = (usize, usize)> {
+    (0..count).flat_map(move |first| (first + 1..count).map(move |second| (first, second)))
 }
 
 fn without(cards: [Card; 7], first: usize, second: usize) -> [Card; 5] {

@@ -1,6 +1,8 @@
 //! Request No. 1: a log with broken blocks, copied fair. The sheet and every
 //! block that is an entry in range come out in the paper's form; of each
-//! other block one line says its number in the log and its code.
+//! other block one line says its number in the log and its code. A sheet from
+//! before the later requests, which ends where a block begins or with the
+//! input, gets the lines that it lacks, and a line for each says so.
 
 use crate::answer::line;
 use crate::entries::{read_block, Written};
@@ -8,6 +10,13 @@ use crate::text::{sheet, Sheet, ENTRY_KEYS, LF, SHEET_KEYS};
 
 /// Blocks are counted no further: a number has nine digits at most.
 const MOST: u64 = 999_999_999;
+
+/// The lines of the first paper's sheet, and what a missing later one means.
+const FIRST_LINES: usize = 5;
+const MEANT: [&str; SHEET_KEYS.len() - FIRST_LINES] = ["step=1\n", "game=2\n"];
+
+/// A line that begins so can't be a sheet's: a block begins there.
+const BLOCK_BEGINS: &[u8] = b"n=";
 
 enum Stage {
     Sheet,
@@ -38,6 +47,7 @@ impl Mender {
     pub fn feed(&mut self, bytes: &[u8], copy: &mut Vec<u8>, said: &mut Vec<u8>) {
         for piece in bytes.split_inclusive(|byte| *byte == LF) {
             self.gathered.extend_from_slice(piece);
+            self.end_old_sheet(copy, said);
             self.lines += usize::from(piece.ends_with(&[LF]));
             if self.lines == self.lines_wanted() {
                 self.copy_gathered(copy, said);
@@ -47,8 +57,38 @@ impl Mender {
 
     /// The input is at its end: what was begun is malformed.
     pub fn close(&mut self, copy: &mut Vec<u8>, said: &mut Vec<u8>) {
+        if self.gathered.ends_with(&[LF]) {
+            self.add_lines(said);
+        }
         if !self.gathered.is_empty() || matches!(self.stage, Stage::Sheet) {
             self.copy_gathered(copy, said);
+        }
+    }
+
+    /// Where a block begins behind five lines or more of a sheet that is not
+    /// whole, the sheet is an old one and ends there.
+    fn end_old_sheet(&mut self, copy: &mut Vec<u8>, said: &mut Vec<u8>) {
+        // The start of the line that the last byte belongs to, an LF too.
+        let but_last = &self.gathered[..self.gathered.len() - 1];
+        let begins = but_last.iter().rposition(|byte| *byte == LF).map_or(0, |place| place + 1);
+        let is_old = matches!(self.stage, Stage::Sheet) && self.lines >= FIRST_LINES;
+        if !is_old || !self.gathered[begins..].starts_with(BLOCK_BEGINS) {
+            return;
+        }
+        let block = self.gathered.split_off(begins);
+        self.add_lines(said);
+        self.copy_gathered(copy, said);
+        self.gathered = block;
+    }
+
+    /// Puts the lines that an old sheet lacks behind it, if it is good so.
+    fn add_lines(&mut self, said: &mut Vec<u8>) {
+        let missing = self.lines.checked_sub(FIRST_LINES).and_then(|more| MEANT.get(more..));
+        let (Stage::Sheet, Some(missing)) = (&self.stage, missing) else { return };
+        let added = missing.concat().into_bytes();
+        if sheet(&[&self.gathered[..], &added].concat()).is_some() {
+            self.gathered.extend(added);
+            said.extend(missing.iter().flat_map(|line| format!("added {line}").into_bytes()));
         }
     }
 
@@ -89,7 +129,8 @@ impl Mender {
 }
 
 fn write_sheet(sheet: Sheet, copy: &mut Vec<u8>) {
-    let values = [sheet.seats as u64, sheet.small, sheet.big, sheet.rate, sheet.cap, sheet.step];
+    let values =
+        [sheet.seats as u64, sheet.small, sheet.big, sheet.rate, sheet.cap, sheet.step, sheet.game as u64];
     for (key, value) in SHEET_KEYS.into_iter().zip(values) {
         line(copy, key, value);
     }

@@ -10,8 +10,15 @@ pub struct Row {
 
 /// A number of 1 to 9 digits with no leading zero, save `0`.
 fn number(text: &str) -> Option<u64> {
-    let good = !text.is_empty() && text.len() <= 9 && text.bytes().all(|b| b.is_ascii_digit()) && (text == "0" || !text.starts_with('0'));
-    if good { text.parse().ok() } else { None }
+    let good = !text.is_empty()
+        && text.len() <= 9
+        && text.bytes().all(|b| b.is_ascii_digit())
+        && (text == "0" || !text.starts_with('0'));
+    if good {
+        text.parse().ok()
+    } else {
+        None
+    }
 }
 
 /// The value of a `key=value` line, if the line begins with that key.
@@ -21,7 +28,10 @@ fn value<'a>(line: &'a str, key: &str) -> Option<&'a str> {
 
 /// Whether every row, the number of rows and of sittings and the proposal's length are within the request's bounds.
 pub fn in_bounds(rows: &[Row], sittings: usize, long: usize) -> bool {
-    rows.len() <= 16 && sittings <= 10 && long == rows.len() * sittings && rows.iter().all(|r| (1..=100_000).contains(&r.worth) && r.count <= 10_000)
+    rows.len() <= 16
+        && sittings <= 10
+        && long == rows.len() * sittings
+        && rows.iter().all(|r| (1..=100_000).contains(&r.worth) && r.count <= 10_000)
 }
 
 /// The checker's code, and the tray afterwards.
@@ -49,7 +59,9 @@ pub fn propose(rows: &[Row], paid: &[u64]) -> Option<Vec<u64>> {
     for (sitting, amount) in paid.iter().enumerate() {
         let mut due = *amount;
         while due > 0 {
-            let best = (0..rows.len()).filter(|i| left[*i] > 0 && rows[*i].worth <= due).min_by_key(|i| (std::cmp::Reverse(rows[*i].worth), *i))?;
+            let best = (0..rows.len())
+                .filter(|i| left[*i] > 0 && rows[*i].worth <= due)
+                .min_by_key(|i| (std::cmp::Reverse(rows[*i].worth), *i))?;
             left[best] -= 1;
             due -= rows[best].worth;
             proposal[sitting * rows.len() + best] += 1;
@@ -128,7 +140,10 @@ fn pairs(listed: &[&str]) -> Option<Vec<(u64, u64)>> {
     if listed.len() % 2 != 0 || listed.len() > 20 {
         return None;
     }
-    listed.chunks(2).map(|two| Some((number(value(two[0], "sitting")?)?, number(value(two[1], "paid")?)?))).collect()
+    listed
+        .chunks(2)
+        .map(|two| Some((number(value(two[0], "sitting")?)?, number(value(two[1], "paid")?)?)))
+        .collect()
 }
 
 /// The tray at the front of the lines, and the lines behind it.

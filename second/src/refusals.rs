@@ -2,7 +2,7 @@
 
 use crate::entries::Entry;
 use crate::seats::Seat;
-use crate::table::{Hand, Table};
+use crate::table::{Dealt, Hand, Table};
 
 const MOST_CHIPS: u64 = 100_000_000;
 
@@ -56,12 +56,17 @@ impl Table {
             Entry::Leave { seat } => self.chairs[seat].is_none() || self.is_live(seat),
             Entry::Hand { puck } => self.wrong_puck(puck),
             Entry::Hole { seat, .. } => {
-                !self.dealt(seat).is_some_and(|dealt| dealt.live && dealt.cards.is_none())
+                !self.dealt(seat).is_some_and(|dealt| dealt.live && self.lacks_cards(dealt))
             }
             Entry::Fold { seat } | Entry::Check { seat } | Entry::Call { seat } => !self.is_live(seat),
             Entry::Wager { seat, .. } | Entry::Dead { seat } => !self.is_live(seat),
             Entry::Board { .. } | Entry::Settle | Entry::Void => false,
         }
+    }
+
+    /// Fewer than the game's hole cards are entered.
+    pub fn lacks_cards(&self, dealt: &Dealt) -> bool {
+        dealt.cards.len() < self.sheet.game
     }
 
     /// The puck seat is dealt in, and after a first hand it is the first
@@ -106,7 +111,7 @@ impl Table {
     }
 
     fn cards_missing(&self, entry: &Entry) -> bool {
-        let lacking = |hand: &Hand| hand.live().any(|dealt| dealt.cards.is_none());
+        let lacking = |hand: &Hand| hand.live().any(|dealt| self.lacks_cards(dealt));
         *entry == Entry::Settle && self.live_count() >= 2 && self.hand.as_ref().is_some_and(lacking)
     }
 }

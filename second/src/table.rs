@@ -1,7 +1,7 @@
 //! The table: who sits where, the open hand, and what a taken entry does.
 
 use crate::entries::{Card, Entry};
-use crate::hands::{best_of_seven, Strength};
+use crate::hands::{best_of_both, best_of_seven, Strength};
 use crate::pots::{Commission, PotRule, Pots, Shares, Stake};
 use crate::seats::{clockwise_after, Seat};
 use crate::text::Sheet;
@@ -21,7 +21,8 @@ pub struct Dealt {
     pub live: bool,
     /// Has acted since the last wager of this round by another.
     pub acted: bool,
-    pub cards: Option<[Card; 2]>,
+    /// As many as were entered, a pair at a time.
+    pub cards: Vec<Card>,
 }
 
 /// What a seat did in a round of betting; a fold ends its part and is not kept.
@@ -81,18 +82,27 @@ impl Hand {
 
     /// On the board or entered for any seat of this hand, folded or gone too.
     pub fn has_card(&self, card: Card) -> bool {
-        let held = |dealt: &Dealt| dealt.cards.is_some_and(|cards| cards.contains(&card));
+        let held = |dealt: &Dealt| dealt.cards.contains(&card);
         self.board.contains(&card) || self.dealt.iter().flatten().any(held)
     }
 
-    /// The best five of each seat with cards, once five board cards lie.
-    fn strengths(&self) -> Vec<Option<Strength>> {
+    /// The best five of each seat with all its cards, once five board cards lie.
+    fn strengths(&self, game: usize) -> Vec<Option<Strength>> {
         let strength = |slot: &Option<Dealt>| {
-            let [first, second] = slot.as_ref()?.cards?;
-            let [a, b, c, d, e] = *self.board.as_slice() else { return None };
-            Some(best_of_seven([first, second, a, b, c, d, e]))
+            let board: [Card; 5] = self.board.as_slice().try_into().ok()?;
+            best_with(&slot.as_ref()?.cards, board, game)
         };
         self.dealt.iter().map(strength).collect()
+    }
+}
+
+/// The best five by the game's rule; nothing while some hole card is missing.
+fn best_with(hole: &[Card], board: [Card; 5], game: usize) -> Option<Strength> {
+    let [c, d, e, f, g] = board;
+    match *hole {
+        [a, b] if game == 2 => Some(best_of_seven([a, b, c, d, e, f, g])),
+        [h, i, j, k] if game == 4 => Some(best_of_both([h, i, j, k], board)),
+        _ => None,
     }
 }
 
@@ -148,7 +158,7 @@ impl Table {
         let hand = self.hand.as_ref()?;
         let Sheet { rate, cap, step, .. } = self.sheet;
         let commission = Commission { rate, cap, step, board_cards: hand.board.len() };
-        Some(self.pots().share(commission, hand.puck, &hand.strengths()))
+        Some(self.pots().share(commission, hand.puck, &hand.strengths(self.sheet.game)))
     }
 
     /// The first seat clockwise after this one that holds chips.
@@ -167,7 +177,7 @@ impl Table {
             Entry::Sit { seat, chips } => self.sit(seat, chips),
             Entry::Leave { seat } => self.chairs[seat] = None,
             Entry::Hand { puck } => self.open(puck),
-            Entry::Hole { seat, cards } => self.dealt_mut(seat).cards = Some(cards),
+            Entry::Hole { seat, cards } => self.dealt_mut(seat).cards.extend(cards),
             Entry::Fold { seat } | Entry::Dead { seat } => self.drop_hand(seat),
             Entry::Check { seat } => self.acted(seat, Act::Check),
             Entry::Call { seat } => self.call(seat),

@@ -1,7 +1,7 @@
 //! "The table sheet and the entries": lines, numbers, words and the sheet.
 
 pub const LF: u8 = b'\n';
-pub const SHEET_KEYS: [&str; 6] = ["seats", "small", "big", "rate", "cap", "step"];
+pub const SHEET_KEYS: [&str; 7] = ["seats", "small", "big", "rate", "cap", "step", "game"];
 pub const ENTRY_KEYS: [&str; 5] = ["n", "do", "seat", "a", "b"];
 const LONGEST_LINE: usize = 32;
 const MOST_DIGITS: usize = 9;
@@ -54,19 +54,22 @@ pub struct Sheet {
     pub rate: u64,
     pub cap: u64,
     pub step: u64,
+    /// How many hole cards each dealt-in seat has: 2, or 4 (request No. 5).
+    pub game: usize,
 }
 
 /// The sheet, or nothing where the paper gives 11.
 pub fn sheet(text: &[u8]) -> Option<Sheet> {
-    let [seats, small, big, rate, cap, step] = values(text, SHEET_KEYS)?.map(number);
-    let (seats, small, big, rate, cap, step) = (seats?, small?, big?, rate?, cap?, step?);
+    let [seats, small, big, rate, cap, step, game] = values(text, SHEET_KEYS)?.map(number);
+    let (seats, small, big, rate, cap, step, game) = (seats?, small?, big?, rate?, cap?, step?, game?);
     let in_range = (2..=10).contains(&seats)
         && 1 <= small
         && small <= big
         && big <= 10_000
         && rate <= 100
         && cap <= 1_000_000
-        && (1..=1_000).contains(&step);
-    let seats = seats as usize;
-    in_range.then_some(Sheet { seats, small, big, rate, cap, step })
+        && (1..=1_000).contains(&step)
+        && [2, 4].contains(&game);
+    let (seats, game) = (seats as usize, game as usize);
+    in_range.then_some(Sheet { seats, small, big, rate, cap, step, game })
 }

@@ -2,7 +2,7 @@
 
 mod play;
 
-use play::{block, sheet_text, Play};
+use play::{block, sheet_of, sheet_text, Play};
 use second::clerk::{answers_to, Clerk};
 use second::pots::literally;
 
@@ -40,6 +40,9 @@ fn bad_sheets() {
         ("step=1", "step=0"),
         ("step=1", "step=1001"),
         ("step=1\n", ""),
+        ("game=2", "game=3"),
+        ("game=2", "game=0"),
+        ("game=2\n", ""),
     ];
     bad.extend(changes.map(|(from, to)| good.replace(from, to)));
     for sheet in bad {
@@ -235,4 +238,33 @@ fn a_short_lift_after_checks_bars_those_who_checked() {
     assert_eq!(["wager 2 17", "call 2"].map(|entry| play.code(entry)), [7, 0]);
     assert_eq!(play.answer("board 0 4").turn, 2);
     play.take(&["wager 2 10"]);
+}
+
+/// Two seats of 10 chips all in before the flop, and no card entered.
+fn omaha() -> Play {
+    let mut play = Play::of(&sheet_of([2, 5, 10, 0, 0, 1], 4));
+    play.take(&["sit 1 10", "sit 2 10", "hand 1", "call 1"]);
+    play
+}
+
+#[test]
+fn four_hole_cards_come_by_two_pairs() {
+    let mut play = omaha();
+    play.take(&["hole 1 0 1"]);
+    // Its own first pair counts as a repeat; the third pair is 5 whatever its cards.
+    assert_eq!(["hole 1 0 9", "hole 1 9 1", "hole 1 9 9"].map(|entry| play.code(entry)), [8, 8, 8]);
+    play.take(&["hole 2 2 3", "board 0 20", "hole 1 4 5"]);
+    assert_eq!(["hole 1 6 7", "hole 1 0 20", "hole 2 4 9"].map(|entry| play.code(entry)), [5, 5, 8]);
+    play.take(&["board 0 24", "board 0 28", "board 0 33", "board 0 38"]);
+    assert_eq!([play.code("settle"), play.code("hole 2 10 11"), play.code("settle")], [10, 0, 0]);
+}
+
+#[test]
+fn exactly_two_of_the_hole_and_three_of_the_board() {
+    let mut play = omaha();
+    // Four spades on the board and one in seat 1's hole make no flush; seat 2 has a pair of aces.
+    play.take(&["hole 1 51 0", "hole 1 5 10", "hole 2 48 49", "hole 2 14 17"]);
+    play.take(&["board 0 3", "board 0 23", "board 0 31", "board 0 39", "board 0 26"]);
+    let settled = play.answer("settle").settlement.expect("all cards entered");
+    assert_eq!(settled.rows, [(1, 0), (2, 20)]);
 }

@@ -9,7 +9,12 @@ fn main() {
     let _ = run(Mender::default(), io::stdin().lock(), io::stdout().lock(), io::stderr().lock());
 }
 
-fn run(mut mender: Mender, mut input: impl Read, mut output: impl Write, mut notes: impl Write) -> io::Result<()> {
+fn run(
+    mut mender: Mender,
+    mut input: impl Read,
+    mut output: impl Write,
+    mut notes: impl Write,
+) -> io::Result<()> {
     let mut bytes = vec![0; 1 << 16];
     let (mut copy, mut said) = (Vec::new(), Vec::new());
     while !mender.has_ended() {

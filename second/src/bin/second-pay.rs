@@ -20,9 +20,11 @@ fn main() {
 fn all(words: &[String]) {
     let split = words.iter().position(|w| w == "/").expect("a / before what is paid");
     let numbers = |ws: &[String]| -> Vec<u64> { ws.iter().map(|w| w.parse().expect("a number")).collect() };
-    let rows: Vec<Row> = numbers(&words[..split]).chunks(2).map(|r| Row { worth: r[0], count: r[1] }).collect();
+    let rows: Vec<Row> =
+        numbers(&words[..split]).chunks(2).map(|r| Row { worth: r[0], count: r[1] }).collect();
     let paid = numbers(&words[split + 1..]);
-    let most: Vec<u64> = (0..rows.len() * paid.len()).map(|place| rows[place % rows.len()].count + 1).collect();
+    let most: Vec<u64> =
+        (0..rows.len() * paid.len()).map(|place| rows[place % rows.len()].count + 1).collect();
     let mut proposal = vec![0; most.len()];
     loop {
         let text: Vec<String> = proposal.iter().map(u64::to_string).collect();

@@ -6,8 +6,11 @@ use second::table::Table;
 use second::text::sheet;
 
 pub fn sheet_text(numbers: [u64; 6]) -> String {
-    let [seats, small, big, rate, cap, step] = numbers;
-    format!("seats={seats}\nsmall={small}\nbig={big}\nrate={rate}\ncap={cap}\nstep={step}\n")
+    sheet_of(numbers, 2)
+}
+
+pub fn sheet_of([seats, small, big, rate, cap, step]: [u64; 6], game: u64) -> String {
+    format!("seats={seats}\nsmall={small}\nbig={big}\nrate={rate}\ncap={cap}\nstep={step}\ngame={game}\n")
 }
 
 pub fn block(n: u64, entry: &str) -> String {
@@ -22,7 +25,11 @@ pub struct Play {
 
 impl Play {
     pub fn new(numbers: [u64; 6]) -> Play {
-        let sheet = sheet(sheet_text(numbers).as_bytes()).expect("a good sheet");
+        Play::of(&sheet_text(numbers))
+    }
+
+    pub fn of(sheet_text: &str) -> Play {
+        let sheet = sheet(sheet_text.as_bytes()).expect("a good sheet");
         Play { table: Table::new(sheet, literally) }
     }
 

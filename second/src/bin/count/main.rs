@@ -3,6 +3,7 @@
 //! must contain was missed, or a bound was broken.
 
 mod bounds;
+mod four;
 mod lifts;
 
 use second::answer::{answer_block, Answer};
@@ -17,7 +18,7 @@ use std::collections::BTreeMap;
 pub struct Counts(BTreeMap<String, u64>);
 
 /// What a run of all profiles must contain, besides the codes 0 to 11.
-const DEMANDED: [&str; 22] = [
+const DEMANDED: [&str; 28] = [
     "pots 9",
     "unclaimed chips",
     "seat changed hands inside a hand",
@@ -40,6 +41,12 @@ const DEMANDED: [&str; 22] = [
     "after a short lift: refused a whole stack",
     "after a short lift: refused where short lifts add up to a full one",
     "after a short lift: call by one who may not raise",
+    "four: second pair",
+    "four: repeat of the own pair",
+    "four: third hole",
+    "four: third hole with a repeat",
+    "four: settle with one pair",
+    "four: showdown",
 ];
 
 impl Counts {
@@ -95,6 +102,7 @@ fn count_log(log: &[u8], counts: &mut Counts) {
         let entry = read_block(block).and_then(|written| written.entry(sheet.seats));
         if let Some(entry) = entry {
             lifts::count(&before, &entry, answer.code, counts);
+            four::count(&before, &entry, answer.code, counts);
             if answer.code == 0 {
                 count_taken(&before, &entry, &answer, counts);
                 turns.count(&entry, &table, counts);

@@ -1,4 +1,4 @@
-//! `gen SEED ENTRIES [--profile P]`: writes a log of at least that many entries.
+//! `gen SEED ENTRIES [--profile P] [--seats S]`: writes a log of at least that many entries.
 //! It plays on its own table, so that it knows what is legal and what is not.
 
 mod damage;
@@ -17,21 +17,41 @@ use std::io::{self, BufWriter, Write};
 fn main() -> io::Result<()> {
     let arguments: Vec<String> = std::env::args().skip(1).collect();
     let words: Vec<&str> = arguments.iter().map(String::as_str).collect();
-    let (seed, entries, profile) = match words.as_slice() {
-        [seed, entries] => (seed, entries, "cash"),
-        [seed, entries, "--profile", profile] => (seed, entries, *profile),
+    let (seed, entries, options) = match words.as_slice() {
+        [seed, entries, options @ ..] => (seed.parse(), entries.parse(), Options::of(options)),
         _ => return usage(),
     };
-    let profile = PROFILES.iter().find(|known| known.name == profile);
-    let (Ok(seed), Ok(entries), Some(profile)) = (seed.parse(), entries.parse(), profile) else {
-        return usage();
-    };
-    write_log(Random::new(seed), entries, profile, BufWriter::new(io::stdout().lock()))
+    let (Ok(seed), Ok(entries), Some(options)) = (seed, entries, options) else { return usage() };
+    write_log(Random::new(seed), entries, options, BufWriter::new(io::stdout().lock()))
+}
+
+/// What kind of log is asked for.
+#[derive(Clone, Copy)]
+struct Options {
+    profile: &'static Profile,
+    /// As many seats as the profile chooses, where none are asked for.
+    seats: Option<u64>,
+}
+
+impl Options {
+    fn of(words: &[&str]) -> Option<Options> {
+        let mut options = Options { profile: &PROFILES[0], seats: None };
+        for pair in words.chunks(2) {
+            match *pair {
+                ["--profile", name] => options.profile = PROFILES.iter().find(|known| known.name == name)?,
+                ["--seats", seats] => {
+                    options.seats = Some(seats.parse().ok().filter(|seats| (2..=10).contains(seats))?)
+                }
+                _ => return None,
+            }
+        }
+        Some(options)
+    }
 }
 
 fn usage() -> io::Result<()> {
     let names: Vec<&str> = PROFILES.iter().map(|profile| profile.name).collect();
-    eprintln!("gen SEED ENTRIES [--profile P], P one of: {}", names.join(" "));
+    eprintln!("gen SEED ENTRIES [--profile P] [--seats S], S 2 to 10, P one of: {}", names.join(" "));
     std::process::exit(2)
 }
 
@@ -73,10 +93,10 @@ impl Fields {
 fn write_log(
     mut random: Random,
     entries: u64,
-    profile: &'static Profile,
+    Options { profile, seats }: Options,
     mut output: impl Write,
 ) -> io::Result<()> {
-    let sheet = profile.sheet(&mut random);
+    let sheet = profile.sheet(seats, &mut random);
     let mut clerk = Clerk::new(by_levels);
     clerk.feed(&sheet, &mut Vec::new());
     output.write_all(&sheet)?;

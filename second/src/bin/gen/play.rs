@@ -74,7 +74,8 @@ impl Player {
             return self.sit(table, seat);
         }
         self.mood = Mood {
-            tie: self.random.chance(self.profile.tie),
+            // Four hole cards for each seat are more than the cards kept off the boards that make ties.
+            tie: self.random.chance(self.profile.tie) && table.sheet.game == 2,
             cards_early: self.random.chance(50),
             quiet: self.random.chance(10),
         };
@@ -125,7 +126,7 @@ impl Player {
     }
 
     fn hole(&mut self, table: &Table, hand: &Hand) -> Option<Entry> {
-        let lacking = |seat| table.dealt(seat).is_some_and(|dealt| dealt.live && dealt.cards.is_none());
+        let lacking = |seat| table.dealt(seat).is_some_and(|dealt| dealt.live && table.lacks_cards(dealt));
         let lacking = self.seats(table, lacking);
         let seat = self.random.one_of(&lacking)?;
         let first = self.fresh_card(hand);

@@ -4,6 +4,9 @@ use crate::damage::damaged;
 use second::random::Random;
 use second::text::SHEET_KEYS;
 
+/// The values of the sheet's lines, in their order.
+type SheetNumbers = [u64; SHEET_KEYS.len()];
+
 /// How large the stacks are that players sit down with.
 #[derive(Clone, Copy, PartialEq)]
 pub enum Stacks {
@@ -41,6 +44,8 @@ pub struct Profile {
     pub damage: u64,
     pub bad_sheet: u64,
     pub cut_end: u64,
+    /// Four hole cards.
+    pub four: u64,
 }
 
 const CASH: Profile = Profile {
@@ -59,9 +64,10 @@ const CASH: Profile = Profile {
     damage: 1,
     bad_sheet: 0,
     cut_end: 20,
+    four: 0,
 };
 
-pub static PROFILES: [Profile; 9] = [
+pub static PROFILES: [Profile; 10] = [
     CASH,
     Profile { name: "tiny", stacks: Stacks::Tiny, all_in: 20, fold: 5, churn: 30, ..CASH },
     Profile {
@@ -88,15 +94,17 @@ pub static PROFILES: [Profile; 9] = [
         ..CASH
     },
     Profile { name: "deserters", least_seats: 3, raise: 45, dead: 15, churn: 80, fold: 35, ..CASH },
-    Profile { name: "refusals", stacks: Stacks::Any, fault: 60, damage: 5, ..CASH },
+    Profile { name: "refusals", stacks: Stacks::Any, fault: 60, damage: 5, four: 30, ..CASH },
     Profile { name: "damage", fault: 5, damage: 60, cut_end: 100, ..CASH },
-    Profile { name: "sheets", bad_sheet: 80, damage: 10, ..CASH },
+    Profile { name: "sheets", bad_sheet: 80, damage: 10, four: 30, ..CASH },
+    Profile { name: "four", fault: 10, fold: 6, raise: 10, four: 100, ..CASH },
 ];
 
 impl Profile {
     /// The sheet's text: good, out of range, or with damaged bytes.
-    pub fn sheet(&self, random: &mut Random) -> Vec<u8> {
-        let good = self.sheet_numbers(random);
+    pub fn sheet(&self, seats: Option<u64>, random: &mut Random) -> Vec<u8> {
+        let mut good = self.sheet_numbers(random);
+        good[0] = seats.unwrap_or(good[0]);
         let bad = random.chance(self.bad_sheet);
         let numbers = if bad && random.chance(50) { out_of_range(good, random) } else { good };
         let lines = SHEET_KEYS.iter().zip(numbers).map(|(key, number)| format!("{key}={number}\n"));
@@ -108,20 +116,21 @@ impl Profile {
     }
 
     /// Good numbers, the extremes as likely as all the rest.
-    fn sheet_numbers(&self, random: &mut Random) -> [u64; 6] {
+    fn sheet_numbers(&self, random: &mut Random) -> SheetNumbers {
         let some_seats = random.between(self.least_seats, 10);
         let seats = random.pick(&[self.least_seats, 10, some_seats]);
         let (small, big) = self.blinds(random);
         let some_step = random.of_any_size(1_000);
         let step = random.pick(&[1, 1_000, 5, some_step, some_step]);
+        let game = if random.chance(self.four) { 4 } else { 2 };
         // A high commission would keep a table from ever reaching the limit.
         if self.stacks == Stacks::Million {
-            return [seats, small, big, random.between(0, 4), 1_000, step];
+            return [seats, small, big, random.between(0, 4), 1_000, step, game];
         }
         let (some_rate, some_cap) = (random.between(1, 99), random.of_any_size(1_000_000));
         let rate = random.pick(&[0, 100, 50, some_rate, some_rate]);
         let cap = random.pick(&[0, 1_000_000, 15, some_cap, some_cap]);
-        [seats, small, big, rate, cap, step]
+        [seats, small, big, rate, cap, step, game]
     }
 
     fn blinds(&self, random: &mut Random) -> (u64, u64) {
@@ -160,17 +169,20 @@ impl Profile {
 }
 
 /// One number put just outside its range.
-fn out_of_range(good: [u64; 6], random: &mut Random) -> [u64; 6] {
-    let [seats, small, big, rate, cap, step] = good;
+fn out_of_range(good: SheetNumbers, random: &mut Random) -> SheetNumbers {
+    let [seats, small, big, rate, cap, step, game] = good;
     random.pick(&[
-        [1, small, big, rate, cap, step],
-        [11, small, big, rate, cap, step],
-        [seats, 0, big, rate, cap, step],
-        [seats, big + 1, big, rate, cap, step],
-        [seats, small, 10_001, rate, cap, step],
-        [seats, small, big, 101, cap, step],
-        [seats, small, big, rate, 1_000_001, step],
-        [seats, small, big, rate, cap, 0],
-        [seats, small, big, rate, cap, 1_001],
+        [1, small, big, rate, cap, step, game],
+        [11, small, big, rate, cap, step, game],
+        [seats, 0, big, rate, cap, step, game],
+        [seats, big + 1, big, rate, cap, step, game],
+        [seats, small, 10_001, rate, cap, step, game],
+        [seats, small, big, 101, cap, step, game],
+        [seats, small, big, rate, 1_000_001, step, game],
+        [seats, small, big, rate, cap, 0, game],
+        [seats, small, big, rate, cap, 1_001, game],
+        [seats, small, big, rate, cap, step, 0],
+        [seats, small, big, rate, cap, step, 3],
+        [seats, small, big, rate, cap, step, 5],
     ])
 }
