@@ -23,7 +23,7 @@ use Rattle.cards.proofs.Scaled.{carried-at, carried-ordered, same-holdi
 use Rattle.cards.proofs.Steps.{same-list}
 use Rattle.laws.proofs.Five.{five-list}
 
-unfoldable dense : List Bool → List ℕ
+unfoldable pub dense : List Bool → List ℕ
 dense [] = 1 ∷ []
 dense (b ∷ bs) = pick b (getD (dense bs) 0 0) (suc (getD (dense bs) 0 0)) ∷ dense bs
 
@@ -43,7 +43,7 @@ unfolding dense
 dense-top [] = (omega arith, tt)
 dense-top (b ∷ bs) = (omega arith, most-up _ _ (dense bs) (pick-up b (getD (dense bs) 0 0)) (dense-top bs))
 
-abbrev Strict : (ℕ → ℕ) → Type 0
+abbrev pub Strict : (ℕ → ℕ) → Type 0
 Strict f = (x y : ℕ) → x < y → f x < f y
 
 -- f up to h, and from x on behind it
@@ -109,7 +109,7 @@ carry-higher x y l ds h a c =
     }
 
 -- ranks that fall are carried over from those of their pattern without gaps
-carry : (x : ℕ) (l : List ℕ) → Falling (x ∷ l) → All (λ y. 0 < y) (x ∷ l) → Carries (dense (neighbours (x ∷ l))) (x ∷ l)
+pub carry : (x : ℕ) (l : List ℕ) → Falling (x ∷ l) → All (λ y. 0 < y) (x ∷ l) → Carries (dense (neighbours (x ∷ l))) (x ∷ l)
 unfolding dense neighbours
 carry x [] f a = record {
   by = extend (λ k. k) 0 x;
@@ -125,11 +125,11 @@ carry x (y ∷ l) f a = go (eqb x y) refl (carry y l (f .1) (a .1)) (dense-top (
     go false e c t = rw e (carry-higher x y l (dense (neighbours (y ∷ l))) (omega (arith, f .0, eqb-false x y e)) t c)
 
 -- a test of every list of k tests
-allOf : ℕ → (List Bool → Bool) → Bool
+unfoldable pub allOf : ℕ → (List Bool → Bool) → Bool
 allOf zero g = g []
 allOf (suc k) g = both (allOf k (λ bs. g (true ∷ bs))) (allOf k (λ bs. g (false ∷ bs)))
 
-each-of : (k : ℕ) (g : List Bool → Bool) → allOf k g ≡ true → (bs : List Bool) → length bs ≡ k → g bs ≡ true
+pub each-of : (k : ℕ) (g : List Bool → Bool) → allOf k g ≡ true → (bs : List Bool) → length bs ≡ k → g bs ≡ true
 unfolding allOf
 each-of zero g e [] n = e
 each-of zero g e (b ∷ bs) n = absurd (omega arith)
@@ -152,7 +152,7 @@ rows-right : allOf 4 rightRow ≡ true
 unfolding allOf rightRow dense binary ranksAt before put inOrder ordered classOf
 rows-right = refl
 
-neighbours-long : (x : ℕ) (l : List ℕ) → length (neighbours (x ∷ l)) ≡ length l
+pub neighbours-long : (x : ℕ) (l : List ℕ) → length (neighbours (x ∷ l)) ≡ length l
 unfolding neighbours
 neighbours-long x [] = refl
 neighbours-long x (y ∷ l) = let ih = neighbours-long y l in omega (arith, ih)

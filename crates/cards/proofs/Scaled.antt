@@ -15,7 +15,7 @@ use Rattle.cards.specs.Cards.{before, put, inOrder, ordered}
 use Rattle.cards.specs.Hands.{holdings}
 
 module _ (f : ℕ → ℕ) (zero-stays : f 0 ≡ 0) (strict : (x y : ℕ) → x < y → f x < f y) where
-  same-eqb : (x y : ℕ) → eqb (f x) (f y) ≡ eqb x y
+  pub same-eqb : (x y : ℕ) → eqb (f x) (f y) ≡ eqb x y
   same-eqb x y = go (tri x y)
     where
       go : Tri x y → eqb (f x) (f y) ≡ eqb x y
@@ -31,7 +31,7 @@ module _ (f : ℕ → ℕ) (zero-stays : f 0 ≡ 0) (strict : (x y : ℕ) → x 
       go (level a) = le-leb (f x) (f y) (omega (arith, ap f a)) ∙ sym (le-leb x y (omega arith))
       go (over a) = lt-leb (f x) (f y) (strict y x a) ∙ sym (lt-leb x y a)
 
-  same-count : (x : ℕ) (l : List ℕ) → count (f x) (map f l) ≡ count x l
+  pub same-count : (x : ℕ) (l : List ℕ) → count (f x) (map f l) ≡ count x l
   same-count x [] = refl
   same-count x (y ∷ l) = let ih = same-count x l in omega (arith, ih, ap one (same-eqb x y))
 

@@ -1,0 +1,4 @@
+-- Document 01, "Hand order", read by counting.
+
+pub mod HandOrder
+pub mod Kept
