@@ -1,3 +1,5 @@
 pub mod Fits
-pub mod Front
-pub mod Paid
+pub mod Reading
+pub mod Settling
+pub mod Slots
+pub mod Adding
