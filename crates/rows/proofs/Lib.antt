@@ -3,3 +3,5 @@ pub mod Reading
 pub mod Settling
 pub mod Slots
 pub mod Adding
+pub mod Lending
+pub mod Paid

@@ -1,21 +1,22 @@
 -- What the walks over lent rows end with: the answer of the checker over the columns, and the rows with the counts after it, are the checker's answer for the
 -- rows and the rows lowered where it accepts; the proposer's answer and list likewise. For any number of rows, too many as well. Assumes nothing.
+-- within a list it does not matter what stands past its end
 use Prim.Native.Nat.{ℕ, zero, suc, _-_, _≤_, _<_}
 use mathlib.Core.Path.{_≡_, refl, sym, ap, _∙_}
-use mathlib.Core.Bool.{Bool, true, false}
+use mathlib.Core.Bool.{true, false}
 use mathlib.Core.Logic.{⊎-elim}
 use mathlib.Core.List.{List, [], _∷_, _++_}
 use native.Mathlib.Nat.{le-of-suc-le-suc, not-suc-le-zero}
 use native.Mathlib.Omega.{arith}
-use lib.Dec.{leb, eqb}
-use lib.ListN.{length, getD, take, drop, length-map, List·getD-map, List·getD-append}
+use lib.Dec.{eqb}
+use lib.ListN.{length, getD, drop, length-map, List·getD-map, List·getD-append}
 use lib.Seq.{ext-getD}
 use borrow.Author.Tests.{le-leb, lt-leb, eqb-true, eqb-false}
 use Rattle.laws.specs.Tests.{pick}
 use Rattle.laws.proofs.Tests.{test}
 use Rattle.laws.proofs.Sums.{le-or-lt}
 use Rattle.tray.specs.Counting.{eachBy}
-use Rattle.tray.specs.Proposal.{mostRows, accepted, outOfBounds, judged, countsAfter, takenFrom, lowered}
+use Rattle.tray.specs.Proposal.{mostRows, outOfBounds, judged, countsAfter, takenFrom, lowered}
 use Rattle.tray.proofs.Front.{each-long, each-at}
 use Rattle.tray.proofs.Within.{fits-many}
 use Rattle.tray.proofs.Judging.{judged-2, after-0, after-other}
@@ -26,7 +27,6 @@ use Rattle.rows.specs.Rows.{noRow, worthsOf, countsOf, lower, lowerAll, 
 use Rattle.rows.specs.Columns.{columnsTo, settledOf, recount, proposedCode, proposedList}
 use Rattle.rows.proofs.Reading.{counts-column, column-at, column-past, worths-read, counts-read}
 
--- within a list it does not matter what stands past its end
 pub any-default : (l : List ℕ) (i d e : ℕ) → i < length l → getD l i d ≡ getD l i e
 any-default [] i d e h = absurd (not-suc-le-zero h)
 any-default (x ∷ l) zero d e h = refl
@@ -113,12 +113,14 @@ module _ (rows : List Row) (paid p : List ℕ) where
   many-rows : mostRows < n → Ends (settledOf (columnsTo n rows) n paid p)
   unfolding judgedRows rowsAfter
   many-rows h =
-      rw (lt-leb n mostRows h)
-      (many h, kept (columnsTo n rows .counts) (λ i l. ap (λ t. getD t i (getD rows i noRow .count)) (counts-column rows n) ∙
-      ⊎-elim
-      (λ (o : mostRows ≤ i). column-past rows (λ (r : Row). r .count) n i (getD rows i noRow .count) o)
-      (λ (o : i < mostRows). column-at rows (λ (r : Row). r .count) n i (getD rows i noRow .count) l o)
-      (le-or-lt mostRows i)))
+      rw (lt-leb n mostRows h) (
+        many h,
+        kept (columnsTo n rows .counts) (λ i l. ap (λ t. getD t i (getD rows i noRow .count)) (counts-column rows n) ∙
+            ⊎-elim
+            (λ (o : mostRows ≤ i). column-past rows (λ (r : Row). r .count) n i (getD rows i noRow .count) o)
+            (λ (o : i < mostRows). column-at rows (λ (r : Row). r .count) n i (getD rows i noRow .count) l o)
+            (le-or-lt mostRows i)),
+      )
 
   pub rows-settled : Ends (settledOf (columnsTo n rows) n paid p)
   rows-settled = ⊎-elim few-rows many-rows (le-or-lt n mostRows)

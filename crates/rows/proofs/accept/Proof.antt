@@ -6,7 +6,7 @@ use mathlib.Core.Path.{_≡_, refl, sym, _∙_, ap, subst}
 use Prim.Native.Nat.{ℕ, suc, _+_, _-_, _*_, _≤_, _<_, _^_, zero-le}
 use native.Mathlib.Omega.{arith}
 use mathlib.Core.Bool.{Bool, true, false}
-use mathlib.Core.Logic.{_⊎_, inl, inr}
+use mathlib.Core.Logic.{inl, inr}
 use mathlib.Core.WellFounded.{WellFounded, InvImage·wf}
 use mathlib.Core.List.{List, [], _∷_}
 use lib.Dec.{ltb, lit<}
@@ -56,7 +56,7 @@ use Rattle.rows.specs.declared.Row.{Row}
 use Rattle.rows.specs.declared.Columns.{Columns}
 use Rattle.rows.specs.declared.Answer.{Answer}
 use Rattle.rows.specs.Rows.{noRow}
-use Rattle.rows.specs.Columns.{noColumns, withRow, columnsTo, settledOf, recount}
+use Rattle.rows.specs.Columns.{noColumns, columnsTo, settledOf, recount}
 use Rattle.rows.proofs.Fits.{fits8}
 use Rattle.rows.proofs.Settling.{rows-settled}
 use Rattle.rows.proofs.Adding.{cells, Celled, cells-are, celled, NoColumns, to-none, goes-none, none-said, WithRow, row-args, to-row, goes-row, row-said}

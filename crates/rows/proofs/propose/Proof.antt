@@ -6,7 +6,7 @@ use mathlib.Core.Path.{_≡_, refl, sym, _∙_, subst}
 use Prim.Native.Nat.{ℕ, suc, _+_, _-_, _*_, _≤_, _<_, _^_, zero-le}
 use native.Mathlib.Omega.{arith}
 use mathlib.Core.Bool.{Bool, true, false}
-use mathlib.Core.Logic.{_⊎_, inl, inr}
+use mathlib.Core.Logic.{inl, inr}
 use mathlib.Core.WellFounded.{WellFounded, InvImage·wf}
 use mathlib.Core.List.{List, [], _∷_}
 use lib.Dec.{ltb, lit<}
@@ -53,7 +53,7 @@ use Rattle.laws.proofs.Tests.{test}
 use Rattle.rows.specs.declared.Row.{Row}
 use Rattle.rows.specs.declared.Columns.{Columns}
 use Rattle.rows.specs.Rows.{noRow, proposingRows, listOf}
-use Rattle.rows.specs.Columns.{noColumns, withRow, columnsTo, proposedCode, proposedList}
+use Rattle.rows.specs.Columns.{noColumns, columnsTo, proposedCode, proposedList}
 use Rattle.rows.proofs.Fits.{fits8}
 use Rattle.rows.proofs.Settling.{rows-proposed, rows-listed}
 use Rattle.rows.proofs.Adding.{cells, Celled, cells-are, celled, NoColumns, to-none, goes-none, none-said, WithRow, row-args, to-row, goes-row, row-said}

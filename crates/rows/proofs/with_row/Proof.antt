@@ -1,35 +1,27 @@
+-- `rows::with_row` meets its contract: past the sixteenth place nothing is kept. Assumes nothing.
 use lib.ListN.{length}
 use mathlib.Core.Path.{_≡_}
-use Prim.Native.Nat.{ℕ}
 use native.Mathlib.Omega.{arith}
 use Rattle.rows.proofs.Slots.{no-slot}
 use borrow.Author.Needs.{needs}
 use Rattle.rows.proofs.with_row.Statement.{statement}
 use Rattle.rows.proofs.with_row.Tie as tie
-use Rattle.rows.proofs.with_row.Reads as reads
-use Rattle.rows.proofs.with_row.Lts as lts
 
--- src/lib.rt:38:9
 mul-d : tie.Need-mul-d
 mul-d c = search needs
 
--- src/lib.rt:38:9
 element-write-d : tie.Need-element-write-d
 element-write-d c = search needs
 
--- src/lib.rt:39:9
 mul-d-2 : tie.Need-mul-d-2
 mul-d-2 c = search needs
 
--- src/lib.rt:39:9
 element-write-d-2 : tie.Need-element-write-d-2
 element-write-d-2 c = search needs
 
--- src/lib.rt:33:1
 returns : tie.Need-returns
 returns c = search needs
 
--- src/lib.rt:33:1
 returns-2 : tie.Need-returns-2
 returns-2 c = let w : length ((c .before) .args .c .worths) ≡ 16 = search needs in
     let k : length ((c .before) .args .c .counts) ≡ 16 = search needs in
