@@ -1,3 +1,7 @@
 pub mod Fits
-pub mod Front
+pub mod Reading
+pub mod Settling
+pub mod Slots
+pub mod Adding
+pub mod Lending
 pub mod Paid

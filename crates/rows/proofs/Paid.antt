@@ -1,65 +1,66 @@
--- `settle` over the row structs is the checker's second half over the counts: with what a proposal takes from each row as its numbers, every row holds
--- its number exactly if `holdsAll` says so of the counts, and the rows' counts afterwards are the counts lowered; worths stay. For any numbers of rows
--- and sittings. Assumes nothing.
---     rows-hold       16 exactly where the checker finds a row that does not hold what is taken from it
---     rows-lowered    each row less by its column's sum, where every row holds it
---     rows-same       else each row as it was
-use Prim.Native.Nat.{ℕ, zero, suc, _-_, _<_}
-use mathlib.Core.Path.{_≡_, refl, sym, ap, _∙_}
-use mathlib.Core.Bool.{Bool, true, false, cond}
-use mathlib.Core.List.{List, [], _∷_, map}
-use native.Mathlib.Nat.{le-of-suc-le-suc, not-suc-le-zero}
-use native.Mathlib.Omega.{arith}
-use lib.Dec.{leb}
-use lib.ListN.{length, getD, length-map, List·getD-map}
-use Rattle.laws.specs.Tests.{both}
-use Rattle.tray.specs.Counting.{allTo, listTo}
-use Rattle.tray.specs.Proposal.{takenFrom, holdsAll}
-use Rattle.tray.proofs.Sums.{all-same, list-at}
+-- The promises of the checker and the proposer over a lent slice of rows, by those over the rows' worths and counts. For any numbers of rows and sittings.
+--     rows-accepts-iff       accepted exactly if all is within its bounds, every sitting is paid exactly its `paid`, and no row gives more than it holds
+--     rows-refused-iff       16 exactly if all is within its bounds and the one or the other fails
+--     rows-bounds-iff        2 exactly if something is out of its bounds
+--     rows-lowered           accepting lowers each row's count by just what is taken from it, and its worth stays
+--     rows-refused-same      any other answer leaves each row as it was
+--     rows-proposed-accepted a proposal that the proposer writes is accepted
+--     rows-seventeen-iff     17 exactly if all is within its bounds and something stays unpaid
+-- Assumes nothing.
+use Prim.Native.Nat.{ℕ, _<_}
+use mathlib.Core.Path.{_≡_, ap, _∙_}
+use mathlib.Core.List.{List}
+use lib.ListN.{length, getD}
+use borrow.Author.Tests.{eq-eqb, ne-eqb}
+use Rattle.laws.specs.Tests.{pick}
+use Rattle.tray.specs.Proposal.{accepted, refused, outOfBounds, takenFrom}
+use Rattle.tray.proofs.Front.{each-at}
+use Rattle.tray.proofs.Within.{Within}
+use Rattle.tray.proofs.Accepts.{Exactly, accepts-iff, refused-iff, bounds-iff}
+use Rattle.proposer.specs.Proposer.{proposal, written, unpaid}
+use Rattle.proposer.proofs.Payment.{Unpaid, proposed-accepted, seventeen-iff}
 use Rattle.rows.specs.declared.Row.{Row}
-use Rattle.rows.specs.Rows.{lower, lowerAll, noRow, enoughTo, enough, settled}
+use Rattle.rows.specs.Rows.{noRow, worthsOf, countsOf, lower, lowerAll, judgedRows, rowsAfter, proposingRows}
 
--- the counts of the rows
-abbrev pub countsOf : List Row → List ℕ
-countsOf rs = map (λ (r : Row). r .count) rs
+module _ (rows : List Row) (paid p : List ℕ) where
+  -- within the bounds, and paid exactly
+  abbrev pub InBounds : Type 0
+  InBounds = Within (worthsOf rows) (countsOf rows) (length paid) (length p)
 
--- what a proposal takes from each row
-abbrev pub takenEach : List Row → ℕ → List ℕ → List ℕ
-takenEach rs n p = listTo (length rs) (takenFrom (length rs) n p)
+  abbrev pub Exact : Type 0
+  Exact = Exactly (worthsOf rows) (countsOf rows) paid p
 
-cond-both : (a b : Bool) → cond a b false ≡ both a b
-cond-both true b = refl
-cond-both false b = refl
+  pub rows-accepts-iff : (judgedRows rows paid p ≡ accepted → InBounds × Exact) × (InBounds × Exact → judgedRows rows paid p ≡ accepted)
+  unfolding judgedRows
+  rows-accepts-iff = accepts-iff (worthsOf rows) (countsOf rows) paid p
 
-enough-all : (i : ℕ) (rs : List Row) (ks : List ℕ) → enoughTo i rs ks ≡ allTo i (λ k. leb (getD ks k 0) (getD rs k noRow .count))
-enough-all zero rs ks = refl
-enough-all (suc i) rs ks =
-    cond-both (enoughTo i rs ks) (leb (getD ks i 0) (getD rs i noRow .count))
-    ∙ ap (λ t. both t (leb (getD ks i 0) (getD rs i noRow .count))) (enough-all i rs ks)
+  pub rows-refused-iff : (judgedRows rows paid p ≡ refused → InBounds × (Exact → ⊥)) × (InBounds × (Exact → ⊥) → judgedRows rows paid p ≡ refused)
+  unfolding judgedRows
+  rows-refused-iff = refused-iff (worthsOf rows) (countsOf rows) paid p
 
-pub rows-hold : (rs : List Row) (n : ℕ) (p : List ℕ) → enough rs (takenEach rs n p) ≡ holdsAll (countsOf rs) n p
-unfolding holdsAll
-rows-hold rs n p =
-    let m : length (countsOf rs) ≡ length rs = length-map rs (λ (r : Row). r .count) in
-    enough-all (length rs) rs (takenEach rs n p)
-    ∙ all-same (length rs) (λ k. leb (getD (takenEach rs n p) k 0) (getD rs k noRow .count)) (λ k. leb (takenFrom (length (countsOf rs)) n p k) (getD (countsOf rs) k 0))
-    (λ k l. ap (λ t. leb t (getD rs k noRow .count)) (list-at (length rs) (takenFrom (length rs) n p) 0 k l ∙ ap (λ t. takenFrom t n p k) (sym m))
-    ∙ ap (λ t. leb (takenFrom (length (countsOf rs)) n p k) t) (sym (List·getD-map (λ (r : Row). r .count) rs k noRow)))
-    ∙ ap (λ t. allTo t (λ k. leb (takenFrom (length (countsOf rs)) n p k) (getD (countsOf rs) k 0))) (sym m)
+  pub rows-bounds-iff : (judgedRows rows paid p ≡ outOfBounds → InBounds → ⊥) × ((InBounds → ⊥) → judgedRows rows paid p ≡ outOfBounds)
+  unfolding judgedRows
+  rows-bounds-iff = bounds-iff (worthsOf rows) (countsOf rows) paid p
 
-lower-at : (rs : List Row) (ks : List ℕ) (i : ℕ) → i < length rs → getD (lowerAll rs ks) i noRow ≡ lower (getD rs i noRow) (getD ks i 0)
-lower-at [] ks i l = absurd (not-suc-le-zero l)
-lower-at (r ∷ rs) [] zero l = refl
-lower-at (r ∷ rs) (k ∷ ks) zero l = refl
-lower-at (r ∷ rs) [] (suc i) l = lower-at rs [] i (le-of-suc-le-suc l)
-lower-at (r ∷ rs) (k ∷ ks) (suc i) l = lower-at rs ks i (le-of-suc-le-suc l)
+  pub rows-lowered : judgedRows rows paid p ≡ accepted → (i : ℕ) → i < length rows
+      → getD (rowsAfter (judgedRows rows paid p) (length paid) p rows) i noRow ≡ lower (getD rows i noRow) (takenFrom (length rows) (length paid) p i)
+  unfolding rowsAfter
+  rows-lowered e i l =
+      ap (λ t. getD (pick t (lowerAll (length paid) p rows) rows) i noRow) (eq-eqb (judgedRows rows paid p) 0 e)
+      ∙ each-at noRow (λ j r. lower r (takenFrom (length rows) (length paid) p j)) rows i l
 
-pub rows-lowered : (rs : List Row) (n : ℕ) (p : List ℕ) → enough rs (takenEach rs n p) ≡ true → (i : ℕ) → i < length rs
-    → getD (settled rs (takenEach rs n p)) i noRow ≡ lower (getD rs i noRow) (takenFrom (length rs) n p i)
-rows-lowered rs n p e i l =
-    ap (λ t. getD (cond t (lowerAll rs (takenEach rs n p)) rs) i noRow) e
-    ∙ lower-at rs (takenEach rs n p) i l
-    ∙ ap (λ k. lower (getD rs i noRow) k) (list-at (length rs) (takenFrom (length rs) n p) 0 i l)
+  pub rows-refused-same : (judgedRows rows paid p ≡ accepted → ⊥) → rowsAfter (judgedRows rows paid p) (length paid) p rows ≡ rows
+  unfolding rowsAfter
+  rows-refused-same h = ap (λ t. pick t (lowerAll (length paid) p rows) rows) (ne-eqb (judgedRows rows paid p) 0 h)
 
-pub rows-same : (rs : List Row) (ks : List ℕ) → enough rs ks ≡ false → settled rs ks ≡ rs
-rows-same rs ks e = ap (λ t. cond t (lowerAll rs ks) rs) e
+module _ (rows : List Row) (paid : List ℕ) where
+  pub rows-proposed-accepted : (long : ℕ) → proposingRows rows paid long ≡ written → judgedRows rows paid (proposal (worthsOf rows) (countsOf rows) paid) ≡ accepted
+  unfolding proposingRows judgedRows
+  rows-proposed-accepted long e = proposed-accepted (worthsOf rows) (countsOf rows) paid long e
+
+  abbrev pub InBoundsFor : ℕ → Type 0
+  InBoundsFor long = Within (worthsOf rows) (countsOf rows) (length paid) long
+
+  pub rows-seventeen-iff : (long : ℕ) → (proposingRows rows paid long ≡ unpaid → InBoundsFor long × Unpaid (worthsOf rows) (countsOf rows) paid) × (InBoundsFor long × Unpaid (worthsOf rows) (countsOf rows) paid → proposingRows rows paid long ≡ unpaid)
+  unfolding proposingRows
+  rows-seventeen-iff long = seventeen-iff (worthsOf rows) (countsOf rows) paid long

@@ -1,44 +1,44 @@
--- The tray as a list of rows, each a chip's worth and a count (request No. 13): what is to be taken from each row, whether every row holds it, and the
--- rows lowered by just that much. Assumes nothing.
-use Prim.Native.Nat.{ℕ, zero, suc, _-_}
-use mathlib.Core.Bool.{Bool, true, false, cond}
-use mathlib.Core.List.{List, [], _∷_}
-use lib.ListN.{length, getD}
-use lib.Dec.{leb}
-use Rattle.tray.specs.Proposal.{accepted, refused}
+-- The tray as a list of rows, each a chip's worth and a count (request No. 13): the checker and the proposer over rows are those over the rows' worths and
+-- counts, and where a proposal is accepted each row is lowered by just what it takes. Assumes nothing.
+use Prim.Native.Nat.{ℕ, _-_}
+use mathlib.Core.List.{List, map}
+use lib.ListN.{length}
+use lib.Dec.{eqb}
+use Rattle.laws.specs.Tests.{pick}
+use Rattle.tray.specs.Counting.{eachBy}
+use Rattle.tray.specs.Proposal.{accepted, judged, takenFrom}
+use Rattle.proposer.specs.Proposer.{proposing, listAfter}
 use Rattle.rows.specs.declared.Row.{Row}
-
--- a row with its count lowered by k; the subtraction stops at 0
-abbrev pub lower : Row → ℕ → Row
-lower r k = record { worth = r .worth; count = r .count - k }
 
 -- the row that stands past the end of a list
 abbrev pub noRow : Row
 noRow = record { worth = 0; count = 0 }
 
--- each row lowered by the number in its place; a row that has none is lowered by 0
-abbrev pub lowerAll : List Row → List ℕ → List Row
-lowerAll [] ks = []
-lowerAll (r ∷ rs) [] = lower r 0 ∷ lowerAll rs []
-lowerAll (r ∷ rs) (k ∷ ks) = lower r k ∷ lowerAll rs ks
+abbrev pub worthsOf : List Row → List ℕ
+worthsOf rows = map (λ (r : Row). r .worth) rows
 
--- ok, and the row r has k to give
-abbrev pub alsoHolds : Bool → Row → ℕ → Bool
-alsoHolds ok r k = cond ok (leb k (r .count)) false
+abbrev pub countsOf : List Row → List ℕ
+countsOf rows = map (λ (r : Row). r .count) rows
 
-abbrev pub lowerIf : Bool → Row → ℕ → Row
-lowerIf ok r k = cond ok (lower r k) r
+-- a row with its count lowered by k; the subtraction stops at 0
+abbrev pub lower : Row → ℕ → Row
+lower r k = record { worth = r .worth; count = r .count - k }
 
-abbrev pub codeFor : Bool → ℕ
-codeFor ok = cond ok accepted refused
+-- the checker's answer
+unfoldable pub judgedRows : List Row → List ℕ → List ℕ → ℕ
+judgedRows rows paid p = judged (worthsOf rows) (countsOf rows) paid p
 
--- each of the first i rows has the number in its place to give
-abbrev pub enoughTo : ℕ → List Row → List ℕ → Bool
-enoughTo zero rs ks = true
-enoughTo (suc i) rs ks = alsoHolds (enoughTo i rs ks) (getD rs i noRow) (getD ks i 0)
+-- each row lowered by what a proposal for so many sittings takes from it
+abbrev pub lowerAll : ℕ → List ℕ → List Row → List Row
+lowerAll sittings p rows = eachBy (λ i r. lower r (takenFrom (length rows) sittings p i)) rows
 
-abbrev pub enough : List Row → List ℕ → Bool
-enough rs ks = enoughTo (length rs) rs ks
+-- the rows after a proposal with this answer
+unfoldable pub rowsAfter : ℕ → ℕ → List ℕ → List Row → List Row
+rowsAfter code sittings p rows = pick (eqb code accepted) (lowerAll sittings p rows) rows
 
-abbrev pub settled : List Row → List ℕ → List Row
-settled rs ks = cond (enough rs ks) (lowerAll rs ks) rs
+-- the proposer's answer, where the lent list is so long, and the lent list afterwards
+unfoldable pub proposingRows : List Row → List ℕ → ℕ → ℕ
+proposingRows rows paid long = proposing (worthsOf rows) (countsOf rows) paid long
+
+unfoldable pub listOf : ℕ → List Row → List ℕ → List ℕ → List ℕ
+listOf code rows paid old = listAfter code (worthsOf rows) (countsOf rows) paid old
