@@ -3,6 +3,7 @@
 
 pub mod answer;
 pub mod betting;
+pub mod book;
 pub mod clerk;
 pub mod crown;
 pub mod entries;

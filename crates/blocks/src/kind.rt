@@ -99,7 +99,7 @@ pub fn kind_of(w: &[u8]) -> Number
 }
 
 // The entry of the k-th kind.
-fn entry_at(k: usize, seat: u32, a: u32, b: u32) -> Entry
+pub fn entry_at(k: usize, seat: u32, a: u32, b: u32) -> Entry
     requires { ⌜ k < 12 ⌝ }
     ensures { λ r. ⌜ r ≡ entryAt k seat a b ⌝ }
 {

@@ -8,8 +8,11 @@ mod reader;
 pub use front::Front;
 pub use front::front_rest;
 pub use front::read_front;
+pub use kind::entry_at;
 pub use kind::entry_of;
 pub use reader::BLOCK_LINES;
+pub use reader::block_from;
+pub use reader::line_kind;
 pub use reader::read_block;
 pub use reader::rest;
 

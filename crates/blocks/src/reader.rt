@@ -22,7 +22,7 @@ pub fn rest(log: &[u8]) -> &[u8]
 }
 
 // The kind of the log's first line, which ends at e.
-fn line_kind(log: &[u8], e: usize) -> Number
+pub fn line_kind(log: &[u8], e: usize) -> Number
     requires { ⌜ e ≡ lineLen (now log) ⌝ }
     ensures { λ r. ⌜ r ≡ lineKind (now (log .entry)) ⌝ }
 {
@@ -30,7 +30,7 @@ fn line_kind(log: &[u8], e: usize) -> Number
 }
 
 // Five readings make a block where none of them is bad.
-fn block_from(n: Number, kind: Number, seat: Number, a: Number, b: Number) -> Block
+pub fn block_from(n: Number, kind: Number, seat: Number, a: Number, b: Number) -> Block
     ensures { λ r. ⌜ r ≡ blockFrom n kind seat a b ⌝ }
 {
     let Number::Value(n1) = n else {

@@ -65,7 +65,7 @@ fn payout_shown(p: table::table::Payout) -> Payout
 }
 
 // What an answer shows of a table, and of what a settle that was taken paid.
-fn shown_of(n: u32, code: u8, t: Table, paid: table::table::Payout) -> Shown
+pub fn shown_of(n: u32, code: u8, t: Table, paid: table::table::Payout) -> Shown
     requires { ⌜ Sound t × (n < 10 ^ 9) × SmallPaid paid × Closed t paid ⌝ }
     ensures { λ r. ⌜ (r ≡ shownOf n code t paid) × Small r ⌝ }
 {
@@ -93,7 +93,7 @@ pub struct Judged {
     pub payout: table::table::Payout,
 }
 
-fn refused(t: Table, n: u32, code: u8) -> Judged
+pub fn refused(t: Table, n: u32, code: u8) -> Judged
     ensures { λ r. ⌜ r ≡ refusedAt t n code ⌝ }
 {
     let none = table::settle::no_payout();
@@ -141,7 +141,7 @@ fn judge_parsed(t: Table, n: u32, p: Parsed) -> Judged
     }
 }
 
-fn judge_block(t: Table, b: Block) -> Judged
+pub fn judge_block(t: Table, b: Block) -> Judged
     requires { ⌜ Sound t × (numberOfBlock b < 10 ^ 9) ⌝ }
     ensures { λ r. ⌜ (r ≡ judgeBlock t b) × Sound (r .table) × SmallPaid (r .payout) × (r .n < 10 ^ 9) ⌝ }
 {

@@ -56,6 +56,30 @@ badSheet = 11
 abbrev pub noRoom : ℕ
 noRoom = 12
 
+-- ---- the numbers of the change requests
+
+-- No. 12: a correction where the whole corrected log, read afresh, refuses the new entry or a later one
+abbrev pub notRight : ℕ
+notRight = 13
+
+-- No. 12: a correction at a table that shares a pool
+abbrev pub sharesPool : ℕ
+sharesPool = 14
+
+-- No. 12: 4,096 entries are stored, or a lent buffer lacks room for the entry's record or row
+abbrev pub notStored : ℕ
+notStored = 15
+
+-- No. 13: a proposal that does not pay exactly, or takes more from a row than it holds
+abbrev pub notExact : ℕ
+notExact = 16
+
+-- No. 13: the proposer leaves something unpaid
+abbrev pub unpaid : ℕ
+unpaid = 17
+
+-- ---- document 01's table
+
 -- the table's first column, from the top
 abbrev pub column : List ℕ
 column =

@@ -1,0 +1,23 @@
+use Rattle.amends.proofs.Judging.{ended-is}
+use borrow.Author.Needs.{needs}
+use Rattle.amends.proofs.ended.Statement.{statement}
+use Rattle.amends.proofs.ended.Tie as tie
+use Rattle.amends.proofs.ended.Reads as reads
+use Rattle.amends.proofs.ended.Lts as lts
+use Rattle.text.proofs.line.after_lines.Reads as after-lines-reads
+use Rattle.text.proofs.line.line_end.Reads as line-end-reads
+
+-- src/lib.rt:74:9
+after-lines-requires : tie.Need-after-lines-requires
+after-lines-requires c κs = search needs
+
+-- src/lib.rt:75:5
+line-end-requires : tie.Need-line-end-requires
+line-end-requires c κs = search needs
+
+-- src/lib.rt:71:1
+returns : tie.Need-returns
+returns c = ended-is ((c .before .before .before) .args .lines .now) (c .before .after-lines .ensures) (c .line-end .ensures)
+
+pub ended-spec : {M : Type 1} → statement M
+ended-spec = tie.close (tie.spec after-lines-requires line-end-requires returns)

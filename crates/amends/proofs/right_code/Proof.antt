@@ -1,0 +1,61 @@
+use borrow.Author.Needs.{needs}
+use Rattle.amends.proofs.right_code.Statement.{statement}
+use Rattle.amends.proofs.right_code.Tie as tie
+use Rattle.amends.proofs.right_code.Reads as reads
+use Rattle.amends.proofs.right_code.Lts as lts
+use Rattle.amends.proofs.is_six.Reads as is-six-reads
+use Rattle.amends.proofs.outside.Reads as outside-reads
+use Rattle.laws.proofs.either.Reads as either-reads
+use Rattle.paper.proofs.between.Reads as between-reads
+use Rattle.paper.proofs.or_else.Reads as or-else-reads
+use Rattle.paper.proofs.when.Reads as when-reads
+
+-- src/lib.rt:109:9
+between-requires : tie.Need-between-requires
+between-requires c κs = search needs
+
+-- src/lib.rt:110:25
+is-six-requires : tie.Need-is-six-requires
+is-six-requires c κs = search needs
+
+-- src/lib.rt:110:45
+outside-requires : tie.Need-outside-requires
+outside-requires c κs = search needs
+
+-- src/lib.rt:110:9
+either-requires : tie.Need-either-requires
+either-requires c κs = search needs
+
+-- src/lib.rt:112:9
+when-requires : tie.Need-when-requires
+when-requires c κs = search needs
+
+-- src/lib.rt:113:14
+either-requires-2 : tie.Need-either-requires-2
+either-requires-2 c κs = search needs
+
+-- src/lib.rt:113:9
+when-requires-2 : tie.Need-when-requires-2
+when-requires-2 c κs = search needs
+
+-- src/lib.rt:111:5
+or-else-requires : tie.Need-or-else-requires
+or-else-requires c κs = search needs
+
+-- src/lib.rt:106:1
+returns : tie.Need-returns
+returns c = cc
+
+pub right-code-spec : {M : Type 1} → statement M
+right-code-spec =
+    tie.close
+    (tie.spec
+    between-requires
+    is-six-requires
+    outside-requires
+    either-requires
+    when-requires
+    either-requires-2
+    when-requires-2
+    or-else-requires
+    returns)

@@ -1,0 +1,2 @@
+-- A correction, read and judged.
+pub mod Righting

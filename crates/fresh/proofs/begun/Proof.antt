@@ -1,0 +1,20 @@
+use mathlib.Core.Bool.{true}
+use Rattle.table.specs.declared.table.Table.{Table}
+use mathlib.Core.Path.{ap}
+use borrow.Author.Needs.{needs}
+use Rattle.fresh.proofs.begun.Statement.{statement}
+use Rattle.fresh.proofs.begun.Tie as tie
+use Rattle.fresh.proofs.begun.Reads as reads
+use Rattle.fresh.proofs.begun.Lts as lts
+use Rattle.table.proofs.take.new_table.Reads as new-table-reads
+
+-- src/lib.rt:31:9
+new-table-requires : tie.Need-new-table-requires
+new-table-requires c κs = search needs
+
+-- src/lib.rt:27:1
+returns : tie.Need-returns
+returns c = (ap (λ (u : Table). record { table = u; ok = true }) (c .new-table .ensures .0), c .new-table .ensures .1)
+
+pub begun-spec : {M : Type 1} → statement M
+begun-spec = tie.close (tie.spec new-table-requires returns)

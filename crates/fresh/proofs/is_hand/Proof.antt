@@ -1,0 +1,19 @@
+use Rattle.fresh.specs.Reading.{isHand}
+use borrow.Author.Needs.{needs}
+use Rattle.fresh.proofs.is_hand.Statement.{statement}
+use Rattle.fresh.proofs.is_hand.Tie as tie
+use Rattle.fresh.proofs.is_hand.Reads as reads
+use Rattle.fresh.proofs.is_hand.Lts as lts
+use Rattle.paper.proofs.numbers_of.Reads as numbers-of-reads
+
+-- src/lib.rt:94:9
+numbers-of-requires : tie.Need-numbers-of-requires
+numbers-of-requires c κs = search needs
+
+-- src/lib.rt:91:1
+returns : tie.Need-returns
+unfolding isHand
+returns c = cc
+
+pub is-hand-spec : {M : Type 1} → statement M
+is-hand-spec = tie.close (tie.spec numbers-of-requires returns)

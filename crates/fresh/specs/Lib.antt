@@ -1,0 +1,2 @@
+-- The stored log read afresh.
+pub mod Reading

@@ -1,0 +1,24 @@
+use Rattle.records.specs.Stored.{entryBy}
+use mathlib.Core.Path.{_∙_, ap}
+use borrow.Author.Needs.{needs}
+use Rattle.records.proofs.entry_in.Statement.{statement}
+use Rattle.records.proofs.entry_in.Tie as tie
+use Rattle.records.proofs.entry_in.Reads as reads
+use Rattle.records.proofs.entry_in.Lts as lts
+use Rattle.records.proofs.entry_by.Reads as entry-by-reads
+use Rattle.records.proofs.record_in.Reads as record-in-reads
+
+-- src/lib.rt:137:14
+record-in-requires : tie.Need-record-in-requires
+record-in-requires c κs = search needs
+
+-- src/lib.rt:137:5
+entry-by-requires : tie.Need-entry-by-requires
+entry-by-requires c κs = search needs
+
+-- src/lib.rt:134:1
+returns : tie.Need-returns
+returns c = c .entry-by .ensures ∙ ap entryBy (c .before .record-in .ensures)
+
+pub entry-in-spec : {M : Type 1} → statement M
+entry-in-spec = tie.close (tie.spec record-in-requires entry-by-requires returns)
