@@ -6,3 +6,4 @@ pub mod KindRows
 pub mod Puts
 pub mod Copies
 pub mod Fair
+pub mod Lacking
