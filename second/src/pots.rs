@@ -109,18 +109,33 @@ impl Pots {
         self.returned.iter().sum()
     }
 
-    /// Commission and what each seat's sitting is due, still there or not.
-    /// `hands` are compared only where a pot has two contenders or more.
+    /// The shares of a hand at a table that feeds no pool.
     pub fn share<H: Ord>(&self, commission: Commission, puck: Seat, hands: &[H]) -> Shares {
-        let mut shares = Shares { fee: 0, due: self.returned.clone(), divided: Vec::new() };
+        self.share_and_drop(commission, 0, puck, hands)
+    }
+
+    /// Commission, drop and what each seat's sitting is due, still there or not.
+    /// `hands` are compared only where a pot has two contenders or more.
+    pub fn share_and_drop<H: Ord>(&self, commission: Commission, drop: u64, puck: Seat, hands: &[H]) -> Shares {
+        let mut shares = Shares { fee: 0, drop: 0, due: self.returned.clone(), divided: Vec::new() };
+        let mut remains = Vec::new();
         for pot in &self.pots {
             let fee = commission.fee(pot.amount, shares.fee);
             shares.fee += fee;
+            remains.push(pot.amount - fee);
+        }
+        // No. 7: a hand with a board card pays into the pool, out of what the
+        // commission has left of its lowest pot.
+        if let (Some(lowest), 1..) = (remains.first_mut(), commission.board_cards) {
+            shares.drop = drop.min(*lowest);
+            *lowest -= shares.drop;
+        }
+        for (pot, remains) in self.pots.iter().zip(remains) {
             let best = members(pot.contenders).map(|seat| &hands[seat]).max();
             let winners: Vec<Seat> = clockwise_after(puck, hands.len() - 1)
                 .filter(|seat| is_in(*seat, pot.contenders) && Some(&hands[*seat]) == best)
                 .collect();
-            shares.divide(pot.amount - fee, &winners);
+            shares.divide(remains, &winners);
         }
         shares
     }
@@ -154,8 +169,9 @@ impl Commission {
 #[derive(Clone, Debug, PartialEq)]
 pub struct Shares {
     pub fee: u64,
+    pub drop: u64,
     pub due: Vec<u64>,
-    /// Each pot after its fee, and the number of its winners.
+    /// Each pot after its fee and drop, and the number of its winners.
     pub divided: Vec<(u64, u64)>,
 }
 

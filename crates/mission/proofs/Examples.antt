@@ -21,7 +21,7 @@ use Rattle.desk.specs.Log.{outputOf}
 use Rattle.history.specs.History.{run}
 use Rattle.laws.specs.Lists.{maxOf, sumOf}
 use Rattle.paper.specs.Paper.{isSheet, isSeat, inRange}
-use Rattle.pots.specs.Hand.{winnersOf, plus, wonOf, unclaimedOf}
+use Rattle.pots.specs.Hand.{winnersOf, plus, lowestAfter, dropOf, wonOf, unclaimedOf}
 use Rattle.pots.specs.Heights.{has, chipsAt, liveOf, maskAt, contenders, contested, contest, over, backAt, backOf, returnedOf}
 use Rattle.pots.specs.Runs.{join, runs, keyed, potsOf, padded}
 use Rattle.pots.specs.Settle.{uncutOf, feeOf, feesOf, ones, shareOut, sharesOf}
@@ -38,7 +38,7 @@ use Rattle.text.specs.TableSheet.{sheetNumber, sheetWith, sheetOf, sheetEnd}
 use Rattle.mission.specs.Examples.{winsAll, passes, allPass, twelve}
 
 pub all-twelve : allPass twelve ≡ true
-unfolding before put inOrder ordered isWheel lowered inRow allAlike oneSuit classOf ranksOf classOfCards valueOfHands above betterBy keep choices bestOf has chipsAt liveOf maskAt contenders contested contest over maxOf sumOf backAt backOf returnedOf join runs keyed potsOf uncutOf feeOf feesOf ones shareOut sharesOf winnersOf plus wonOf isSheet isSeat inRange liveHands onlyWithChips owes firstOwing afterAct nextDealtIn turnCode sitCode satTo isPuck handCode postedTo openedTo callCode calledTo isWager wagerCode wageredTo codeOf nextOf run sheetNumber sheetWith sheetOf sheetEnd valueOfLine numberLine restOf kindOf blockOf wellFormed numberOf digits parsedOf foldedTo settleCode potsNow backNow scoreOf payoutNow settledTo payoutOf padded unclaimedOf spells strengthBy twoBytes rowBytes stateBytes payoutBytes tableBytes answerBytes shownOf judgedOf blockBytes outputOf
+unfolding before put inOrder ordered isWheel lowered inRow allAlike oneSuit classOf ranksOf classOfCards valueOfHands above betterBy keep choices bestOf has chipsAt liveOf maskAt contenders contested contest over maxOf sumOf backAt backOf returnedOf join runs keyed potsOf uncutOf feeOf feesOf ones shareOut sharesOf winnersOf plus lowestAfter dropOf wonOf isSheet isSeat inRange liveHands onlyWithChips owes firstOwing afterAct nextDealtIn turnCode sitCode satTo isPuck handCode postedTo openedTo callCode calledTo isWager wagerCode wageredTo codeOf nextOf run sheetNumber sheetWith sheetOf sheetEnd valueOfLine numberLine restOf kindOf blockOf wellFormed numberOf digits parsedOf foldedTo settleCode potsNow backNow scoreOf payoutNow settledTo payoutOf padded unclaimedOf spells strengthBy twoBytes rowBytes stateBytes payoutBytes tableBytes answerBytes shownOf judgedOf blockBytes outputOf
 all-twelve = refl
 
 -- what a row `winsAll` says: the five cards beat every hand of the class, whatever its ranks

@@ -1,4 +1,4 @@
--- Demand 3 at settlement, by sitting: payments, commission and unclaimed chips make up all that was put in; no sitting is paid more than the sum of
+-- Demand 3 at settlement, by sitting: payments, commission, drop and unclaimed chips make up all that was put in; no sitting is paid more than the sum of
 -- min(its total, theirs); and what the table shows as returned is what the clerk finds. For every sheet and every list of taken entries. Assumes nothing.
 use Prim.Native.Nat.{ℕ, suc, _+_, _≤_, _<_, min, max}
 use mathlib.Core.Bool.{Bool, true, false}
@@ -17,10 +17,12 @@ use Rattle.paper.specs.declared.Entry.the-variants.{Settle}
 use Rattle.pots.specs.Heights.{chipsAt, chipsOver, over, liveOf, backAt, backOf, maskAt}
 use Rattle.pots.proofs.Chips.{over-same, chips-none, chips-cons, chips-all}
 use Rattle.pots.proofs.Counts.{same-contested, max-same}
+use Rattle.pots.proofs.Drops.{drop-lone}
+use Rattle.pots.specs.Runs.{potsOf}
 use Rattle.pots.specs.Hand.{reach}
 use Rattle.chairs.specs.Chairs.{noChair, chairAt, columnOf}
 use Rattle.chairs.specs.declared.Chair.{Chair}
-use Rattle.table.specs.Settle.{totalsOf, livesOf, payoutNow, backNow}
+use Rattle.table.specs.Settle.{totalsOf, livesOf, commissionOf, payoutNow, backNow}
 use Rattle.table.specs.Take.{codeOf, payoutOf}
 use Rattle.history.specs.History.{run, AllTaken, noteOf, sittingsTo, putIn, liveIn, puts, clerkBack}
 use Rattle.table.specs.declared.table.Table.{Table}
@@ -115,9 +117,14 @@ module _ (sheet : Sheet) (ok : isSheet sheet ≡ true) (es : List Entry) (taken 
   unfolding payoutOf
   paying = rw (eq-eqb (codeOf now (length es + 1) Settle) 0 (taken .0))
 
-  -- payments, commission and unclaimed chips make up all that was put in
-  pub settle-whole : sumOf (settles sheet es .paid) + settles sheet es .fee + settles sheet es .unclaimed ≡ sumOf (puts sheet es)
+  -- payments, commission, drop and unclaimed chips make up all that was put in
+  pub settle-whole : sumOf (settles sheet es .paid) + settles sheet es .fee + settles sheet es .drop + settles sheet es .unclaimed ≡ sumOf (puts sheet es)
   settle-whole = rw paying (settle-all now (after sheet ok es (taken .1) .sound .payable) ∙ sums-same (totalsOf now) (puts sheet es) (told-chips sheet ok es (taken .1)))
+
+  -- a lone table drops nothing
+  pub settle-lone : settles sheet es .drop ≡ 0
+  unfolding payoutNow
+  settle-lone = rw paying (drop-lone (commissionOf now) (potsOf (totalsOf now) (livesOf now)) refl)
 
   -- no sitting is paid more than the sum of min(its total, theirs) over the sittings in the hand
   pub settle-reach : (s : ℕ) → 0 < s → paidTo (settles sheet es .sittings) (settles sheet es .paid) s ≤ reach (puts sheet es) (putIn sheet es s)

@@ -15,7 +15,7 @@ use Rattle.laws.proofs.Sums.{map-at, zeros-at}
 use Rattle.paper.specs.Paper.{isSheet}
 use Rattle.paper.specs.declared.Sheet.{Sheet}
 use Rattle.paper.specs.declared.Entry.{Entry}
-use Rattle.pots.specs.Hand.{winnersOf, wonOf, unclaimedOf}
+use Rattle.pots.specs.Hand.{winnersOf, wonOf, dropOfHand, unclaimedOf}
 use Rattle.pots.specs.Heights.{has, maskAt, returnedOf}
 use Rattle.pots.specs.Runs.{potsOf}
 use Rattle.pots.specs.Settle.{feeOf, sharesOf}
@@ -43,17 +43,17 @@ use Rattle.mission.proofs.Winners.{at-seat, contender-live}
 
 -- ---- who contends for no pot wins nothing
 module _ (scores : List ℕ) (rule : Commission) (puck i : ℕ) (k : puck ≤ length scores) (l : i < length scores) where
-  won-none : (left : ℕ) (ps : List Pot) → Manned (length scores) ps → All (λ (p : Pot). bitAt (p .who) i ≡ 0) ps → getD (wonOf scores rule puck left ps) i 0 ≡ 0
+  won-none : (left off : ℕ) (ps : List Pot) → Manned (length scores) ps → All (λ (p : Pot). bitAt (p .who) i ≡ 0) ps → getD (wonOf scores rule puck left off ps) i 0 ≡ 0
   unfolding wonOf
-  won-none left [] m a = zeros-at (length scores) i
-  won-none left (p ∷ ps) (manned w m) a =
-      let rest = wonOf scores rule puck (left - feeOf rule left (p .amount)) ps in
-      let sh = sharesOf (length scores) (p .amount - feeOf rule left (p .amount)) (winnersOf scores (p .who)) puck in
-      let ls = shares-length (length scores) (p .amount - feeOf rule left (p .amount)) (winnersOf scores (p .who)) puck in
-      let lr = won-length scores rule puck (left - feeOf rule left (p .amount)) ps in
+  won-none left off [] m a = zeros-at (length scores) i
+  won-none left off (p ∷ ps) (manned w m) a =
+      let rest = wonOf scores rule puck (left - feeOf rule left (p .amount)) 0 ps in
+      let sh = sharesOf (length scores) (p .amount - feeOf rule left (p .amount) - off) (winnersOf scores (p .who)) puck in
+      let ls = shares-length (length scores) (p .amount - feeOf rule left (p .amount) - off) (winnersOf scores (p .who)) puck in
+      let lr = won-length scores rule puck (left - feeOf rule left (p .amount)) 0 ps in
       let e = plus-at sh rest i (omega (arith, ls, lr)) (omega (arith, ls)) in
-      let none = shares-none (length scores) (p .amount - feeOf rule left (p .amount)) (winnersOf scores (p .who)) puck i k l (winners-in scores (p .who) i w (a .0)) in
-      omega (arith, e, none, won-none (left - feeOf rule left (p .amount)) ps m (a .1))
+      let none = shares-none (length scores) (p .amount - feeOf rule left (p .amount) - off) (winnersOf scores (p .who)) puck i k l (winners-in scores (p .who) i w (a .0)) in
+      omega (arith, e, none, won-none (left - feeOf rule left (p .amount)) 0 ps m (a .1))
 
 -- ---- what is due to those whom a mask leaves out
 one-is : (b : Bool) → eqb (one b) 1 ≡ b
@@ -111,18 +111,19 @@ module _ (sheet : Sheet) (ok : isSheet sheet ≡ true) (es : List Entry) (taken 
       let dead : bitAt (livesBy n) i ≡ 0 =
       mask-bit (map (λ x. one (partAt n x .live)) tenSeats) 1 i (omega arith) ∙ ap (λ (v : ℕ). has v 1) (at-seat (λ x. one (partAt n x .live)) i l ∙ ap one (gone-dead (suc i) e)) ∙ has-truth false in
       let out = pots-all (λ m. bitAt m i ≡ 0) (putsBy n) (livesBy n) (λ j p. contender-live (putsBy n) (livesBy n) j i p dead) in
-      let won = won-none (scoresBy sheet n) (ruleBy sheet n) (n .play .puck) i puck l (ruleBy sheet n .cap) (potsOf (putsBy n) (livesBy n)) (pots-manned (putsBy n) (livesBy n)) out in
-      let w = wonOf (scoresBy sheet n) (ruleBy sheet n) (n .play .puck) (ruleBy sheet n .cap) (potsOf (putsBy n) (livesBy n)) in
-      let lw = won-length (scoresBy sheet n) (ruleBy sheet n) (n .play .puck) (ruleBy sheet n .cap) (potsOf (putsBy n) (livesBy n)) in
+      let d = dropOfHand (putsBy n) (livesBy n) (ruleBy sheet n) in
+      let won = won-none (scoresBy sheet n) (ruleBy sheet n) (n .play .puck) i puck l (ruleBy sheet n .cap) d (potsOf (putsBy n) (livesBy n)) (pots-manned (putsBy n) (livesBy n)) out in
+      let w = wonOf (scoresBy sheet n) (ruleBy sheet n) (n .play .puck) (ruleBy sheet n .cap) d (potsOf (putsBy n) (livesBy n)) in
+      let lw = won-length (scoresBy sheet n) (ruleBy sheet n) (n .play .puck) (ruleBy sheet n .cap) d (potsOf (putsBy n) (livesBy n)) in
       let at = plus-at w (map (returnedOf (putsBy n) (livesBy n)) (putsBy n)) i (omega (arith, lw)) (omega (arith, lw)) in
       let back = map-at (returnedOf (putsBy n) (livesBy n)) (putsBy n) i l ∙ ap (returnedOf (putsBy n) (livesBy n)) (at-seat (λ x. partAt n x .put) i l) in
       omega (arith, at, won, back)
 
   due-length : length (dueBy sheet n) ≡ 10
-  due-length = plus-length w (map (returnedOf (putsBy n) (livesBy n)) (putsBy n)) ∙ won-length (scoresBy sheet n) (ruleBy sheet n) (n .play .puck) (ruleBy sheet n .cap) (potsOf (putsBy n) (livesBy n))
+  due-length = plus-length w (map (returnedOf (putsBy n) (livesBy n)) (putsBy n)) ∙ won-length (scoresBy sheet n) (ruleBy sheet n) (n .play .puck) (ruleBy sheet n .cap) (dropOfHand (putsBy n) (livesBy n) (ruleBy sheet n)) (potsOf (putsBy n) (livesBy n))
     where
       w : List ℕ
-      w = wonOf (scoresBy sheet (notebook sheet es)) (ruleBy sheet (notebook sheet es)) (notebook sheet es .play .puck) (ruleBy sheet (notebook sheet es) .cap) (potsOf (putsBy (notebook sheet es)) (livesBy (notebook sheet es)))
+      w = wonOf (scoresBy sheet (notebook sheet es)) (ruleBy sheet (notebook sheet es)) (notebook sheet es .play .puck) (ruleBy sheet (notebook sheet es) .cap) (dropOfHand (putsBy (notebook sheet es)) (livesBy (notebook sheet es)) (ruleBy sheet (notebook sheet es))) (potsOf (putsBy (notebook sheet es)) (livesBy (notebook sheet es)))
 
   -- "if it has left, they are unclaimed (house)": these chips, and no others
   pub unclaimed-left : unclaimedBy sheet n ≡ leftBehind n

@@ -27,7 +27,7 @@ use Rattle.answers.specs.Answer.{joined, keyPot, keyBack, keyFee, keySitting, k
 use Rattle.history.specs.Codes.{codeBy}
 use Rattle.history.specs.History.{run, AllTaken, putIn, liveIn, sits, clerkPots, puts, clerkBack, NoHand}
 use Rattle.history.specs.Moves.{Moves}
-use Rattle.history.specs.Notebook.{Notebook, tenSeats, potsBy, feeBy, paidBy, notebook}
+use Rattle.history.specs.Notebook.{Notebook, tenSeats, potsBy, feeBy, dropBy, paidBy, notebook}
 use Rattle.history.specs.Turns.{turnOf}
 use Rattle.mission.specs.Allowed.{Allowed}
 use Rattle.mission.specs.Blocks.{Given}
@@ -103,14 +103,14 @@ abbrev pub rowLines : Sheet → Notebook → ℕ → List ℕ
 rowLines sheet n x = pick (eqb (n .hand .dealt x) 0) [] (twoBytes keySitting (n .hand .dealt x) keyPaid (paidBy sheet n (n .hand .dealt x)))
 
 -- the payout p of a settle after these entries. `fee`, each `paid` and `unclaimed` are the notebook's, a seat without lines is paid nothing, and unclaimed are the
--- returned chips of those who left; all that is put in is made up; no sitting is paid more than the sum of min(its total, theirs); one that sat down after the
+-- returned chips of those who left; all that is put in is made up, what the hand drops counted (No. 7); no sitting is paid more than the sum of min(its total, theirs); one that sat down after the
 -- deal is paid nothing
 pub record Pays (sheet : Sheet) (es : List Entry) (p : Payout) : Type 0 where
   pub fee : p .fee ≡ feeBy sheet (notebook sheet es)
   pub rows : p .rows ≡ map (rowBy sheet (notebook sheet es)) tenSeats
   pub unlisted : (x : ℕ) → notebook sheet es .hand .dealt x ≡ 0 → rowBy sheet (notebook sheet es) x .paid ≡ 0
   pub unclaimed : p .unclaimed ≡ leftBehind (notebook sheet es)
-  pub all : rowsPay (p .rows) + p .fee + p .unclaimed ≡ sumOf (puts sheet es)
+  pub all : rowsPay (p .rows) + p .fee + dropBy sheet (notebook sheet es) + p .unclaimed ≡ sumOf (puts sheet es)
   pub most : (s : ℕ) → 0 < s → rowsPayTo (p .rows) s ≤ reach (puts sheet es) (putIn sheet es s)
   pub late : (x a : ℕ) (before later : List Entry) → NoHand later → es ≡ later ++ (Sit x a ∷ before) → rowsPayTo (p .rows) (sits before + 1) ≡ 0
   -- and so in bytes

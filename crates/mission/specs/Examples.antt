@@ -15,6 +15,7 @@ use Rattle.cards.specs.Order.{ranking52, key, beatsBy, bestOf}
 use Rattle.pots.specs.Heights.{backOf, returnedOf}
 use Rattle.pots.specs.Runs.{potsOf}
 use Rattle.pots.specs.Settle.{feesOf, sharesOf}
+use Rattle.pots.specs.Hand.{lone}
 use Rattle.pots.specs.declared.Commission.{Commission}
 use Rattle.pots.specs.declared.Pot.{Pot}
 use Rattle.chairs.specs.Chairs.{roundOf}
@@ -73,7 +74,7 @@ nine = 100 ∷ 100 ∷ 40 ∷ []
 
 -- rate 50 and cap 15, with so small a chip and so many board cards
 abbrev fifty : ℕ → ℕ → Commission
-fifty step board = record { rate = 50; cap = 15; step = step; board = board }
+fifty step board = record { rate = 50; cap = 15; step = step; board = board; drop = lone }
 
 -- the fees of P7's pots with five board cards, and what remains of the pots
 abbrev charged : ℕ → List ℕ

@@ -18,7 +18,7 @@ use Rattle.pots.specs.declared.Pot.{Pot}
 use Rattle.pots.specs.declared.Commission.{Commission}
 use Rattle.pots.specs.Runs.{potsOf}
 use Rattle.pots.specs.Settle.{feeOf, sharesOf}
-use Rattle.pots.specs.Hand.{winnersOf, plus, wonOf, dueOf}
+use Rattle.pots.specs.Hand.{winnersOf, plus, wonOf, dropOfHand, dueOf}
 use Rattle.pots.proofs.Chips.{has-none}
 use Rattle.pots.proofs.Masks.{has-le, live-length, ones-mask}
 use Rattle.pots.proofs.PotRuns.{pots-all}
@@ -53,23 +53,23 @@ contenders-few ts live = pots-all (λ m. ones (length ts) m ≤ ones (length ts)
 
 -- ---- pots with one contender each are won whatever the scores are
 module _ (scores others : List ℕ) (n : length others ≡ length scores) (rule : Commission) (puck : ℕ) where
-  won-alone : (left : ℕ) (ps : List Pot) → Manned (length scores) ps → All (λ (p : Pot). ones (length scores) (p .who) ≤ 1) ps
-      → wonOf others rule puck left ps ≡ wonOf scores rule puck left ps
+  won-alone : (left off : ℕ) (ps : List Pot) → Manned (length scores) ps → All (λ (p : Pot). ones (length scores) (p .who) ≤ 1) ps
+      → wonOf others rule puck left off ps ≡ wonOf scores rule puck left off ps
   unfolding wonOf
-  won-alone left [] m a = ap (λ k. replicate k 0) n
-  won-alone left (p ∷ ps) (manned w m) a =
-      let rest = p .amount - feeOf rule left (p .amount) in
+  won-alone left off [] m a = ap (λ k. replicate k 0) n
+  won-alone left off (p ∷ ps) (manned w m) a =
+      let rest = p .amount - feeOf rule left (p .amount) - off in
       let one : ones (length scores) (p .who) ≡ 1 = omega (arith, w, a .0) in
       let win : winnersOf others (p .who) ≡ winnersOf scores (p .who) =
       winners-sole others (p .who) (ap (λ k. ones k (p .who)) n ∙ one) ∙ sym (winners-sole scores (p .who) one) in
-      ap₂ plus (ap₂ (λ (k v : ℕ). sharesOf k rest v puck) n win) (won-alone (left - feeOf rule left (p .amount)) ps m (a .1))
+      ap₂ plus (ap₂ (λ (k v : ℕ). sharesOf k rest v puck) n win) (won-alone (left - feeOf rule left (p .amount)) 0 ps m (a .1))
 
 -- where one hand is live, what each is due is the same with any scores
 pub due-alone : (ts : List ℕ) (live : ℕ) (scores others : List ℕ) (rule : Commission) (puck : ℕ) → ones (length ts) live ≡ 1
     → length scores ≡ length ts → length others ≡ length ts → dueOf ts live others rule puck ≡ dueOf ts live scores rule puck
 due-alone ts live scores others rule puck one n m =
     ap (λ w. plus w (map (returnedOf ts live) ts))
-    (won-alone scores others (m ∙ sym n) rule puck (rule .cap) (potsOf ts live)
+    (won-alone scores others (m ∙ sym n) rule puck (rule .cap) (dropOfHand ts live rule) (potsOf ts live)
     (subst (λ k. Manned k (potsOf ts live)) (sym n) (pots-manned ts live))
     (subst (λ k. All (λ (p : Pot). ones k (p .who) ≤ 1) (potsOf ts live)) (sym n)
     (subst (λ k. All (λ (p : Pot). ones (length ts) (p .who) ≤ k) (potsOf ts live)) one (contenders-few ts live))))

@@ -1,4 +1,5 @@
--- Empty places above the table's seats change nothing of a hand: the pots, what goes back, the commission and what each sitting is due are those of the seats alone.
+-- Empty places above the table's seats change nothing of a hand: the pots, what goes back, the commission, the drop and what each sitting is due are those of the
+-- seats alone.
 -- So the code's ten places do for any table of two to ten seats. For any number of seats and of places above them.
 -- Assumes nothing.
 use Prim.Native.Nat.{ℕ, zero, suc, _+_, _-_, _*_, _/_, _%_, _^_, _≤_, _<_, max}
@@ -19,7 +20,7 @@ use Rattle.pots.specs.declared.Pot.{Pot}
 use Rattle.pots.specs.declared.Commission.{Commission}
 use Rattle.pots.specs.Runs.{pot, join, runs, keyed, potsOf}
 use Rattle.pots.specs.Settle.{feeOf, sole, sharesOf}
-use Rattle.pots.specs.Hand.{rated, bestOf, winnersOf, plus, wonOf, feeOfHand, dueOf}
+use Rattle.pots.specs.Hand.{rated, bestOf, winnersOf, plus, wonOf, feeOfHand, dropOf, dropOfHand, dueOf}
 use Rattle.pots.proofs.Chips.{has-none, over-same, chips-append}
 use Rattle.pots.proofs.Masks.{live-length, mask-lt, pick-nil}
 use Rattle.pots.proofs.PotRuns.{pots-all}
@@ -160,32 +161,36 @@ plus-append (x ∷ xs) [] us vs e = absurd (omega arith)
 plus-append (x ∷ xs) (y ∷ ys) us vs e = ap (λ l. (x + y) ∷ l) (plus-append xs ys us vs (omega arith))
 
 module _ (scores xs : List ℕ) (rule : Commission) (puck : ℕ) (p : puck ≤ length scores) where
-  won-wide : (left : ℕ) (ps : List Pot) → Manned (length scores) ps → All (λ (q : Pot). q .who < 2 ^ length scores) ps
-      → wonOf (scores ++ xs) rule puck left ps ≡ wonOf scores rule puck left ps ++ zeros (length xs)
+  won-wide : (left off : ℕ) (ps : List Pot) → Manned (length scores) ps → All (λ (q : Pot). q .who < 2 ^ length scores) ps
+      → wonOf (scores ++ xs) rule puck left off ps ≡ wonOf scores rule puck left off ps ++ zeros (length xs)
   unfolding wonOf
-  won-wide left [] m a = ap zeros (length-append scores xs) ∙ zeros-add (length scores) (length xs)
-  won-wide left (q ∷ ps) (manned w m) a =
-      let rest = q .amount - feeOf rule left (q .amount) in
-      let won = wonOf scores rule puck (left - feeOf rule left (q .amount)) ps in
-      let sh = sharesOf (length scores) (q .amount - feeOf rule left (q .amount)) (winnersOf scores (q .who)) puck in
-      ap₂ (λ (n v : ℕ). plus (sharesOf n rest v puck) (wonOf (scores ++ xs) rule puck (left - feeOf rule left (q .amount)) ps)) (length-append scores xs) (winners-wide scores xs (q .who) (a .0) w)
-      ∙ ap₂ plus (shares-wrap (length scores) (length xs) rest (winnersOf scores (q .who)) puck (winners-low scores xs (q .who) (a .0) w) p) (won-wide (left - feeOf rule left (q .amount)) ps m (a .1))
-      ∙ plus-append sh won (zeros (length xs)) (zeros (length xs)) (shares-length (length scores) _ _ puck ∙ sym (won-length scores rule puck _ ps))
+  won-wide left off [] m a = ap zeros (length-append scores xs) ∙ zeros-add (length scores) (length xs)
+  won-wide left off (q ∷ ps) (manned w m) a =
+      let rest = q .amount - feeOf rule left (q .amount) - off in
+      let won = wonOf scores rule puck (left - feeOf rule left (q .amount)) 0 ps in
+      let sh = sharesOf (length scores) (q .amount - feeOf rule left (q .amount) - off) (winnersOf scores (q .who)) puck in
+      ap₂ (λ (n v : ℕ). plus (sharesOf n rest v puck) (wonOf (scores ++ xs) rule puck (left - feeOf rule left (q .amount)) 0 ps)) (length-append scores xs) (winners-wide scores xs (q .who) (a .0) w)
+      ∙ ap₂ plus (shares-wrap (length scores) (length xs) rest (winnersOf scores (q .who)) puck (winners-low scores xs (q .who) (a .0) w) p) (won-wide (left - feeOf rule left (q .amount)) 0 ps m (a .1))
+      ∙ plus-append sh won (zeros (length xs)) (zeros (length xs)) (shares-length (length scores) _ _ puck ∙ sym (won-length scores rule puck _ 0 ps))
       ∙ ap (λ z. plus sh won ++ z) (plus-zeros (length xs))
 
--- the commission is the same, and what each seat's sitting is due, with nothing for the places above
+-- the commission and the drop are the same, and what each seat's sitting is due, with nothing for the places above
 pub fee-wide : (ts : List ℕ) (k live : ℕ) (rule : Commission) → feeOfHand (ts ++ zeros k) live rule ≡ feeOfHand ts live rule
 fee-wide ts k live rule = rw (pots-wide ts k live)
+
+pub drop-wide : (ts : List ℕ) (k live : ℕ) (rule : Commission) → dropOfHand (ts ++ zeros k) live rule ≡ dropOfHand ts live rule
+drop-wide ts k live rule = ap (dropOf rule) (pots-wide ts k live)
 
 pub due-wide : (ts scores xs : List ℕ) (live : ℕ) (rule : Commission) (puck : ℕ) → length scores ≡ length ts → puck ≤ length ts
     → dueOf (ts ++ zeros (length xs)) live (scores ++ xs) rule puck ≡ dueOf ts live scores rule puck ++ zeros (length xs)
 due-wide ts scores xs live rule puck n l =
     let k = length xs in
-    let won = wonOf scores rule puck (rule .cap) (potsOf ts live) in
+    let d = dropOfHand ts live rule in
+    let won = wonOf scores rule puck (rule .cap) d (potsOf ts live) in
     let back = map (returnedOf ts live) ts in
     ap₂ plus
-    (ap (wonOf (scores ++ xs) rule puck (rule .cap)) (pots-wide ts k live)
-    ∙ won-wide scores xs rule puck (omega arith) (rule .cap) (potsOf ts live) (subst (λ j. Manned j (potsOf ts live)) (sym n) (pots-manned ts live)) (subst (λ j. All (λ (q : Pot). q .who < 2 ^ j) (potsOf ts live)) (sym n) (pots-within ts live)))
+    (ap (λ (ps : List Pot). wonOf (scores ++ xs) rule puck (rule .cap) (dropOf rule ps) ps) (pots-wide ts k live)
+    ∙ won-wide scores xs rule puck (omega arith) (rule .cap) d (potsOf ts live) (subst (λ j. Manned j (potsOf ts live)) (sym n) (pots-manned ts live)) (subst (λ j. All (λ (q : Pot). q .who < 2 ^ j) (potsOf ts live)) (sym n) (pots-within ts live)))
     (map-same (returnedOf (ts ++ zeros k) live) (returnedOf ts live) (ts ++ zeros k) (returned-wide ts k live) ∙ map-append (returnedOf ts live) ts (zeros k) ∙ ap (λ z. back ++ z) (returned-zeros ts live k))
-    ∙ plus-append won back (zeros k) (zeros k) (won-length scores rule puck (rule .cap) (potsOf ts live) ∙ n ∙ sym (map-length (returnedOf ts live) ts))
+    ∙ plus-append won back (zeros k) (zeros k) (won-length scores rule puck (rule .cap) d (potsOf ts live) ∙ n ∙ sym (map-length (returnedOf ts live) ts))
     ∙ ap (λ z. plus won back ++ z) (plus-zeros k)

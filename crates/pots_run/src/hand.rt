@@ -22,7 +22,7 @@ fn number_at(nums: &[u32], i: usize) -> u32 {
 
 // The list of a line that begins at a place, with a number for each seat, and 0 for the seats above.
 fn column(nums: &[u32], from: usize, seats: usize) -> [u32; 10]
-    requires { ⌜ (from ≤ 36) × (seats ≤ 10) ⌝ }
+    requires { ⌜ (from ≤ 37) × (seats ≤ 10) ⌝ }
 {
     let mut a = [0u32; 10];
     let mut i: usize = 0;
@@ -44,7 +44,7 @@ fn seats_of(nums: &[u32], count: usize) -> usize
     if 10 < n {
         return 0;
     }
-    if count == 6 + 4 * n { n } else { 0 }
+    if count == 7 + 4 * n { n } else { 0 }
 }
 
 fn rule_of(nums: &[u32]) -> Commission {
@@ -53,6 +53,7 @@ fn rule_of(nums: &[u32]) -> Commission {
         cap: number_at(nums, 3),
         step: number_at(nums, 4),
         board: number_at(nums, 5),
+        drop: number_at(nums, 6),
     }
 }
 
@@ -63,10 +64,10 @@ pub fn hand_of(nums: &[u32], count: usize) -> Hand {
         seats,
         puck: number_at(nums, 1) as usize,
         rule,
-        totals: column(nums, 6, seats),
-        live: pots::mask_at(column(nums, 6 + seats, seats), 1),
-        scores: column(nums, 6 + 2 * seats, seats),
-        here: pots::mask_at(column(nums, 6 + 3 * seats, seats), 1),
+        totals: column(nums, 7, seats),
+        live: pots::mask_at(column(nums, 7 + seats, seats), 1),
+        scores: column(nums, 7 + 2 * seats, seats),
+        here: pots::mask_at(column(nums, 7 + 3 * seats, seats), 1),
     }
 }
 

@@ -78,6 +78,7 @@ struct Told {
     pots: Pots,
     back: u32,
     fee: u32,
+    drop: u32,
     due: [u32; 10],
     paid: [u32; 10],
     unclaimed: u32,
@@ -100,6 +101,7 @@ fn tell(h: Hand) -> Told
         pots: p,
         back,
         fee: s.fee,
+        drop: s.drop,
         due,
         paid,
         unclaimed: o.unclaimed,
@@ -115,6 +117,17 @@ fn put_heights(out: &mut [u8], at: usize, p: Pots, back: u32) -> usize
     let b = put_pots(out, a, p);
     let c = put(out, b, b" back:");
     put_number(out, c, back)
+}
+
+// What is taken of the pots: the commission, and what is dropped.
+fn put_taken(out: &mut [u8], at: usize, fee: u32, drop: u32) -> usize
+    requires { ⌜ at ≤ length (now out) ⌝ }
+    ensures { λ r. ⌜ r ≤ length (now (out .entry)) ⌝ }
+{
+    let a = put(out, at, b" fee:");
+    let b = put_number(out, a, fee);
+    let c = put(out, b, b" drop:");
+    put_number(out, c, drop)
 }
 
 // A word and a number for each seat.
@@ -134,8 +147,7 @@ fn put_told(out: &mut [u8], at: usize, t: Told, seats: usize) -> usize
     let due = t.due;
     let paid = t.paid;
     let a = put_heights(out, at, p, t.back);
-    let b = put(out, a, b" fee:");
-    let c = put_number(out, b, t.fee);
+    let c = put_taken(out, a, t.fee, t.drop);
     let d = put_row(out, c, b" due:", due, seats);
     let e = put_row(out, d, b" paid:", paid, seats);
     let f = put(out, e, b" unclaimed:");

@@ -1,5 +1,5 @@
 // Pots of made-up hands, for the comparison with the second program (tests/pots): a hand a line on standard input, an answer a line on standard output.
-// A hand is numbers with blanks between them, `seats puck rate cap step board`, and then for each seat its total, whether it is live, its strength, whether it is there.
+// A hand is numbers with blanks between them, `seats puck rate cap step board drop`, and then for each seat its total, whether it is live, its strength, whether it is there.
 mod hand;
 mod line;
 mod lines;
@@ -100,7 +100,7 @@ fn read_all(nums: &mut [u32]) -> Scan {
 }
 
 fn main() {
-    let mut nums = [0u32; 46];
+    let mut nums = [0u32; 47];
     let scan = read_all(&mut nums);
     if line::begun(scan) {
         let mut out = [0u8; 600];

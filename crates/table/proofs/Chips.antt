@@ -1,4 +1,4 @@
--- Stacks and totals together change only by `sit`, by `leave`, and by a settle's fee and unclaimed chips: `chips-change`. Assumes nothing.
+-- Stacks and totals together change only by `sit`, by `leave`, and by a settle's fee, drop and unclaimed chips: `chips-change`. Assumes nothing.
 use Prim.Native.Nat.{ℕ, zero, suc, _+_, _-_, _≤_, _<_}
 use mathlib.Core.Bool.{Bool, true, false}
 use mathlib.Core.Path.{_≡_, refl, sym, ap, _∙_}
@@ -14,7 +14,7 @@ use Rattle.paper.specs.Paper.{between, isSeat, inKind}
 use Rattle.paper.proofs.Codes.{between-in}
 use Rattle.paper.specs.declared.Entry.{Entry}
 use Rattle.paper.specs.declared.Entry.the-variants.{Sit, Leave, Hand, Hole, Fold, Check, Call, Wager, Board, Dead, Settle, Void}
-use Rattle.pots.proofs.Hands.{none-lost, map-length, paid-and-unclaimed}
+use Rattle.pots.proofs.Hands.{drop-lost, map-length}
 use Rattle.table.proofs.Closing.{paid-length}
 use Rattle.chairs.specs.Chairs.{chipsOf, chairAt, putAt, roundOf, paidOf, actedOf, foldedOf, againOf, roundedOf, dealtOf, seatedOf, heldOf, closeAll, columnOf}
 use Rattle.chairs.specs.declared.Chair.{Chair}
@@ -26,7 +26,7 @@ use Rattle.table.specs.Betting.{afterAct, isFullLift, foldedTo, checkedT
 use Rattle.table.specs.Sittings.{satTo, leftTo}
 use Rattle.table.specs.Opening.{nextDealtIn, postedTo, openedTo}
 use Rattle.table.specs.Dealing.{heldTo, boardedTo}
-use Rattle.table.specs.Settle.{Payable, settledTo, payoutNow, totalsOf, livesOf, hereOf, scoreOf, scoresOf, dueNow, commissionOf}
+use Rattle.table.specs.Settle.{Payable, settledTo, payoutNow, totalsOf, livesOf, hereOf, scoreOf, scoresOf, commissionOf}
 use Rattle.table.specs.Take.{Sound, kindCode, codeOf, appliedTo, nextOf}
 use Rattle.table.specs.Standing.{Cleared, Standing}
 use Rattle.table.specs.Chips.{broughtBy, takenOffBy}
@@ -67,13 +67,12 @@ chips-close [] (p ∷ ps) l = absurd (omega arith)
 chips-close (c ∷ cs) [] l = absurd (omega arith)
 chips-close (c ∷ cs) (p ∷ ps) l = omega (arith, chips-close cs ps (omega arith))
 
--- ---- a settle: all that was put in is paid, is commission or is unclaimed
-pub settle-all : (t : Table) → Payable t → sumOf (payoutNow t .paid) + payoutNow t .fee + payoutNow t .unclaimed ≡ sumOf (totalsOf t)
+-- ---- a settle: all that was put in is paid, is commission, is dropped or is unclaimed
+pub settle-all : (t : Table) → Payable t → sumOf (payoutNow t .paid) + payoutNow t .fee + payoutNow t .drop + payoutNow t .unclaimed ≡ sumOf (totalsOf t)
 unfolding payoutNow
 settle-all t h =
     let l = map-length (scoreOf (t .sheet .game) (t .board)) (t .chairs) ∙ sym (map-length (columnOf what.Total) (t .chairs)) in
-    let n = none-lost (totalsOf t) (livesOf t) (scoresOf t) (commissionOf t) (t .play .puck) l (omega (arith, sheet-rate (t .sheet) (h .sheet))) in
-    omega (arith, n, paid-and-unclaimed (dueNow t) (hereOf t))
+    drop-lost (totalsOf t) (livesOf t) (scoresOf t) (commissionOf t) (t .play .puck) (hereOf t) l (omega (arith, sheet-rate (t .sheet) (h .sheet)))
 
 -- ---- entries
 seat-there : (t : Table) (x : ℕ) → Sound t → Standing t → isSeat (t .sheet) x ≡ true → (0 < x) × (x ≤ length (t .chairs))
@@ -120,7 +119,7 @@ chips-board t k = go (leb 3 (t .board .count + 1))
     go true = chips-map roundedOf (λ c. refl) (t .chairs)
     go false = refl
 
-chips-settle : (t : Table) → Payable t → chipsOf (settledTo t .chairs) + (payoutNow t .fee + payoutNow t .unclaimed) ≡ chipsOf (t .chairs)
+chips-settle : (t : Table) → Payable t → chipsOf (settledTo t .chairs) + (payoutNow t .fee + payoutNow t .drop + payoutNow t .unclaimed) ≡ chipsOf (t .chairs)
 unfolding settledTo
 chips-settle t h = omega (arith, chips-close (t .chairs) (payoutNow t .paid) (paid-length t), settle-all t h)
 

@@ -17,6 +17,7 @@ use Rattle.chairs.specs.declared.Chair.{Chair}
 use Rattle.chairs.proofs.Laws.{not-here}
 use Rattle.pots.specs.Heights.{has, returnedOf}
 use Rattle.pots.specs.Runs.{potsOf}
+use Rattle.pots.specs.Hand.{dropOfHand}
 use Rattle.pots.proofs.Masks.{live-length}
 use Rattle.pots.proofs.Contest.{has-none, le-or-lt}
 use Rattle.pots.proofs.Hands.{map-length, plus-length, won-length}
@@ -116,7 +117,7 @@ unfolding payoutNow
 paid-length t =
     live-length (dueNow t) (hereOf t)
     ∙ plus-length _ (map (returnedOf (totalsOf t) (livesOf t)) (totalsOf t))
-    ∙ won-length (scoresOf t) (commissionOf t) (t .play .puck) (t .sheet .cap) (potsOf (totalsOf t) (livesOf t))
+    ∙ won-length (scoresOf t) (commissionOf t) (t .play .puck) (t .sheet .cap) (dropOfHand (totalsOf t) (livesOf t) (commissionOf t)) (potsOf (totalsOf t) (livesOf t))
     ∙ map-length (scoreOf (t .sheet .game) (t .board)) (t .chairs)
 
 -- nothing is paid above the seats

@@ -16,7 +16,7 @@ use Rattle.laws.proofs.Tests.{either-false}
 use Rattle.paper.specs.declared.Sheet.{Sheet}
 use Rattle.laws.specs.Lists.{sumOf}
 use Rattle.pots.specs.declared.Commission.{Commission}
-use Rattle.pots.specs.Hand.{feeOfHand, dueOf, paidOf, unclaimedOf}
+use Rattle.pots.specs.Hand.{feeOfHand, dropOfHand, dueOf, paidOf, unclaimedOf}
 use Rattle.pots.proofs.Hands.{none-lost, map-length, paid-and-unclaimed, at-most-sum}
 use Rattle.cards.specs.Order.{ranking52, bestAmong, bestOf, strengthBy}
 use Rattle.cards.specs.Omaha.{fromBoth, allowed}
@@ -150,14 +150,15 @@ module _ (t : Table) (ts sc due paid sits : List ℕ) (lv hr fee un : ℕ) (rule
   pub due-now : due ≡ dueNow t
   due-now = rw (ts-is, lv-is, sc-is, rule-is) at due-is
 
-  pub payout-is : fee ≡ feeOfHand ts lv rule → hr ≡ hereOf t → paid ≡ paidOf due hr → un ≡ unclaimedOf due hr → sits ≡ map (columnOf what.Sitting) (t .chairs)
-      → _≡_ {A = Payout} (record { settled = true; fee = fee; paid = paid; sittings = sits; unclaimed = un }) (payoutNow t)
+  pub payout-is : {off : ℕ} → fee ≡ feeOfHand ts lv rule → off ≡ dropOfHand ts lv rule → hr ≡ hereOf t → paid ≡ paidOf due hr → un ≡ unclaimedOf due hr → sits ≡ map (columnOf what.Sitting) (t .chairs)
+      → _≡_ {A = Payout} (record { settled = true; fee = fee; drop = off; paid = paid; sittings = sits; unclaimed = un }) (payoutNow t)
   unfolding payoutNow
-  payout-is fee-is hr-is paid-is un-is sits-is =
+  payout-is fee-is off-is hr-is paid-is un-is sits-is =
       let f = rw (ts-is, lv-is, rule-is) at fee-is in
+      let d = rw (ts-is, lv-is, rule-is) at off-is in
       let p = rw (due-now, hr-is) at paid-is in
       let u = rw (due-now, hr-is) at un-is in
-      rw (f, p, u, sits-is)
+      rw (f, d, p, u, sits-is)
 
 -- what is paid to one is at most what all have put in
 pub paid-at : (t : Table) → Payable t → (i : ℕ) → getD (payoutNow t .paid) i 0 ≤ 100000000

@@ -1,5 +1,5 @@
--- The chips that a taken entry brings to the table and takes from it: `sit` and `leave` ("pays out the whole stack"), and of a settle the fee and what is
--- unclaimed. Assumes nothing.
+-- The chips that a taken entry brings to the table and takes from it: `sit` and `leave` ("pays out the whole stack"), and of a settle the fee, the drop and
+-- what is unclaimed. Assumes nothing.
 use Prim.Native.Nat.{ℕ, _+_}
 use Rattle.paper.specs.declared.Entry.{Entry}
 use Rattle.paper.specs.declared.Entry.the-variants.{Sit, Leave, Hand, Hole, Fold, Check, Call, Wager, Board, Dead, Settle, Void}
@@ -32,5 +32,5 @@ takenOffBy t (Call s) = 0
 takenOffBy t (Wager s a) = 0
 takenOffBy t (Board k) = 0
 takenOffBy t (Dead s) = 0
-takenOffBy t Settle = payoutNow t .fee + payoutNow t .unclaimed
+takenOffBy t Settle = payoutNow t .fee + payoutNow t .drop + payoutNow t .unclaimed
 takenOffBy t Void = 0

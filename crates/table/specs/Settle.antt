@@ -12,7 +12,7 @@ use Rattle.cards.specs.Order.{ranking52, bestAmong, strengthBy}
 use Rattle.cards.specs.Omaha.{allowed}
 use Rattle.pots.specs.Heights.{maskAt, backOf}
 use Rattle.pots.specs.Runs.{potsOf}
-use Rattle.pots.specs.Hand.{feeOfHand, dueOf, paidOf, unclaimedOf}
+use Rattle.pots.specs.Hand.{lone, feeOfHand, dropOfHand, dueOf, paidOf, unclaimedOf}
 use Rattle.pots.specs.declared.Pot.{Pot}
 use Rattle.pots.specs.declared.Commission.{Commission}
 use Rattle.chairs.specs.Chairs.{countOf, wantOf, holeOf, isFull, columnOf, chipsOf, closeAll}
@@ -65,9 +65,9 @@ scoreOf game b c = pick (isShown game c) (handScore game (holeOf c) (b .cards)) 
 abbrev pub scoresOf : Table → List ℕ
 scoresOf t = map (scoreOf (t .sheet .game) (t .board)) (t .chairs)
 
--- what the commission of the open hand goes by: the sheet's lines, and "the count of board cards"
+-- what the commission of the open hand goes by: the sheet's lines, and "the count of board cards"; the table is a lone one
 abbrev pub commissionOf : Table → Commission
-commissionOf t = record { rate = t .sheet .rate; cap = t .sheet .cap; step = t .sheet .step; board = t .board .count }
+commissionOf t = record { rate = t .sheet .rate; cap = t .sheet .cap; step = t .sheet .step; board = t .board .count; drop = lone }
 
 -- what the sitting dealt in at each seat is due: its part of the pots less commission, and its returned chips
 abbrev pub dueNow : Table → List ℕ
@@ -78,13 +78,14 @@ unfoldable pub payoutNow : Table → Payout
 payoutNow t = record {
   settled = true;
   fee = feeOfHand (totalsOf t) (livesOf t) (commissionOf t);
+  drop = dropOfHand (totalsOf t) (livesOf t) (commissionOf t);
   paid = paidOf (dueNow t) (hereOf t);
   sittings = map (columnOf what.Sitting) (t .chairs);
   unclaimed = unclaimedOf (dueNow t) (hereOf t);
 }
 
 abbrev pub noPayout : Payout
-noPayout = record { settled = false; fee = 0; paid = replicate 10 0; sittings = replicate 10 0; unclaimed = 0 }
+noPayout = record { settled = false; fee = 0; drop = 0; paid = replicate 10 0; sittings = replicate 10 0; unclaimed = 0 }
 
 -- no hand: of the last one only the puck seat is kept
 abbrev pub closedPlay : Play → Play

@@ -150,6 +150,7 @@ fn commission(t: Table) -> Commission
         cap: t.sheet.cap,
         step: t.sheet.step,
         board: t.board.count as u32,
+        drop: 0, // a lone table: no pool is shared
     }
 }
 
@@ -171,6 +172,7 @@ fn payout(t: Table) -> Payout
     Payout {
         settled: true,
         fee: s.fee,
+        drop: s.drop,
         paid,
         sittings: chairs::seats::column(cs, t.sheet.seats, What::Sitting),
         unclaimed: p.unclaimed,
@@ -242,6 +244,7 @@ pub fn no_payout() -> Payout
     Payout {
         settled: false,
         fee: 0,
+        drop: 0,
         paid: [0; 10],
         sittings: [0; 10],
         unclaimed: 0,

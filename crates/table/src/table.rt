@@ -33,6 +33,7 @@ pub struct Table {
 pub struct Payout {
     pub settled: bool,
     pub fee: u32,
+    pub drop: u32,
     pub paid: [u32; 10],
     pub sittings: [u32; 10],
     pub unclaimed: u32,

@@ -1,5 +1,5 @@
-//! Lines `seats puck rate cap step board  totals  live  strengths  present` in, one line
-//! with pots, back, fee, due, paid and unclaimed out. A line of another length,
+//! Lines `seats puck rate cap step board drop  totals  live  strengths  present` in, one line
+//! with pots, back, fee, drop, due, paid and unclaimed out. A line of another length,
 //! with a step of 0 or with a word that is no number is answered by `2`.
 
 use second::pots::{literally, Commission, Pots, Shares, Stake};
@@ -8,6 +8,7 @@ use std::io::{self, BufRead, BufWriter, Write};
 struct Case {
     puck: usize,
     commission: Commission,
+    drop: u64,
     /// These three by seat, place 0 unused.
     stakes: Vec<Stake>,
     strengths: Vec<u64>,
@@ -26,7 +27,7 @@ fn main() -> io::Result<()> {
 fn case(line: &str) -> Option<Case> {
     let words = line.split_ascii_whitespace();
     let numbers: Vec<u64> = words.map(|word| word.parse().ok()).collect::<Option<_>>()?;
-    let [seats, puck, rate, cap, step, board, ref lists @ ..] = *numbers else { return None };
+    let [seats, puck, rate, cap, step, board, drop, ref lists @ ..] = *numbers else { return None };
     let (seats, board_cards) = (seats as usize, board as usize);
     if !(2..=10).contains(&seats) || lists.len() != 4 * seats || step == 0 {
         return None;
@@ -40,6 +41,7 @@ fn case(line: &str) -> Option<Case> {
     Some(Case {
         puck: puck as usize,
         commission: Commission { rate, cap, step, board_cards },
+        drop,
         stakes: stakes.collect(),
         strengths: list(2).collect(),
         present: list(3).map(|present| present == 1).collect(),
@@ -49,7 +51,7 @@ fn case(line: &str) -> Option<Case> {
 impl Case {
     fn answer(&self) -> String {
         let pots = literally(&self.stakes);
-        let Shares { fee, due, .. } = pots.share(self.commission, self.puck, &self.strengths);
+        let Shares { fee, drop, due, .. } = pots.share_and_drop(self.commission, self.drop, self.puck, &self.strengths);
         let paid = due.iter().zip(&self.present).map(|(due, there)| due * u64::from(*there));
         let paid: Vec<u64> = paid.collect();
         let unclaimed = due.iter().sum::<u64>() - paid.iter().sum::<u64>();
@@ -58,7 +60,7 @@ impl Case {
         let pots = joined(pots.iter().map(|pot| pot.amount));
         let due = joined(due.into_iter().skip(1));
         let paid = joined(paid.into_iter().skip(1));
-        format!("pots:{pots} back: {back} fee: {fee} due:{due} paid:{paid} unclaimed: {unclaimed}")
+        format!("pots:{pots} back: {back} fee: {fee} drop: {drop} due:{due} paid:{paid} unclaimed: {unclaimed}")
     }
 }
 

@@ -1,0 +1,4 @@
+-- Request No. 7, "A jackpot pool for two tables": the pool, and its books over the hands of two tables.
+
+pub mod Jackpot
+pub mod Evening
