@@ -36,7 +36,7 @@ pub record InRange (s : Sheet) : Type 0 where
   pub rate : s .rate ≤ 100
   pub cap : s .cap ≤ 1000000
   pub step : (1 ≤ s .step) × (s .step ≤ 1000)
-  pub game : (s .game ≡ 2) ⊎ (s .game ≡ 4)
+  pub game : isGame (s .game) ≡ true
 
 pub good-ranged : (s : Sheet) → isSheet s ≡ true → InRange s
 unfolding isSheet
@@ -51,11 +51,11 @@ good-ranged s h =
       rate = leb-true (s .rate) 100 (each 4);
       cap = leb-true (s .cap) 1000000 (each 5);
       step = between-in 1 1000 (s .step) (each 6);
-      game = game-is (s .game) (each 7);
+      game = each 7;
     }
 
-game-small : (x : ℕ) → (x ≡ 2) ⊎ (x ≡ 4) → x ≤ 4
-game-small x h = ⊎-elim (λ e. omega arith) (λ e. omega arith) h
+game-small : (x : ℕ) → isGame x ≡ true → x ≤ 4
+game-small x h = ⊎-elim (λ e. omega arith) (λ e. omega arith) (game-is x h)
 
 -- so each number has at most nine digits
 pub good-small : (s : Sheet) → isSheet s ≡ true → (k : ℕ) → getD (sheetValues s) k 0 < 10 ^ 9
