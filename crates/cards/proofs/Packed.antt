@@ -60,7 +60,7 @@ module _ (t : Ranking) where
   seven-small n h = omega (arith, h .small)
 
   -- the class is told by its place
-  class-told : Placed t → (k j : ℕ) → k ≤ 9 → j ≤ 9 → getD (t .places) k 0 ≡ getD (t .places) j 0 → k ≡ j
+  pub class-told : Placed t → (k j : ℕ) → k ≤ 9 → j ≤ 9 → getD (t .places) k 0 ≡ getD (t .places) j 0 → k ≡ j
   class-told p k j h g e = elim (decLt k 9) [
     | yes a ↦ elim (decLt j 9) [
       | yes b ↦ p .apart k j a b e

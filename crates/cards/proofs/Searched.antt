@@ -1,12 +1,11 @@
 -- What each step of the search for the best hand finds, with the cards chosen and the best hand so far in one number each. Assumes nothing.
 use mathlib.Core.Path.{_≡_, refl, sym, ap, subst, _∙_}
 use mathlib.Core.Bool.{true, false}
-use mathlib.Core.List.{List, [], _∷_, _++_, append-nil, append-assoc, map}
+use mathlib.Core.List.{List, [], _∷_, _++_, map}
 use Prim.Native.Nat.{ℕ, suc, _+_, _-_, _/_, _%_, _<_, _≤_}
 use native.Mathlib.Omega.{arith}
 use native.Mathlib.Numerals.{add-one}
-use lib.ListN.{length, drop, getD, length-drop, drop-of-length-le, List·getD-eq-default}
-use lib.Seq.{drop-cons}
+use lib.ListN.{length, drop, getD, List·getD-eq-default}
 use borrow.Author.Tests.{lt-ltb, le-ltb}
 use Rattle.cards.specs.Cards.{rank, inRow, oneSuit}
 use Rattle.cards.specs.Hands.{hand, ranksOf, mostHeld, nextHeld, classOfCards, valueOf}
@@ -15,7 +14,7 @@ use Rattle.cards.specs.Packed.{digits, classIn, handIn, IsHand}
 use Rattle.cards.specs.declared.Hand.{Hand}
 use Rattle.cards.specs.declared.Ranking.{Ranking}
 use Rattle.cards.proofs.Kept.{class-below, pick-first, pick-second}
-use Rattle.cards.proofs.Choices.{when-chosen, when-all, when-more, best-short}
+use Rattle.cards.proofs.Choices.{when-chosen, when-more, best-short}
 use Rattle.cards.proofs.Packed.{digits-push, beats-number}
 
 pub hand-of : (n k : ℕ) (q : List ℕ) → q ≡ digits 5 n → k ≡ classIn n → hand k q ≡ handIn n
@@ -46,36 +45,11 @@ module _ (t : Ranking) (pl : Placed t) (a m n : ℕ) (v : Hand) (q : List ℕ) (
       ap (λ (h : Hand). beatsBy t h (handIn a)) (sym is-value) ∙ beats-number t pl m a (hm .1) ha ∙ le-ltb a m le in
       (sym (pick-second t (handIn a) (valueOf t (digits 5 n)) b), ha)
 
--- the cards that are left are pushed one after another
-pub rest-turn : (l p : List ℕ) (i n r : ℕ) → i < length l → length l - i ≤ 5 → r / 256 ≡ n % 4294967296 → r % 256 ≡ getD l i 0
-    → digits (5 - (length l - i)) n ++ drop i l ≡ p → digits (5 - (length l - (i + 1))) r ++ drop (i + 1) l ≡ p
-rest-turn l p i n r lt le e f inv =
-    let z : 5 - (length l - (i + 1)) ≡ suc (5 - (length l - i)) = omega arith in
-    let d : drop i l ≡ getD l i 0 ∷ drop (i + 1) l = rw add-one (drop-cons l i 0 lt) in
-    let g : digits (suc (5 - (length l - i))) r ≡ digits (5 - (length l - i)) n ++ (getD l i 0 ∷ []) =
-    digits-push (5 - (length l - i)) n (getD l i 0) r (omega arith) e f in
-    ap (λ (k : ℕ). digits k r ++ drop (i + 1) l) z ∙ ap (λ (q : List ℕ). q ++ drop (i + 1) l) g
-    ∙ append-assoc (digits (5 - (length l - i)) n) (getD l i 0 ∷ []) (drop (i + 1) l)
-    ∙ ap (λ (q : List ℕ). digits (5 - (length l - i)) n ++ q) (sym d) ∙ inv
-
-pub rest-done : (l p : List ℕ) (i n : ℕ) → length l ≤ i → digits (5 - (length l - i)) n ++ drop i l ≡ p → digits 5 n ≡ p
-rest-done l p i n le inv =
-    let z : 5 - (length l - i) ≡ 5 = omega arith in
-    sym (append-nil (digits 5 n)) ∙ ap (λ (q : List ℕ). digits 5 n ++ q) (sym (drop-of-length-le l le)) ∙ ap (λ (k : ℕ). digits k n ++ drop i l) (sym z) ∙ inv
-
 module _ (t : Ranking) (h r : Hand) (n j i : ℕ) (l : List ℕ) where
   -- five are chosen
   pub found-five : j ≡ 5 → r ≡ betterBy t h (valueOf t (digits 5 n)) → r ≡ keep t h (valuesFrom t (digits j n) (5 - j) (drop i l))
   found-five e er =
       er ∙ ap (λ (k : ℕ). betterBy t h (valueOf t (digits k n))) (sym e) ∙ sym (when-chosen t h (digits j n) (5 - j) (drop i l) (omega arith))
-
-  -- as many are left as are needed
-  pub found-rest : (m : ℕ) → j ≤ 5 → length l - i ≤ 5 - j → 5 - j ≤ length l - i → digits 5 m ≡ digits (5 - (length l - i)) n ++ drop i l
-      → r ≡ betterBy t h (valueOf t (digits 5 m)) → r ≡ keep t h (valuesFrom t (digits j n) (5 - j) (drop i l))
-  found-rest m le a b e er =
-      let z : 5 - (length l - i) ≡ j = omega arith in
-      er ∙ ap (λ (q : List ℕ). betterBy t h (valueOf t q)) (e ∙ ap (λ (k : ℕ). digits k n ++ drop i l) z)
-      ∙ sym (when-all t h (digits j n) (5 - j) (drop i l) (omega (arith, length-drop i l)))
 
   -- the next card is taken, and then skipped
   pub found-more : (m : ℕ) (g : Hand) → j ≤ 5 → (j ≡ 5 → ⊥) → i < length l → m / 256 ≡ n % 4294967296 → m % 256 ≡ getD l i 0

@@ -1,9 +1,9 @@
--- `cards::choose::number_of` meets its contract. Assumes nothing.
+-- `cards::weighing::number_of` meets its contract. Assumes nothing.
 use native.Mathlib.Omega.{arith}
 use Rattle.cards.proofs.Packed.{number-hand}
 use borrow.Author.Needs.{needs}
-use Rattle.cards.proofs.choose.number_of.Statement.{statement}
-use Rattle.cards.proofs.choose.number_of.Tie as tie
+use Rattle.cards.proofs.weighing.number_of.Statement.{statement}
+use Rattle.cards.proofs.weighing.number_of.Tie as tie
 
 place-requires : tie.Need-place-requires
 place-requires c κs = search needs

@@ -1,8 +1,8 @@
--- `cards::choose::five_in` meets its contract. Assumes nothing.
+-- `cards::weighing::five_in` meets its contract. Assumes nothing.
 use Rattle.cards.specs.Packed.{digits}
 use borrow.Author.Needs.{needs}
-use Rattle.cards.proofs.choose.five_in.Statement.{statement}
-use Rattle.cards.proofs.choose.five_in.Tie as tie
+use Rattle.cards.proofs.weighing.five_in.Statement.{statement}
+use Rattle.cards.proofs.weighing.five_in.Tie as tie
 
 last-requires : tie.Need-last-requires
 last-requires c κs = search needs

@@ -1,8 +1,8 @@
--- `cards::choose::hand_in` meets its contract. Assumes nothing.
+-- `cards::weighing::hand_in` meets its contract. Assumes nothing.
 use Rattle.cards.proofs.Searched.{hand-of}
 use borrow.Author.Needs.{needs}
-use Rattle.cards.proofs.choose.hand_in.Statement.{statement}
-use Rattle.cards.proofs.choose.hand_in.Tie as tie
+use Rattle.cards.proofs.weighing.hand_in.Statement.{statement}
+use Rattle.cards.proofs.weighing.hand_in.Tie as tie
 
 five-in-requires : tie.Need-five-in-requires
 five-in-requires c κs = search needs
