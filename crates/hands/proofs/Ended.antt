@@ -1,19 +1,27 @@
 -- What a line is after its last number, and the answer to it, put together from what was called. Assumes nothing.
 use mathlib.Core.Path.{_≡_, sym, ap, ap₂, _∙_, subst}
-use mathlib.Core.Bool.{Bool, true, false}
+use mathlib.Core.Bool.{Bool, true, false, not}
 use mathlib.Core.List.{List, [], _∷_}
-use Prim.Native.Nat.{ℕ, _+_, _-_, _<_, _≤_}
+use Prim.Native.Nat.{ℕ, suc, _+_, _-_, _<_, _≤_}
 use native.Mathlib.Omega.{arith}
-use lib.Dec.{ltb}
-use lib.ListN.{length, take, drop, set}
+use lib.Dec.{eqb, ltb}
+use lib.ListN.{length, getD, take, drop, set}
 use lib.Seq.{set-out}
-use borrow.Author.Tests.{lt-ltb, le-ltb}
+use borrow.Author.Tests.{ne-eqb, lt-ltb, le-ltb}
 use Rattle.laws.specs.Tests.{pick}
-use Rattle.cards.specs.Reading.{codeOfReading, readingOf}
+use Rattle.laws.specs.Often.{tally}
+use Rattle.laws.proofs.Often.{tally-most}
+use Rattle.cards.specs.Order.{ranking52, bestOf}
+use Rattle.cards.specs.Reading.{codeOfReading, anyAbove, anyTwice, readingOf}
 use Rattle.cards.specs.declared.Hand.{Hand}
 use Rattle.cards.specs.declared.asked.Reading.{Reading}
-use Rattle.cards.specs.declared.asked.Reading.the-variants.{Known}
-use Rattle.hands.specs.Answers.{Wrote, numberBytes, handBytes, readingBytes}
+use Rattle.cards.specs.declared.asked.Reading.the-variants.{Known, NotSeven, NoCard, Repeat}
+use Rattle.cards.proofs.Falls.{seven-list}
+use Rattle.ladder.specs.Ladder.{ladder, isOn, beats52, placeOf}
+use Rattle.ladder.proofs.Laid.{ladder-length}
+use Rattle.counts.specs.HandOrder.{countedReading}
+use Rattle.counts.proofs.Agree.{readers-agree}
+use Rattle.hands.specs.Answers.{Wrote, numberBytes, handBytes, placeBytes, knownBytes, readingBytes}
 use Rattle.hands.specs.Lines.{lineOf, endedTo, cardsTo, answerOf}
 use Rattle.hands.specs.declared.Line.{Line}
 use Rattle.hands.proofs.Written.{next}
@@ -43,21 +51,50 @@ module _ (l : Line) (cs : List ℕ) where
     sym (set-out cs (l .have) (l .word) h) ∙ sym (ap (λ (b : Bool). pick b (set cs (l .have) (l .word)) cs) e),
   )
 
-pub known-bytes : {at s : ℕ} {o m : List ℕ} (r : Reading) (h : Hand) → r ≡ Known h → Wrote (handBytes h) at o m s → Wrote (readingBytes r) at o m s
-unfolding readingBytes
-known-bytes {at} {s} {o} {m} r h e w = subst (λ (x : Reading). Wrote (readingBytes x) at o m s) (sym e) w
+-- ---- the answer
+module _ {at s : ℕ} {o m : List ℕ} (place : Bool) (h : Hand) where
+  pub known-place : place ≡ true → Wrote (placeBytes h) at o m s → Wrote (knownBytes place h) at o m s
+  unfolding knownBytes
+  known-place e w = subst (λ (b : Bool). Wrote (pick b (placeBytes h) (handBytes h)) at o m s) (sym e) w
 
-pub refused-bytes : {at s : ℕ} {o m : List ℕ} (r v : Reading) (k : ℕ) → r ≡ v → readingBytes v ≡ numberBytes (codeOfReading v) → k ≡ codeOfReading r
-    → Wrote (numberBytes k) at o m s → Wrote (readingBytes r) at o m s
-refused-bytes {at} {s} {o} {m} r v k e q c w =
-    subst (λ (bs : List ℕ). Wrote bs at o m s) (ap numberBytes (c ∙ ap codeOfReading e) ∙ sym q ∙ ap readingBytes (sym e)) w
+  pub known-hand : place ≡ false → Wrote (handBytes h) at o m s → Wrote (knownBytes place h) at o m s
+  unfolding knownBytes
+  known-hand e w = subst (λ (b : Bool). Wrote (pick b (placeBytes h) (handBytes h)) at o m s) (sym e) w
 
-pub answer-is : {at r s : ℕ} {o m p : List ℕ} (l e : Line) (cs ds : List ℕ) (a : Reading) → e ≡ endedTo l (length cs) → ds ≡ cardsTo l cs
-    → a ≡ readingOf (take (e .have - 0) (drop 0 ds)) → Wrote (readingBytes a) at o m r → Wrote (10 ∷ []) r m p s → Wrote (answerOf l cs) at o p s
+module _ {at s : ℕ} {o m : List ℕ} (place : Bool) where
+  pub known-bytes : (r : Reading) (h : Hand) → r ≡ Known h → Wrote (knownBytes place h) at o m s → Wrote (readingBytes place r) at o m s
+  unfolding readingBytes
+  known-bytes r h e w = subst (λ (x : Reading). Wrote (readingBytes place x) at o m s) (sym e) w
+
+  pub refused-bytes : (r v : Reading) (k : ℕ) → r ≡ v → readingBytes place v ≡ numberBytes (codeOfReading v) → k ≡ codeOfReading r
+      → Wrote (numberBytes k) at o m s → Wrote (readingBytes place r) at o m s
+  refused-bytes r v k e q c w =
+      subst (λ (bs : List ℕ). Wrote bs at o m s) (ap numberBytes (c ∙ ap codeOfReading e) ∙ sym q ∙ ap (readingBytes place) (sym e)) w
+
+pub answer-is : {at r s : ℕ} {o m p : List ℕ} (place : Bool) (l e : Line) (cs ds : List ℕ) (a : Reading) → e ≡ endedTo l (length cs) → ds ≡ cardsTo l cs
+    → a ≡ readingOf (take (e .have - 0) (drop 0 ds)) → Wrote (readingBytes place a) at o m r → Wrote (10 ∷ []) r m p s → Wrote (answerOf place l cs) at o p s
 unfolding answerOf
-answer-is {at} {r} {s} {o} {m} {p} l e cs ds a f g q w v =
+answer-is {at} {r} {s} {o} {m} {p} place l e cs ds a f g q w v =
     let z : e .have - 0 ≡ e .have = omega arith in
     next
-    (subst (λ (x : Reading). Wrote (readingBytes x) at o m r)
+    (subst (λ (x : Reading). Wrote (readingBytes place x) at o m r)
     (q ∙ ap (λ (n : ℕ). readingOf (take n ds)) z ∙ ap₂ (λ (x : Line) (y : List ℕ). readingOf (take (x .have) y)) f g) w)
     v
+
+-- ---- the place has four digits at most
+pub place-small : (h : Hand) → placeOf h < 10000
+unfolding placeOf
+place-small h = go (isOn h)
+  where
+    go : (b : Bool) → pick b (suc (tally (beats52 h) ladder)) 0 < 10000
+    go true = omega (arith, tally-most (beats52 h) ladder, ladder-length)
+    go false = omega arith
+
+-- ---- both readers give the same answer
+pub counted-as : (l : List ℕ) (r : Reading) → length l ≡ 7
+    → r ≡ countedReading (getD l 0 0 ∷ getD l 1 0 ∷ getD l 2 0 ∷ getD l 3 0 ∷ getD l 4 0 ∷ getD l 5 0 ∷ getD l 6 0 ∷ []) → r ≡ readingOf l
+counted-as l r n e = e ∙ ap countedReading (sym (seven-list 0 l n)) ∙ readers-agree l n
+
+pub not-seven : (l : List ℕ) → (length l ≡ 7 → ⊥) → NotSeven ≡ readingOf l
+unfolding readingOf
+not-seven l h = sym (ap (λ (b : Bool). pick (not b) NotSeven (pick (anyAbove l) NoCard (pick (anyTwice l) Repeat (Known (bestOf ranking52 l))))) (ne-eqb (length l) 7 h))

@@ -1,5 +1,5 @@
 -- No section of the paper: how the program `hands` reads a line, numbers with blanks between them. Assumes nothing.
-use mathlib.Core.Bool.{true, false}
+use mathlib.Core.Bool.{Bool, true, false}
 use mathlib.Core.List.{List, [], _∷_, _++_}
 use Prim.Native.Nat.{ℕ, _+_, _-_, _*_, min}
 use lib.Dec.{ltb, leb, eqb}
@@ -36,6 +36,6 @@ takenTo l room b = pick (eqb b 32) (endedTo l room) (record { have = l .have; wo
 unfoldable pub cardsWith : Line → List ℕ → ℕ → List ℕ
 cardsWith l cards b = pick (eqb b 32) (cardsTo l cards) cards
 
--- the answer to a line, with its LF
-unfoldable pub answerOf : Line → List ℕ → List ℕ
-answerOf l cards = readingBytes (readingOf (take (endedTo l (length cards) .have) (cardsTo l cards))) ++ (10 ∷ [])
+-- the answer to a line, with its LF; told whether the place is asked for. Both readers give it
+unfoldable pub answerOf : Bool → Line → List ℕ → List ℕ
+answerOf place l cards = readingBytes place (readingOf (take (endedTo l (length cards) .have) (cardsTo l cards))) ++ (10 ∷ [])

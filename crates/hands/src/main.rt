@@ -1,15 +1,24 @@
 // Hands: a line of card numbers after another on standard input, and for each what the box answers when it is asked about them: the class of the
-// best five, 8 for a straight flush down to 0 for five odd cards, and their ranks as they are compared; or the paper's number for a refusal.
+// best five, 8 for a straight flush down to 0 for five odd cards, and their ranks as they are compared; or the paper's number for a refusal. With the
+// argument --counted the second reader answers, which counts; with --place the place of the hand is written in place of its class and ranks.
 use cards::Hand;
 use cards::Reading;
+use laws::either;
 use libc::STDIN_FILENO;
 use libc::STDOUT_FILENO;
 ghost use mathlib.Core.Path.{_≡_};
 ghost use mathlib.Core.List.{[], _∷_};
 ghost use Prim.Native.Nat.{_+_, _-_, _≤_, _<_};
 ghost use lib.ListN.{length, set};
+ghost use Rattle.cards.specs.Reading.{readingOf};
 ghost use Rattle.hands.specs.Lines.{noLine, grownOf, endedTo, cardsTo, takenTo, cardsWith, answerOf};
-ghost use Rattle.hands.specs.Answers.{Wrote, numberBytes, rankBytes, handBytes, readingBytes};
+ghost use Rattle.hands.specs.Answers.{Wrote, numberBytes, rankBytes, handBytes, fourBytes, keyBytes, placeBytes, knownBytes, readingBytes};
+
+// What is asked for: the second reader in place of the first; the hand's place in place of its class and ranks.
+struct Wish {
+    counted: bool,
+    place: bool,
+}
 
 // A line that is being read: how many numbers stand in it so far, and the one that has begun.
 struct Line {
@@ -134,28 +143,107 @@ fn put_hand(h: Hand, out: &mut [u8], at: usize) -> usize
     put_rank(out, e, h.r5)
 }
 
-fn put_reading(r: Reading, out: &mut [u8], at: usize) -> usize
+// A number of at most four digits.
+fn put_four(out: &mut [u8], at: usize, n: u32) -> usize
+    requires { ⌜ (at + 4 ≤ length (now out)) × (n < 10000) ⌝ }
+    ensures wrote { λ r. ⌜ Wrote (fourBytes n) at (now (out .entry)) (now (out .exit)) r ⌝ }
+    ensures room { λ r. ⌜ r ≤ at + 4 ⌝ }
+{
+    if n < 100 {
+        return put_number(out, at, n as u8);
+    }
+    let a = put_number(out, at, (n / 100) as u8);
+    let b = put(out, a, (48 + n % 100 / 10) as u8);
+    put(out, b, (48 + n % 10) as u8)
+}
+
+// `place=`
+fn put_key(out: &mut [u8], at: usize) -> usize
+    requires { ⌜ at + 6 ≤ length (now out) ⌝ }
+    ensures wrote { λ r. ⌜ Wrote keyBytes at (now (out .entry)) (now (out .exit)) r ⌝ }
+    ensures room { λ r. ⌜ r ≡ at + 6 ⌝ }
+{
+    let a = put(out, at, 112);
+    let b = put(out, a, 108);
+    let c = put(out, b, 97);
+    let d = put(out, c, 99);
+    let e = put(out, d, 101);
+    put(out, e, 61)
+}
+
+fn put_place(h: Hand, out: &mut [u8], at: usize) -> usize
+    requires { ⌜ at + 10 ≤ length (now out) ⌝ }
+    ensures wrote { λ r. ⌜ Wrote (placeBytes h) at (now (out .entry)) (now (out .exit)) r ⌝ }
+    ensures room { λ r. ⌜ r ≤ at + 10 ⌝ }
+{
+    let next = put_key(out, at);
+    put_four(out, next, ladder::place(h))
+}
+
+// A hand by its place, or by its class and ranks.
+fn put_known(place: bool, h: Hand, out: &mut [u8], at: usize) -> usize
     requires { ⌜ at + 17 ≤ length (now out) ⌝ }
-    ensures wrote { λ n. ⌜ Wrote (readingBytes r) at (now (out .entry)) (now (out .exit)) n ⌝ }
+    ensures wrote { λ r. ⌜ Wrote (knownBytes place h) at (now (out .entry)) (now (out .exit)) r ⌝ }
+    ensures room { λ r. ⌜ r ≤ at + 17 ⌝ }
+{
+    if place {
+        return put_place(h, out, at);
+    }
+    put_hand(h, out, at)
+}
+
+fn put_reading(place: bool, r: Reading, out: &mut [u8], at: usize) -> usize
+    requires { ⌜ at + 17 ≤ length (now out) ⌝ }
+    ensures wrote { λ n. ⌜ Wrote (readingBytes place r) at (now (out .entry)) (now (out .exit)) n ⌝ }
     ensures room { λ n. ⌜ n ≤ at + 17 ⌝ }
 {
     match r {
-        Reading::Known(h) => put_hand(h, out, at),
+        Reading::Known(h) => put_known(place, h, out, at),
         Reading::NotSeven => put_number(out, at, cards::code_of(r)),
         Reading::NoCard => put_number(out, at, cards::code_of(r)),
         Reading::Repeat => put_number(out, at, cards::code_of(r)),
     }
 }
 
+// The answer of the second reader, which takes seven cards.
+fn read_counted(cards: &[u8]) -> Reading
+    ensures { λ r. ⌜ r ≡ readingOf (now (cards .entry)) ⌝ }
+{
+    if cards.len() != 7 {
+        return Reading::NotSeven;
+    }
+    counts::counted([
+        cards[0],
+        cards[1],
+        cards[2],
+        cards[3],
+        cards[4],
+        cards[5],
+        cards[6],
+    ])
+}
+
+// The answer of either reader: it is the same.
+fn read_cards(counted: bool, cards: &[u8]) -> Reading
+    ensures { λ r. ⌜ r ≡ readingOf (now (cards .entry)) ⌝ }
+{
+    if counted {
+        return read_counted(cards);
+    }
+    cards::read_hand(cards)
+}
+
 // The answer to the line, in a line of its own.
-fn answer(l: Line, cards: &mut [u8], out: &mut [u8], at: usize) -> usize
+fn answer(w: Wish, l: Line, cards: &mut [u8], out: &mut [u8], at: usize) -> usize
     requires { ⌜ (l .have ≤ length (now cards)) × (at + 18 ≤ length (now out)) ⌝ }
-    ensures wrote { λ r. ⌜ Wrote (answerOf l (now (cards .entry))) at (now (out .entry)) (now (out .exit)) r ⌝ }
+    ensures wrote { λ r. ⌜ Wrote (answerOf (w .place) l (now (cards .entry))) at (now (out .entry)) (now (out .exit)) r ⌝ }
     ensures room { λ r. ⌜ r ≤ at + 18 ⌝ }
 {
     let ended = end_word(l, cards);
     let n = ended.have;
-    let end = put_reading(cards::read_hand(&cards[0..n]), out, at);
+    let counted = w.counted;
+    let place = w.place;
+    let end = put_reading(place, read_cards(counted, &cards[0..n]), out, at);
     put(out, end, 10)
 }
 
@@ -177,7 +265,7 @@ fn flush(answers: &[u8]) -> usize
 }
 
 // A byte of the input: an LF ends a line, which is answered.
-fn serve_byte(l: Line, cards: &mut [u8], b: u8, out: &mut [u8], at: usize) -> Served
+fn serve_byte(w: Wish, l: Line, cards: &mut [u8], b: u8, out: &mut [u8], at: usize) -> Served
     requires { ⌜ (l .have ≤ length (now cards)) × (at ≤ length (now out)) × (length (now out) ≡ 65536) ⌝ }
     ensures { λ r. ⌜ (r .line .have ≤ length (now (cards .entry))) × (r .at ≤ length (now (out .entry))) ⌝ }
 {
@@ -186,13 +274,13 @@ fn serve_byte(l: Line, cards: &mut [u8], b: u8, out: &mut [u8], at: usize) -> Se
         return Served { line, at };
     }
     let k = flush(&out[0..at]);
-    let end = answer(l, cards, out, k);
+    let end = answer(w, l, cards, out, k);
     let line = fresh();
     Served { line, at: end }
 }
 
 // Answers every line that ends in this part of the input, in one write where the answers fit.
-fn serve(l: Line, cards: &mut [u8], part: &[u8]) -> Line
+fn serve(w: Wish, l: Line, cards: &mut [u8], part: &[u8]) -> Line
     requires { ⌜ l .have ≤ length (now cards) ⌝ }
     ensures { λ r. ⌜ r .have ≤ length (now (cards .entry)) ⌝ }
 {
@@ -201,7 +289,7 @@ fn serve(l: Line, cards: &mut [u8], part: &[u8]) -> Line
     let mut at: usize = 0;
     let mut i: usize = 0;
     while i < part.len() {
-        let s = serve_byte(line, cards, part[i], &mut out, at);
+        let s = serve_byte(w, line, cards, part[i], &mut out, at);
         let d = s.line;
         line = d;
         at = s.at;
@@ -217,7 +305,7 @@ struct Turn {
 }
 
 // One read, and the answers to it.
-fn read_some(l: Line, cards: &mut [u8]) -> Turn
+fn read_some(w: Wish, l: Line, cards: &mut [u8]) -> Turn
     requires { ⌜ l .have ≤ length (now cards) ⌝ }
     ensures { λ r. ⌜ r .line .have ≤ length (now (cards .entry)) ⌝ }
 {
@@ -230,18 +318,18 @@ fn read_some(l: Line, cards: &mut [u8]) -> Turn
         };
     }
     let n = io::count(got, &input);
-    let line = serve(l, cards, &input[..n]);
+    let line = serve(w, l, cards, &input[..n]);
     Turn { line, more: true }
 }
 
 // Reads to the end of the input. A proved loop has to end, so it counts its turns down from a number that no run uses up.
-fn read_all(cards: &mut [u8]) -> Line
+fn read_all(w: Wish, cards: &mut [u8]) -> Line
     ensures { λ r. ⌜ r .have ≤ length (now (cards .entry)) ⌝ }
 {
     let mut line = fresh();
     let mut turns = u64::MAX;
     while turns > 0 {
-        let t = read_some(line, cards);
+        let t = read_some(w, line, cards);
         let d = t.line;
         line = d;
         if !t.more {
@@ -257,13 +345,33 @@ fn is_begun(l: Line) -> bool {
     if l.begun { true } else { 0 < l.have }
 }
 
+// Whether the k-th argument is this word.
+fn is_argument(k: usize, word: &[u8]) -> bool {
+    let mut given = [0u8; 16];
+    let n = os::arg(k, &mut given);
+    check::same(&given[..n], word)
+}
+
+// Whether one of the two arguments is this word.
+fn is_given(word: &[u8]) -> bool {
+    either(is_argument(1, word), is_argument(2, word))
+}
+
+fn wished() -> Wish {
+    Wish {
+        counted: is_given(b"--counted"),
+        place: is_given(b"--place"),
+    }
+}
+
 // The last line may lack its LF.
 fn main() {
     let mut cards = [0u8; 8];
     let mut out = [0u8; 18];
-    let line = read_all(&mut cards);
+    let w = wished();
+    let line = read_all(w, &mut cards);
     if is_begun(line) {
-        let n = answer(line, &mut cards, &mut out, 0);
+        let n = answer(w, line, &mut cards, &mut out, 0);
         io::write_all(STDOUT_FILENO, &out[0..n]);
     }
 }

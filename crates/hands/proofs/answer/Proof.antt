@@ -8,17 +8,17 @@ use Rattle.hands.proofs.answer.Tie as tie
 end-word-requires : tie.Need-end-word-requires
 end-word-requires c κs = search needs
 
-sub-read-hand : tie.Need-sub-read-hand
-sub-read-hand c = search needs
+sub-read-cards : tie.Need-sub-read-cards
+sub-read-cards c = search needs
 
-part-read-hand-start : tie.Need-part-read-hand-start
-part-read-hand-start c = search needs
+part-read-cards-start : tie.Need-part-read-cards-start
+part-read-cards-start c = search needs
 
-part-read-hand-end : tie.Need-part-read-hand-end
-part-read-hand-end c = omega (arith, c .before .before .before .end-word .ensures .1 ((c .before .before .before .before .before .before .before) .pre .0))
+part-read-cards-end : tie.Need-part-read-cards-end
+part-read-cards-end c = omega (arith, c .before .before .before .end-word .ensures .1 ((c .before .before .before .before .before .before .before) .pre .0))
 
-read-hand-requires : tie.Need-read-hand-requires
-read-hand-requires c κs = search needs
+read-cards-requires : tie.Need-read-cards-requires
+read-cards-requires c κs = search needs
 
 put-reading-requires : tie.Need-put-reading-requires
 put-reading-requires c κs = search needs
@@ -33,17 +33,17 @@ same-length-2 : tie.Need-same-length-2
 same-length-2 c = search needs
 
 returns : tie.Need-returns
-returns c = (answer-is _ (c .before .before .before .before .before .before .before .before .before .before .before .before .before .end-word .result) _ _ (c .before .before .before .before .before .before .before .before .read-hand .result) (c .before .before .before .before .before .before .before .before .before .before .before .before .before .end-word .ensures .0 .0) (c .before .before .before .before .before .before .before .before .before .before .before .before .before .end-word .ensures .0 .1) (c .before .before .before .before .before .before .before .before .read-hand .ensures .0) (c .before .before .before .before .before .before .put-reading .ensures .0) (c .before .before .put .ensures .0), omega (arith, c .before .before .before .before .before .before .put-reading .ensures .1, c .before .before .put .ensures .1))
+returns c = (answer-is _ _ (c .before .before .before .before .before .before .before .before .before .before .before .before .before .end-word .result) _ _ (c .before .before .before .before .before .before .before .before .read-cards .result) (c .before .before .before .before .before .before .before .before .before .before .before .before .before .end-word .ensures .0 .0) (c .before .before .before .before .before .before .before .before .before .before .before .before .before .end-word .ensures .0 .1) (c .before .before .before .before .before .before .before .before .read-cards .ensures) (c .before .before .before .before .before .before .put-reading .ensures .0) (c .before .before .put .ensures .0), omega (arith, c .before .before .before .before .before .before .put-reading .ensures .1, c .before .before .put .ensures .1))
 
 pub answer-spec : {M : Type 1} → statement M
 answer-spec =
     tie.close
     (tie.spec
     end-word-requires
-    sub-read-hand
-    part-read-hand-start
-    part-read-hand-end
-    read-hand-requires
+    sub-read-cards
+    part-read-cards-start
+    part-read-cards-end
+    read-cards-requires
     put-reading-requires
     put-requires
     same-length

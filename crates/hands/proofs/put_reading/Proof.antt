@@ -11,8 +11,8 @@ use Rattle.hands.proofs.put_reading.Tie as tie
 enum-known-r : tie.Need-enum-known-r
 enum-known-r c = search needs
 
-put-hand-requires : tie.Need-put-hand-requires
-put-hand-requires c κs = search needs
+put-known-requires : tie.Need-put-known-requires
+put-known-requires c κs = search needs
 
 enum-told : tie.Need-enum-told
 enum-told c = search needs
@@ -46,7 +46,7 @@ same-length c = search needs
 
 returns : tie.Need-returns
 returns c =
-    (known-bytes _ _ (c .before .before .before .before .before .r .given .1) (c .before .before .put-hand .ensures .0), omega (arith, c .before .before .put-hand .ensures .1))
+    (known-bytes _ _ _ (c .before .before .before .before .before .r .given .1) (c .before .before .put-known .ensures .0), omega (arith, c .before .before .put-known .ensures .1))
 
 same-length-2 : tie.Need-same-length-2
 same-length-2 c = search needs
@@ -54,7 +54,7 @@ same-length-2 c = search needs
 returns-2 : tie.Need-returns-2
 unfolding readingBytes
 returns-2 c = (
-  refused-bytes _ NotSeven _ (c .before .before .before .before .before .enum-told .given .1) refl (c .before .before .before .code-of .ensures) (c .before .before .put-number .ensures .0),
+  refused-bytes _ _ NotSeven _ (c .before .before .before .before .before .enum-told .given .1) refl (c .before .before .before .code-of .ensures) (c .before .before .put-number .ensures .0),
   omega (arith, c .before .before .put-number .ensures .1),
 )
 
@@ -64,7 +64,7 @@ same-length-3 c = search needs
 returns-3 : tie.Need-returns-3
 unfolding readingBytes
 returns-3 c = (
-  refused-bytes _ NoCard _ (c .before .before .before .before .before .enum-told2 .given .1) refl (c .before .before .before .code-of2 .ensures) (c .before .before .put-number2 .ensures .0),
+  refused-bytes _ _ NoCard _ (c .before .before .before .before .before .enum-told2 .given .1) refl (c .before .before .before .code-of2 .ensures) (c .before .before .put-number2 .ensures .0),
   omega (arith, c .before .before .put-number2 .ensures .1),
 )
 
@@ -74,7 +74,7 @@ same-length-4 c = search needs
 returns-4 : tie.Need-returns-4
 unfolding readingBytes
 returns-4 c = (
-  refused-bytes _ Repeat _ (c .before .before .before .before .before .enum-told3 .given .1) refl (c .before .before .before .code-of3 .ensures) (c .before .before .put-number3 .ensures .0),
+  refused-bytes _ _ Repeat _ (c .before .before .before .before .before .enum-told3 .given .1) refl (c .before .before .before .code-of3 .ensures) (c .before .before .put-number3 .ensures .0),
   omega (arith, c .before .before .put-number3 .ensures .1),
 )
 
@@ -83,7 +83,7 @@ put-reading-spec =
     tie.close
     (tie.spec
     enum-known-r
-    put-hand-requires
+    put-known-requires
     enum-told
     code-of-requires
     put-number-requires

@@ -8,10 +8,10 @@ use Rattle.hands.proofs.read_all.Statement.{statement}
 use Rattle.hands.proofs.read_all.Tie as tie
 
 abbrev Inv-loop : tie.InvT-loop
-Inv-loop cards₀ line₀ turns₀ cards line turns = (length cards ≡ length cards₀) × (line .have ≤ length cards₀)
+Inv-loop w cards₀ line₀ turns₀ cards line turns = (length cards ≡ length cards₀) × (line .have ≤ length cards₀)
 
 abbrev μ-loop : tie.MeasureT-loop
-μ-loop cards₀ line₀ turns₀ cards line turns = turns
+μ-loop w cards₀ line₀ turns₀ cards line turns = turns
 
 fresh-requires : tie.Need-fresh-requires Inv-loop μ-loop
 fresh-requires c κs = search needs

@@ -8,11 +8,11 @@ use Rattle.hands.proofs.serve.Statement.{statement}
 use Rattle.hands.proofs.serve.Tie as tie
 
 abbrev Inv-loop : tie.InvT-loop
-Inv-loop cards₀ part out₀ line₀ at₀ i₀ cards out line at i =
+Inv-loop w cards₀ part out₀ line₀ at₀ i₀ cards out line at i =
     (length cards ≡ length cards₀) × (length out ≡ 65536) × (line .have ≤ length cards₀) × (at ≤ 65536) × (i ≤ length part)
 
 abbrev μ-loop : tie.MeasureT-loop
-μ-loop cards₀ part out₀ line₀ at₀ i₀ cards out line at i = length part - i
+μ-loop w cards₀ part out₀ line₀ at₀ i₀ cards out line at i = length part - i
 
 large-buffer-requires : tie.Need-large-buffer-requires Inv-loop μ-loop
 large-buffer-requires c κs = search needs
