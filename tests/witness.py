@@ -59,8 +59,9 @@ def number_argument(place, default):
 
 
 def run(program, data):
-    """Exit status and whole output; a negative status names a signal."""
-    done = subprocess.run([program], input=data, stdout=subprocess.PIPE, timeout=SECONDS_ALLOWED)
+    """Exit status and whole output of a program, or of a list of it and its options; a negative status names a signal."""
+    command = program if isinstance(program, list) else [program]
+    done = subprocess.run(command, input=data, stdout=subprocess.PIPE, timeout=SECONDS_ALLOWED)
     return done.returncode, done.stdout
 
 
