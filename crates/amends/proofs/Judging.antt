@@ -29,6 +29,7 @@ use Rattle.records.specs.Stored.{recordIn, entryIn}
 use Rattle.records.specs.declared.Record.{Record}
 use Rattle.fresh.specs.Reading.{replacing, playedTo}
 use Rattle.fresh.specs.declared.Played.{Played}
+use Rattle.fresh.proofs.Counts.{played-sheet, played-count}
 use Rattle.desk.specs.Desk.{refusedAt, SmallPaid}
 use Rattle.desk.specs.declared.Judged.{Judged}
 use Rattle.desk.proofs.Laws.{small-none}
@@ -158,3 +159,33 @@ judged-n t shared r log = go (eqb (codeBefore t shared r log) 0)
 
 pub judged-small : (t : Table) (shared : Bool) (r : Right) (log : List ℕ) {j : Judged} → numberOf r < 10 ^ 9 → j ≡ judgedRight t shared r log → j .n < 10 ^ 9
 judged-small t shared r log h e = subst (λ (k : ℕ). k < 10 ^ 9) (sym (ap (λ (x : Judged). x .n) e ∙ judged-n t shared r log)) h
+
+-- a correction changes neither the sheet nor how many entries are taken
+righted-keeps : (t : Table) (n : ℕ) (p : Played) → p .table .sheet ≡ t .sheet → (p .ok ≡ true → p .table .taken ≡ t .taken)
+    → (rightedBy t n p .table .sheet ≡ t .sheet) × (rightedBy t n p .table .taken ≡ t .taken)
+unfolding rightedBy
+righted-keeps t n p s c = go (p .ok) c
+  where
+    go : (b : Bool) → (b ≡ true → p .table .taken ≡ t .taken)
+        → (pick b (record { block = true; n = n; code = 0; table = p .table; payout = noPayout }) (refusedAt t n 13) .table .sheet ≡ t .sheet)
+        × (pick b (record { block = true; n = n; code = 0; table = p .table; payout = noPayout }) (refusedAt t n 13) .table .taken ≡ t .taken)
+    go true q = (s, q refl)
+    go false q = (refl, refl)
+
+replayed-keeps : (t : Table) (n : ℕ) (x : Parsed) (log : List ℕ) → (replayedOf t n x log .table .sheet ≡ t .sheet) × (replayedOf t n x log .table .taken ≡ t .taken)
+replayed-keeps t n (Read e) log =
+    let f = replacing (n - 1) e (entryIn log) in
+    righted-keeps t n (playedTo (t .sheet) f (t .taken)) (played-sheet (t .sheet) f (t .taken)) (played-count (t .sheet) f (t .taken))
+replayed-keeps t n OutOfRange log = (refl, refl)
+
+pub judged-keeps : (t : Table) (shared : Bool) (r : Right) (log : List ℕ)
+    → (judgedRight t shared r log .table .sheet ≡ t .sheet) × (judgedRight t shared r log .table .taken ≡ t .taken)
+unfolding judgedRight
+judged-keeps t shared r log = go (eqb (codeBefore t shared r log) 0)
+  where
+    j : Bool → Judged
+    j b = pick b (replayedOf t (numberOf r) (parsedIn (r .block)) log) (refusedAt t (numberOf r) (codeBefore t shared r log))
+
+    go : (b : Bool) → (j b .table .sheet ≡ t .sheet) × (j b .table .taken ≡ t .taken)
+    go true = replayed-keeps t (numberOf r) (parsedIn (r .block)) log
+    go false = (refl, refl)
