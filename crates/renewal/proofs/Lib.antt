@@ -1,0 +1,3 @@
+-- Laws of a log that gets today's sheet.
+pub mod Steps
+pub mod Parts

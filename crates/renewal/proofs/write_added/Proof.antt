@@ -1,0 +1,41 @@
+-- `write_added` meets its contract: the lines of the constant behind those that are there.
+use Rattle.renewal.proofs.Steps.{addedLine, added-bytes, lines-are, lines-short, lines-put}
+use Rattle.renewal.specs.OldSheets.{addedLines}
+use native.Mathlib.Omega.{arith}
+use borrow.Author.Needs.{needs}
+use Rattle.renewal.proofs.write_added.Statement.{statement}
+use Rattle.renewal.proofs.write_added.Tie as tie
+use Rattle.renewal.proofs.write_added.Reads as reads
+use Rattle.renewal.proofs.write_added.Lts as lts
+use Rattle.renewal.proofs.later_lines.Reads as later-lines-reads
+use Rattle.text.proofs.line.after_lines.Reads as after-lines-reads
+use Rattle.writing.proofs.put_bytes.Reads as put-bytes-reads
+
+slice-aggregate-after-lines : tie.Need-slice-aggregate-after-lines
+slice-aggregate-after-lines c = search needs
+
+later-lines-requires : tie.Need-later-lines-requires
+later-lines-requires c κs = search needs
+
+after-lines-requires : tie.Need-after-lines-requires
+after-lines-requires c κs = search needs
+
+put-bytes-requires : tie.Need-put-bytes-requires
+put-bytes-requires c κs = let m = lines-short ((c .before .before .before .before .before) .args .k) addedLines (lines-are ((c .before .before .before .before .before) .args .k) addedLines addedLine added-bytes (c .before .later-lines .ensures) (c .after-lines .ensures)) in omega (arith, m, (c .before .before .before .before .before) .pre)
+
+same-length : tie.Need-same-length
+same-length c = search needs
+
+returns : tie.Need-returns
+returns c = let p = lines-put ((c .before .before .before .before .before .before .before .before) .args .k) addedLines (lines-are ((c .before .before .before .before .before .before .before .before) .args .k) addedLines addedLine added-bytes (c .before .before .before .before .later-lines .ensures) (c .before .before .before .after-lines .ensures)) (c .before .before .put-bytes .ensures) in (p .0, omega (arith, p .1, (c .before .before .before .before .before .before .before .before) .pre))
+
+pub write-added-spec : {M : Type 1} → statement M
+write-added-spec =
+    tie.close
+    (tie.spec
+    slice-aggregate-after-lines
+    later-lines-requires
+    after-lines-requires
+    put-bytes-requires
+    same-length
+    returns)
