@@ -6,4 +6,3 @@ pub mod KindRows
 pub mod Puts
 pub mod Copies
 pub mod Fair
-pub mod Lacking

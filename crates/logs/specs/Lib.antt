@@ -1,4 +1,3 @@
 -- A sheet and an entry as they are written, and a log copied fair.
 pub mod LogText
 pub mod FairCopy
-pub mod OldSheets

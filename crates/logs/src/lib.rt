@@ -1,7 +1,6 @@
 // A sheet and an entry written in document 01's text form, each at the front of a lent buffer; and a log copied fair.
 pub mod copy;
 mod entry;
-pub mod old;
 mod sheet;
 
 pub use entry::write_entry;

@@ -18,14 +18,14 @@ ghost use Rattle.renewal.specs.Parts.{Gave, GivenOn, goesOn};
 const FIRST: usize = 5;
 
 // What the lines say that came later, where a sheet lacks them.
-const MEANT_ROOM: usize = 7;
+const MEANT_ROOM: usize = 14;
 
-const MEANT: [u8; MEANT_ROOM] = *b"step=1\n";
+const MEANT: [u8; MEANT_ROOM] = *b"step=1\ngame=2\n";
 
 // A note about each of them.
-pub const ADDED_ROOM: usize = 13;
+pub const ADDED_ROOM: usize = 26;
 
-const ADDED: [u8; ADDED_ROOM] = *b"added step=1\n";
+const ADDED: [u8; ADDED_ROOM] = *b"added step=1\nadded game=2\n";
 
 // No byte gives more bytes than this, nor does the close.
 pub const MOST: usize = MEANT_ROOM + 2;
