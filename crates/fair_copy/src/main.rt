@@ -132,7 +132,7 @@ fn open_one(
     ensures { λ r. ⌜ InSheet (r .renewal) × Held (r .copier) × (from < r .from) × (r .from ≤ length (now (part .entry))) ⌝ }
 {
     let g = renew_on(s, &part[from..], fresh);
-    let next = ahead(from, g.used, part);
+    let to = ahead(from, g.used, part);
     let n = g.written;
     let r = g.renewal;
     let t = serve(c, buf, &fresh[0..n]);
@@ -141,7 +141,7 @@ fn open_one(
     Opened {
         renewal: r,
         copier: d,
-        from: next,
+        from: to,
         ok: both(!t.failed, noted),
     }
 }
