@@ -1,5 +1,5 @@
 -- `write_added` meets its contract: the lines of the constant behind those that are there.
-use Rattle.renewal.proofs.Steps.{addedLine, added-bytes, lines-are, lines-short, lines-put}
+use Rattle.renewal.proofs.Steps.{addedBytes, added-bytes, lines-are, lines-short, lines-put}
 use Rattle.renewal.specs.OldSheets.{addedLines}
 use native.Mathlib.Omega.{arith}
 use borrow.Author.Needs.{needs}
@@ -21,13 +21,13 @@ after-lines-requires : tie.Need-after-lines-requires
 after-lines-requires c κs = search needs
 
 put-bytes-requires : tie.Need-put-bytes-requires
-put-bytes-requires c κs = let m = lines-short ((c .before .before .before .before .before) .args .k) addedLines (lines-are ((c .before .before .before .before .before) .args .k) addedLines addedLine added-bytes (c .before .later-lines .ensures) (c .after-lines .ensures)) in omega (arith, m, (c .before .before .before .before .before) .pre)
+put-bytes-requires c κs = let m = lines-short ((c .before .before .before .before .before) .args .k) addedLines (lines-are ((c .before .before .before .before .before) .args .k) addedLines addedBytes added-bytes (c .before .later-lines .ensures) (c .after-lines .ensures)) in omega (arith, m, (c .before .before .before .before .before) .pre)
 
 same-length : tie.Need-same-length
 same-length c = search needs
 
 returns : tie.Need-returns
-returns c = let p = lines-put ((c .before .before .before .before .before .before .before .before) .args .k) addedLines (lines-are ((c .before .before .before .before .before .before .before .before) .args .k) addedLines addedLine added-bytes (c .before .before .before .before .later-lines .ensures) (c .before .before .before .after-lines .ensures)) (c .before .before .put-bytes .ensures) in (p .0, omega (arith, p .1, (c .before .before .before .before .before .before .before .before) .pre))
+returns c = let p = lines-put ((c .before .before .before .before .before .before .before .before) .args .k) addedLines (lines-are ((c .before .before .before .before .before .before .before .before) .args .k) addedLines addedBytes added-bytes (c .before .before .before .before .later-lines .ensures) (c .before .before .before .after-lines .ensures)) (c .before .before .put-bytes .ensures) in (p .0, omega (arith, p .1, (c .before .before .before .before .before .before .before .before) .pre))
 
 pub write-added-spec : {M : Type 1} → statement M
 write-added-spec =
