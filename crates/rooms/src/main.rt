@@ -1,5 +1,6 @@
 // Every answer of a log into every sheet that is too short for it: code 12, and no byte changes; and into the one that is just long enough.
 // Reads a log of at most 65,536 bytes on standard input, and says how many blocks it has, how many rooms were tried and how many went wrong.
+use answers::LONGEST;
 use blocks::rest;
 use desk::answer;
 use libc::STDIN_FILENO;
@@ -16,8 +17,6 @@ ghost use Rattle.table.specs.Take.{Sound};
 
 // What stands in a sheet before anything is written there: no answer has this byte.
 const BLANK: u8 = 170;
-
-const LONGEST: usize = 600;
 
 struct Tally {
     blocks: u64,

@@ -1,4 +1,5 @@
 use Prim.Native.Nat.{_-_}
+use Rattle.answers.specs.Answer.{longest}
 use borrow.Author.Needs.{needs}
 use Rattle.rooms.proofs.blank_from.Statement.{statement}
 use Rattle.rooms.proofs.blank_from.Tie as tie
@@ -7,7 +8,7 @@ abbrev Inv-loop : tie.InvT-loop
 Inv-loop sheet from i₀ i = Unit {0}
 
 abbrev μ-loop : tie.MeasureT-loop
-μ-loop sheet from i₀ i = 600 - i
+μ-loop sheet from i₀ i = longest - i
 
 loop-holds : tie.Need-loop-holds Inv-loop μ-loop
 loop-holds c = search needs
