@@ -10,12 +10,17 @@ use libc::STDOUT_FILENO;
 ghost use Prim.Native.Nat.{_≤_};
 ghost use lib.ListN.{length};
 
+// The room for an answer line, and how much may stand in the large buffer before it is written out, so that a line has room behind it.
+const LINE: usize = 600;
+
+const ENOUGH: usize = 64000;
+
 // What is written so far and not yet written out: nothing, once that is near its room's end.
 fn flush(out: &[u8]) -> usize
     ensures { λ r. ⌜ r ≤ length (now (out .entry)) ⌝ }
 {
     let at = out.len();
-    if at <= 64000 {
+    if at <= ENOUGH {
         return at;
     }
     io::write_all(STDOUT_FILENO, out);
@@ -103,7 +108,7 @@ fn main() {
     let mut nums = [0u32; 47];
     let scan = read_all(&mut nums);
     if line::begun(scan) {
-        let mut out = [0u8; 600];
+        let mut out = [0u8; LINE];
         let end = line::with_number(&mut nums, scan);
         let n = lines::answer(&nums, end, &mut out, 0);
         io::write_all(STDOUT_FILENO, &out[0..n]);
