@@ -1,161 +1,154 @@
-// The payer: a tray and then the clerk's answers on standard input; at each settled block how many chips of each row go to each sitting, on standard
-// output as soon as its last line has come; at the end the tray as it stands. With the argument --check the proposals are another program's, and are
-// checked.
+// The payer: a tray and then the clerk's answers on standard input; at each settled block how many chips of each row go to each sitting, on standard output as soon as its
+// last line has come; at the end the tray as it stands. With the argument --check the proposals are another program's, and are checked.
 use libc::STDIN_FILENO;
 use libc::STDOUT_FILENO;
+use lines::Mark;
+use lines::gather;
 use output::ahead;
 use output::flush;
+use payments::close;
+use payments::ended;
+use payments::take_line;
 use teller::Teller;
-use teller::close;
-use teller::ended;
 use teller::said;
 use teller::start;
-use teller::take_line;
 ghost use mathlib.Core.Path.{_≡_};
-ghost use Prim.Native.Nat.{_≤_, _<_};
+ghost use Prim.Native.Nat.{_+_, _≤_, _<_};
 ghost use lib.ListN.{length};
+ghost use Rattle.lines.specs.Kept.{keptMost, Room};
+ghost use Rattle.teller.specs.Keeping.{Sound};
 
-// Answers are written out where less than an answer's room is left behind them.
-const ENOUGH: usize = 60000;
+// Answers are written out where less than a line's answer's room, 2610 bytes, is left behind them.
+const ENOUGH: usize = 62000;
 
-// The teller, how many bytes of the unfinished line are kept, how far the output is written, and whether what was written out could be.
+// The teller, what is kept of the unfinished line, how far the part is read and the output written, and whether what was written out could be.
 struct Going {
     teller: Teller,
-    kept: usize,
+    mark: Mark,
+    from: usize,
     at: usize,
     ok: bool,
 }
 
-// The line in the buffer is whole.
-fn take_whole(check: bool, s: Going, buf: &[u8], gives: &mut [u32], out: &mut [u8]) -> Going
-    requires { ⌜ (s .kept ≤ length (now buf)) × (s .at ≤ length (now out)) ⌝ }
-    ensures { λ r. ⌜ (r .kept ≤ length (now (buf .entry))) × (r .at ≤ length (now (out .entry))) ⌝ }
-{
-    let at = s.at;
-    let n = s.kept;
-    let w = flush(STDOUT_FILENO, &out[0..at], ENOUGH);
-    let l = said(&buf[0..n]);
-    let a = take_line(check, s.teller, l, gives, out, w.at);
-    let teller = a.teller;
-    Going {
-        teller,
-        kept: 0,
-        at: a.at,
-        ok: laws::both(s.ok, w.ok),
-    }
-}
-
-// One byte more of a line: of a long line the first bytes are kept, which have no number of good form.
-fn keep(s: Going, buf: &mut [u8], b: u8) -> Going
-    requires { ⌜ s .kept ≤ length (now buf) ⌝ }
-    ensures { λ r. ⌜ (r .kept ≤ length (now (buf .entry))) × (r .at ≡ s .at) ⌝ }
-{
-    let n = s.kept;
-    let teller = s.teller;
-    if n < buf.len() {
-        buf[n] = b;
-        return Going {
-            teller,
-            kept: n + 1,
-            at: s.at,
-            ok: s.ok,
-        };
-    }
-    s
-}
-
-// One byte of the input.
-fn take_byte(
+// The bytes of a part up to the end of a line, which is answered, or what is left of the part, which is kept.
+fn take_one(
     check: bool,
-    s: Going,
+    s: Teller,
+    m: Mark,
     buf: &mut [u8],
     gives: &mut [u32],
-    b: u8,
+    part: &[u8],
+    from: usize,
     out: &mut [u8],
+    at: usize,
 ) -> Going
-    requires { ⌜ (s .kept ≤ length (now buf)) × (s .at ≤ length (now out)) ⌝ }
-    ensures { λ r. ⌜ (r .kept ≤ length (now (buf .entry))) × (r .at ≤ length (now (out .entry))) ⌝ }
+    requires { ⌜ Sound s × Room m × (m .lines ≡ 0) × (keptMost ≤ length (now buf)) × (length (now gives) ≡ 160) × (from < length (now part)) × (length (now out) ≡ 65536) × (at ≤ 65536) ⌝ }
+    ensures { λ r. ⌜ Sound (r .teller) × Room (r .mark) × (r .mark .lines ≡ 0) × (from < r .from) × (r .from ≤ length (now (part .entry))) × (r .at ≤ 65536) ⌝ }
 {
-    let k = keep(s, buf, b);
-    if b == 10 {
-        return take_whole(check, k, buf, gives, out);
+    let w = flush(STDOUT_FILENO, &out[0..at], ENOUGH);
+    let k = w.at;
+    let g = gather(buf, m, &part[from..], 1);
+    let next = ahead(from, g.used, part);
+    let mark = g.mark;
+    if mark.lines == 0 {
+        return Going {
+            teller: s,
+            mark,
+            from: next,
+            at: k,
+            ok: w.ok,
+        };
     }
-    k
+    let e = mark.count;
+    let l = said(&buf[0..e]);
+    let a = take_line(check, s, l, gives, &mut out[k..]);
+    let teller = a.teller;
+    let none = lines::empty();
+    Going {
+        teller,
+        mark: none,
+        from: next,
+        at: k + a.written,
+        ok: w.ok,
+    }
 }
 
+// The teller and what is kept of the unfinished line, and whether to go on.
 struct Turn {
     teller: Teller,
-    kept: usize,
+    mark: Mark,
     more: bool,
 }
 
-// Takes every line that ends in this part of the input.
+// Takes every line that ends in this part of the input, in one write where the answers fit.
 fn take_part(
     check: bool,
     s: Teller,
-    kept: usize,
+    m: Mark,
     buf: &mut [u8],
     gives: &mut [u32],
     part: &[u8],
 ) -> Turn
-    requires { ⌜ kept ≤ length (now buf) ⌝ }
-    ensures { λ r. ⌜ r .kept ≤ length (now (buf .entry)) ⌝ }
+    requires { ⌜ Sound s × Room m × (m .lines ≡ 0) × (keptMost ≤ length (now buf)) × (length (now gives) ≡ 160) ⌝ }
+    ensures { λ r. ⌜ Sound (r .teller) × Room (r .mark) × (r .mark .lines ≡ 0) ⌝ }
 {
     let mut out = io::large_buffer();
-    let mut g = Going {
-        teller: s,
-        kept,
-        at: 0,
-        ok: true,
-    };
-    let mut i: usize = 0;
-    while i < part.len() {
-        g = take_byte(check, g, buf, gives, part[i], &mut out);
-        i = ahead(i, 1, part);
+    let mut teller = s;
+    let mut mark = m;
+    let mut ok = true;
+    let mut from: usize = 0;
+    let mut at: usize = 0;
+    while from < part.len() {
+        let g = take_one(check, teller, mark, buf, gives, part, from, &mut out, at);
+        let t = g.teller;
+        teller = t;
+        let k = g.mark;
+        mark = k;
+        ok = laws::both(ok, g.ok);
+        from = g.from;
+        at = g.at;
     }
-    let at = g.at;
     let last = io::write_all(STDOUT_FILENO, &out[0..at]);
-    let teller = g.teller;
-    let wrote = laws::both(g.ok, last);
+    let wrote = laws::both(ok, last);
     let more = laws::both(wrote, !ended(teller));
-    Turn {
-        teller,
-        kept: g.kept,
-        more,
-    }
+    Turn { teller, mark, more }
 }
 
 // One read, and what it says.
-fn read_some(check: bool, s: Teller, kept: usize, buf: &mut [u8], gives: &mut [u32]) -> Turn
-    requires { ⌜ kept ≤ length (now buf) ⌝ }
-    ensures { λ r. ⌜ r .kept ≤ length (now (buf .entry)) ⌝ }
+fn read_some(check: bool, s: Teller, m: Mark, buf: &mut [u8], gives: &mut [u32]) -> Turn
+    requires { ⌜ Sound s × Room m × (m .lines ≡ 0) × (keptMost ≤ length (now buf)) × (length (now gives) ≡ 160) ⌝ }
+    ensures { λ r. ⌜ Sound (r .teller) × Room (r .mark) × (r .mark .lines ≡ 0) ⌝ }
 {
     let mut input = io::large_buffer();
     let got = libc::read(STDIN_FILENO, &mut input);
     if got <= 0 {
         return Turn {
             teller: s,
-            kept,
+            mark: m,
             more: false,
         };
     }
     let n = io::count(got, &input);
-    take_part(check, s, kept, buf, gives, &input[..n])
+    take_part(check, s, m, buf, gives, &input[..n])
 }
 
 // Reads to the end of the input, or of the payer. A proved loop has to end, so it counts its turns down from a number that no run uses up.
-fn read_all(check: bool, buf: &mut [u8], gives: &mut [u32]) -> Teller {
+fn read_all(check: bool, buf: &mut [u8], gives: &mut [u32]) -> Teller
+    requires { ⌜ (keptMost ≤ length (now buf)) × (length (now gives) ≡ 160) ⌝ }
+    ensures { λ r. ⌜ Sound r ⌝ }
+{
     let mut teller = start();
-    let mut kept: usize = 0;
+    let mut mark = lines::empty();
     let mut turns = u64::MAX;
     while turns > 0 {
-        let t = read_some(check, teller, kept, buf, gives);
+        let t = read_some(check, teller, mark, buf, gives);
         let next = t.teller;
         teller = next;
         if !t.more {
             return teller;
         }
-        kept = t.kept;
+        let k = t.mark;
+        mark = k;
         turns -= 1;
     }
     teller
@@ -169,14 +162,16 @@ fn checking() -> bool {
 }
 
 // The input has ended.
-fn end(s: Teller, gives: &[u32]) {
-    let mut out = io::large_buffer();
+fn end(s: Teller, gives: &[u32])
+    requires { ⌜ Sound s × (length (now gives) ≡ 160) ⌝ }
+{
+    let mut out = [0u8; 1024];
     let n = close(s, gives, &mut out);
     io::write_all(STDOUT_FILENO, &out[0..n]);
 }
 
 fn main() {
-    let mut buf = [0u8; 34];
+    let mut buf = [0u8; text::sheet::ROOM];
     let mut gives = [0u32; 160];
     let t = read_all(checking(), &mut buf, &mut gives);
     end(t, &gives);

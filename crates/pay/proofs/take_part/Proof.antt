@@ -1,42 +1,42 @@
--- `take_part` meets its contract: what is kept of a line and what is written stay within their buffers.
--- Assumes nothing.
-use Prim.Native.Nat.{ℕ, _+_, _-_, _*_, _≤_}
-use mathlib.Core.Path.{_≡_, refl, sym, ap, _∙_}
+-- `pay::take_part` meets its contract: every line of a part is taken, each within the room that is left. Assumes nothing.
+use Rattle.teller.specs.Keeping.{Sound}
+use Rattle.lines.specs.Kept.{Room}
+use borrow.Author.Needs.{needs}
 use native.Mathlib.Omega.{arith}
 use lib.ListN.{length}
-use borrow.Author.Needs.{needs}
+use Prim.Native.Nat.{_-_, _≤_}
+use mathlib.Core.Path.{_≡_, refl}
 use Rattle.pay.proofs.take_part.Statement.{statement}
 use Rattle.pay.proofs.take_part.Tie as tie
 
 abbrev Inv-loop : tie.InvT-loop
-Inv-loop check kept buf₀ gives₀ part out₀ g₀ i₀ buf gives out g i = (i ≤ length part) × (length buf ≡ length buf₀) × (length gives ≡ length gives₀) × (length out ≡ length out₀) × (g .kept ≤ length buf₀) × (g .at ≤ length out₀)
+Inv-loop check buf₀ gives₀ part out₀ teller₀ mark₀ ok₀ from₀ at₀ buf gives out teller mark ok from at =
+    (length buf ≡ length buf₀) × (length gives ≡ length gives₀) × (length out ≡ 65536) × Sound teller × Room mark × (mark .lines ≡ 0) × (from ≤ length part) × (at ≤ 65536)
 
 abbrev μ-loop : tie.MeasureT-loop
-μ-loop check kept buf₀ gives₀ part out₀ g₀ i₀ buf gives out g i = length part - i
+μ-loop check buf₀ gives₀ part out₀ teller₀ mark₀ ok₀ from₀ at₀ buf gives out teller mark ok from at =
+    length part - from
 
 large-buffer-requires : tie.Need-large-buffer-requires Inv-loop μ-loop
 large-buffer-requires c κs = search needs
 
 loop-holds : tie.Need-loop-holds Inv-loop μ-loop
-loop-holds c = search needs
+loop-holds c = (refl, refl, search needs, (c .before .before .before .before) .pre .0, (c .before .before .before .before) .pre .1, (c .before .before .before .before) .pre .2, omega arith, omega arith)
 
-shared-slice-read-take-byte : tie.Need-shared-slice-read-take-byte Inv-loop μ-loop
-shared-slice-read-take-byte c = search needs
+slice-aggregate-take-one : tie.Need-slice-aggregate-take-one Inv-loop μ-loop
+slice-aggregate-take-one c = search needs
 
-slice-aggregate-take-byte : tie.Need-slice-aggregate-take-byte Inv-loop μ-loop
-slice-aggregate-take-byte c = search needs
+take-one-requires : tie.Need-take-one-requires Inv-loop μ-loop
+take-one-requires c κs = (c .before .before .before .before .loop .inv .3, c .before .before .before .before .loop .inv .4, c .before .before .before .before .loop .inv .5, omega (arith, (c .before .before .before .before .before .before .before .before .before) .pre .3, c .before .before .before .before .loop .inv .0), omega (arith, (c .before .before .before .before .before .before .before .before .before) .pre .4, c .before .before .before .before .loop .inv .1), c .before .before .before .loop-test .taken, c .before .before .before .before .loop .inv .2, c .before .before .before .before .loop .inv .7)
 
-take-byte-requires : tie.Need-take-byte-requires Inv-loop μ-loop
-take-byte-requires c κs = search needs
-
-ahead-requires : tie.Need-ahead-requires Inv-loop μ-loop
-ahead-requires c κs = omega (arith, c .before .before .before .before .before .before .before .before .before .before .loop-test .taken)
+both-requires : tie.Need-both-requires Inv-loop μ-loop
+both-requires c κs = search needs
 
 loop-less : tie.Need-loop-less Inv-loop μ-loop
-loop-less c = omega (arith, c .before .before .before .before .before .before .before .before .before .before .before .loop-test .taken, c .ahead .ensures .0)
+loop-less c = omega (arith, c .before .before .before .before .before .before .before .before .take-one .ensures .3, c .before .before .before .before .before .before .before .before .take-one .ensures .4)
 
 loop-again : tie.Need-loop-again Inv-loop μ-loop
-loop-again c = search needs
+loop-again c = (search needs, search needs, search needs, c .before .before .before .before .before .before .before .before .take-one .ensures .0, c .before .before .before .before .before .before .before .before .take-one .ensures .1, c .before .before .before .before .before .before .before .before .take-one .ensures .2, c .before .before .before .before .before .before .before .before .take-one .ensures .4, c .before .before .before .before .before .before .before .before .take-one .ensures .5)
 
 sub-write-all : tie.Need-sub-write-all Inv-loop μ-loop
 sub-write-all c = search needs
@@ -50,14 +50,14 @@ part-write-all-end c = search needs
 write-all-requires : tie.Need-write-all-requires Inv-loop μ-loop
 write-all-requires c κs = search needs
 
-both-requires : tie.Need-both-requires Inv-loop μ-loop
-both-requires c κs = search needs
+both-requires-2 : tie.Need-both-requires-2 Inv-loop μ-loop
+both-requires-2 c κs = search needs
 
 ended-requires : tie.Need-ended-requires Inv-loop μ-loop
 ended-requires c κs = search needs
 
-both-requires-2 : tie.Need-both-requires-2 Inv-loop μ-loop
-both-requires-2 c κs = search needs
+both-requires-3 : tie.Need-both-requires-3 Inv-loop μ-loop
+both-requires-3 c κs = search needs
 
 same-length : tie.Need-same-length Inv-loop μ-loop
 same-length c = search needs
@@ -66,7 +66,7 @@ same-length-2 : tie.Need-same-length-2 Inv-loop μ-loop
 same-length-2 c = search needs
 
 returns : tie.Need-returns Inv-loop μ-loop
-returns c = search needs
+returns c = (c .before .before .before .before .before .before .before .loop .inv .3, c .before .before .before .before .before .before .before .loop .inv .4, c .before .before .before .before .before .before .before .loop .inv .5)
 
 pub take-part-spec : {M : Type 1} → statement M
 take-part-spec =
@@ -76,19 +76,18 @@ take-part-spec =
     μ-loop
     large-buffer-requires
     loop-holds
-    shared-slice-read-take-byte
-    slice-aggregate-take-byte
-    take-byte-requires
-    ahead-requires
+    slice-aggregate-take-one
+    take-one-requires
+    both-requires
     loop-less
     loop-again
     sub-write-all
     part-write-all-start
     part-write-all-end
     write-all-requires
-    both-requires
-    ended-requires
     both-requires-2
+    ended-requires
+    both-requires-3
     same-length
     same-length-2
     returns)

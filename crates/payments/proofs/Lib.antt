@@ -1,0 +1,5 @@
+pub mod Small
+pub mod Same
+pub mod Deciding
+pub mod Keeps
+pub mod Cutting
