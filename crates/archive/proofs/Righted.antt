@@ -1,5 +1,5 @@
 -- A correction is refused with 13 exactly if the corrected log, read afresh, refuses an entry (right-iff); a taken one leaves table, log and index as that fresh
--- reading has them (right-fresh), with the rows up to the corrected hand's own start byte for byte (rows-kept); a refused one changes nothing (wrong-same).
+-- reading has them (right-fresh), with the rows up to the corrected hand's own start byte for byte (its field `kept`); a refused one changes nothing (wrong-same).
 -- Assumes nothing beside `Stored`, where it is named.
 use mathlib.Core.Path.{_≡_, refl, sym, ap, ap₂, _∙_, subst}
 use mathlib.Core.Bool.{Bool, true, false, not}
@@ -409,8 +409,3 @@ module _ (sheet : Sheet) (es : List Entry) (b : Book) (log index : List ℕ) (s 
               (index′ ∙ index-is e (f .1) ∙ ap (λ (l : List ℕ). over l index) (aft .1));
         },
       )
-
-  -- "index rows up to and including the corrected hand's own start keep their bytes": those of the hands opened before the corrected entry
-  pub rows-kept : (out : List ℕ) → rightedOf b shared r log out .code ≡ 0
-      → take (44 * handsIn (before n es)) (indexRighted b shared r log index out) ≡ take (44 * handsIn (before n es)) index
-  rows-kept out h = right-fresh out h .1 .kept

@@ -24,7 +24,10 @@ fn same_mark(a: Mark, b: Mark) -> bool {
 fn same_sheet(a: Sheet, b: Sheet) -> bool {
     both(
         both(both(a.seats == b.seats, a.small == b.small), a.big == b.big),
-        both(both(a.rate == b.rate, a.cap == b.cap), a.step == b.step),
+        both(
+            both(a.rate == b.rate, a.cap == b.cap),
+            both(a.step == b.step, a.game == b.game),
+        ),
     )
 }
 
@@ -55,10 +58,9 @@ fn same_dealt(a: Dealt, b: Dealt) -> bool {
 }
 
 fn same_hole(a: Hole, b: Hole) -> bool {
-    both(
-        same_flag(a.entered, b.entered),
-        both(a.first == b.first, a.second == b.second),
-    )
+    let xs = a.cards;
+    let ys = b.cards;
+    both(a.count == b.count, check::same(&xs, &ys))
 }
 
 fn same_chair(a: Chair, b: Chair) -> bool {

@@ -55,7 +55,7 @@ impl Maker {
         for _ in 0..blocks {
             let block = match self.random.between(1, 100) {
                 1..=14 if !book.stored.is_empty() => self.correction(&book),
-                1..=18 => self.fault(&book),
+                1..=22 => self.fault(&book),
                 _ => self.entry(&book),
             };
             book.answer(block.as_bytes());
@@ -139,9 +139,9 @@ impl Maker {
     fn fault(&mut self, book: &Book) -> String {
         let word = self.random.pick(&WORDS);
         let (seat, a, b) = self.numbers(word, book);
-        let n = book.table.taken + self.random.between(0, 2);
-        let good = Stored { word: word.to_string(), seat, a, b }.text(n as usize);
-        self.damaged(good)
+        let n = book.table.taken + if self.random.chance(80) { 1 } else { self.random.between(0, 2) };
+        let wrong = Stored { word: word.to_string(), seat, a, b }.text(n as usize);
+        if self.random.chance(30) { self.damaged(wrong) } else { wrong }
     }
 
     /// A correction: of a hole, board or wager entry of the open hand, of one two hands back, or of any; by another of the six as a rule.

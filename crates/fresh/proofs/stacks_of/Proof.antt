@@ -1,5 +1,6 @@
+-- `stacks_of` meets its contract: in front of the place the stacks are written, behind it they are still to come.
 use Rattle.fresh.specs.Reading.{stackOf}
-use Rattle.chairs.specs.Chairs.{noChair}
+use Rattle.chairs.proofs.Laws.{unread}
 use Rattle.laws.proofs.Places.{front-turn, front-done}
 use mathlib.Core.Path.{_≡_, refl}
 use mathlib.Core.List.{_++_, map}
@@ -48,7 +49,7 @@ loop-less c = search needs
 
 -- src/lib.rt:82:5
 loop-again : tie.Need-loop-again Inv-loop μ-loop
-loop-again c = let cs = (c .before .before .before) .args .t1 in let n : length cs ≡ 10 = search needs in (omega arith, simp length-set (c .before .before .loop .inv .1), front-turn (map stackOf) (map stackOf) noChair (c .before .before .loop .stacks) (map stackOf cs) cs (c .before .before .loop .i) _ (omega arith) (omega arith) refl (c .before .before .loop .inv .2))
+loop-again c = let cs = (c .before .before .before) .args .t1 in let n : length cs ≡ 10 = search needs in (omega arith, simp length-set (c .before .before .loop .inv .1), front-turn (map stackOf) (map stackOf) unread (c .before .before .loop .stacks) (map stackOf cs) cs (c .before .before .loop .i) _ (omega arith) (omega arith) refl (c .before .before .loop .inv .2))
 
 -- src/lib.rt:77:1
 returns : tie.Need-returns Inv-loop μ-loop
