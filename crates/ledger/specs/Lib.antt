@@ -1,4 +1,0 @@
--- A table with its stored log: entries kept, corrections taken.
-pub mod Keeping
-pub mod Entering
-pub mod Righting
