@@ -1,6 +1,5 @@
 -- Words packed into numbers: letters that pack to the same number are the same, so comparing numbers finds the place in the table of kinds.
 -- Assumes nothing.
--- k bytes make a number below 256 ^ k; at most eight of them one that fits 64 bits
 use mathlib.Core.Path.{_≡_, refl, sym, ap, _∙_}
 use mathlib.Core.List.{List, [], _∷_}
 use mathlib.Core.Bool.{Bool, true, false}
@@ -21,6 +20,7 @@ use Rattle.text.specs.Bytes.{packOf, eqList}
 use Rattle.blocks.specs.Block.{kindNames, allLetters}
 use Rattle.text.proofs.Bytes.{eq-list}
 
+-- k bytes make a number below 256 ^ k; at most eight of them one that fits 64 bits
 pub pack-step : (v d k : ℕ) → v < 256 ^ k → d ≤ 255 → v * 256 + d < 256 ^ suc k
 pack-step v d k h q = omega arith
 

@@ -1,7 +1,5 @@
 -- Request No. 5: the choices that a game allows. Exactly those of two hole and three board cards are allowed with four hole cards, 60 of them; there is one for
 -- as few cards as these; the hand that the box names is among them, and none of them beats it; and such hands compare as their numbers do. Assumes nothing.
--- ---- what is allowed
--- m is p with q behind it, one of each
 use mathlib.Core.Path.{_≡_, refl, sym, ap}
 use mathlib.Core.Bool.{Bool, true, false}
 use mathlib.Core.Logic.{⊎-elim}
@@ -19,6 +17,9 @@ use Rattle.cards.specs.declared.Ranking.{Ranking}
 use Rattle.cards.proofs.Kept.{some-choice, chosen-best}
 use Rattle.cards.proofs.Strong.{SmallAll, small-append, small-choices}
 
+-- ---- what is allowed
+
+-- m is p with q behind it, one of each
 pub record OfBoth (ps qs : List (List ℕ)) (m : List ℕ) : Type 0 where
   pub hole : List ℕ
   pub board : List ℕ

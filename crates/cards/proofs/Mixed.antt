@@ -1,5 +1,4 @@
 -- A hand's worth does not depend on the order in which its cards are listed. For any number of cards. Assumes nothing.
--- the ranks in order depend only on how often each is held
 use mathlib.Core.Path.{_≡_, refl, sym, ap, ap₂, _∙_, subst}
 use mathlib.Core.Bool.{Bool, true}
 use mathlib.Core.Logic.{⊎-elim}
@@ -20,6 +19,7 @@ use Rattle.cards.specs.declared.Ranking.{Ranking}
 use Rattle.cards.proofs.Sorted.{ordered-right}
 use Rattle.cards.proofs.Sole.{ordered-only}
 
+-- the ranks in order depend only on how often each is held
 module _ (rs ss : List ℕ) (s : SameNumbers rs ss) where
   same-before : (x y : ℕ) → before rs x y ≡ before ss x y
   unfolding before

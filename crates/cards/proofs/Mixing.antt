@@ -1,5 +1,4 @@
 -- The best hand of some cards, of any number, does not depend on the order in which they are listed. Assumes nothing.
--- c is of l: no number is more often in it
 use mathlib.Core.Path.{_≡_, refl, sym, ap, _∙_}
 use mathlib.Core.Bool.{false}
 use mathlib.Core.Logic.{⊎-elim}
@@ -24,6 +23,7 @@ use Rattle.cards.proofs.Mixed.{value-same}
 use Rattle.cards.proofs.Falls.{fall-same}
 use Rattle.cards.specs.Falls.{fall}
 
+-- c is of l: no number is more often in it
 abbrev pub Within : List ℕ → List ℕ → Type 0
 Within c l = (x : ℕ) → count x c ≤ count x l
 

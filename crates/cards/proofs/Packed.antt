@@ -1,6 +1,5 @@
 -- Numbers of digits to the base 256: a digit pushed behind the others, and a hand's number, of which the higher beats the lower, by any ranking that has places.
 -- Assumes nothing.
--- a number and its rest by a have the same last digits, for j of them at most
 use mathlib.Core.Path.{_≡_, refl, sym, ap, ap₂, _∙_}
 use mathlib.Core.List.{List, [], _∷_, _++_}
 use Prim.Native.Nat.{ℕ, zero, suc, _*_, _+_, _/_, _%_, _<_, _≤_}
@@ -17,6 +16,7 @@ use Rattle.cards.specs.declared.Ranking.{Ranking}
 use Rattle.cards.proofs.Spelled.{spellsTo, above-spells}
 use Rattle.cards.proofs.Above.{higher, lower, equal}
 
+-- a number and its rest by a have the same last digits, for j of them at most
 abbrev Keeps : ℕ → ℕ → Type 0
 Keeps j a = (k n : ℕ) → k ≤ j → digits k (n % a) ≡ digits k n
 

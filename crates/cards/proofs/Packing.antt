@@ -1,5 +1,4 @@
 -- Cards packed into one number, the next the last digit; and what the search finds of the few that are packed. Assumes nothing.
--- the last digit and those above it
 use mathlib.Core.Path.{_≡_, refl, sym, ap, ap₂, _∙_, subst}
 use mathlib.Core.List.{List, [], _∷_, _++_}
 use Prim.Native.Nat.{ℕ, zero, suc, _+_, _-_, _*_, _/_, _%_, _<_, _≤_}
@@ -25,6 +24,7 @@ use Rattle.cards.proofs.Lows.{lows-length, lows-above, lows-digits, low
 use Rattle.cards.proofs.Skipped.{left-best}
 use Rattle.cards.proofs.Standing.{above-small, units-five}
 
+-- the last digit and those above it
 last-digit : (n m x : ℕ) → n ≡ m * 256 + x → x < 256 → (n % 256 ≡ x) × (n / 256 ≡ m)
 last-digit n m x e h = (omega arith, omega arith)
 

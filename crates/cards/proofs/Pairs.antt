@@ -1,5 +1,4 @@
 -- Request No. 5: the search goes through the six pairs of four hole cards one after another, each with three of the board. Assumes nothing.
--- two cards in one number
 use mathlib.Core.Path.{_≡_, refl, sym, ap, _∙_}
 use mathlib.Core.List.{List, [], _∷_, _++_, map, map-append, map-map}
 use Prim.Native.Nat.{ℕ, _+_, _*_, _/_, _%_, _<_}
@@ -14,6 +13,7 @@ use Rattle.cards.specs.declared.Ranking.{Ranking}
 use Rattle.cards.proofs.Choices.{keep-append, choices-short}
 use Rattle.cards.proofs.Searched.{no-hand}
 
+-- two cards in one number
 pub two-digits : (a b n : ℕ) → a < 256 → b < 256 → n ≡ a * 256 + b → digits 2 n ≡ a ∷ b ∷ []
 unfolding digits
 two-digits a b n p q e =

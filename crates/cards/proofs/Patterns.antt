@@ -1,6 +1,5 @@
 -- The table's row for a pattern names the order and the class of any five ranks of that pattern, from high to low: it does for one list of each pattern,
 -- by a test that antt computes, and every other is carried over from that one. Assumes nothing.
--- the ranks of a pattern without gaps, the last of them 1
 use mathlib.Core.Path.{_≡_, refl, sym, ap, ap₂, _∙_}
 use mathlib.Core.Bool.{Bool, true, false, cond, _||_}
 use mathlib.Core.Logic.{⊎-elim}
@@ -23,6 +22,7 @@ use Rattle.cards.proofs.Scaled.{carried-at, carried-ordered, same-holdi
 use Rattle.cards.proofs.Steps.{same-list}
 use Rattle.laws.proofs.Five.{five-list}
 
+-- the ranks of a pattern without gaps, the last of them 1
 unfoldable pub dense : List Bool → List ℕ
 dense [] = 1 ∷ []
 dense (b ∷ bs) = pick b (getD (dense bs) 0 0) (suc (getD (dense bs) 0 0)) ∷ dense bs

@@ -1,6 +1,5 @@
 -- What the code finds of five cards by the steps between their ranks is what they are worth, and the better of it and the best hand so far is kept: by the
 -- higher number, or, where the place of its class is lower already, without its ranks. By any ranking that has places. Assumes nothing.
--- the ranks of five cards
 use mathlib.Core.Path.{_≡_, refl, sym, ap, ap₂, _∙_, subst}
 use mathlib.Core.Bool.{Bool, true, false}
 use mathlib.Core.Logic.{⊎-elim}
@@ -27,6 +26,7 @@ use Rattle.cards.proofs.Patterns.{odd-worth, row-worth}
 use Rattle.cards.proofs.Searched.{value-class, better-new, better-old}
 use Rattle.cards.proofs.Stepped.{card1, card2, card3, card4, card5, ranks-spelled, marks-fall, pattern-is, no-row, suits-same}
 
+-- the ranks of five cards
 abbrev pub ranksOfFive : ℕ → List ℕ
 ranksOfFive n = rank (card1 n) ∷ rank (card2 n) ∷ rank (card3 n) ∷ rank (card4 n) ∷ rank (card5 n) ∷ []
 

@@ -1,6 +1,5 @@
 -- No section of the paper: how the code carries the chosen cards, and the best hand so far, in one number each: digits to the base 256.
 -- proofs/Packed.antt shows that of two hands the one with the higher number beats the other. Assumes nothing.
--- the last k digits of a number, the highest first
 use mathlib.Core.Path.{_≡_}
 use mathlib.Core.List.{List, [], _∷_, _++_}
 use Prim.Native.Nat.{ℕ, zero, suc, _/_, _%_, _<_, _≤_}
@@ -9,6 +8,7 @@ use Rattle.cards.specs.Hands.{hand}
 use Rattle.cards.specs.declared.Hand.{Hand}
 use Rattle.cards.specs.declared.Ranking.{Ranking}
 
+-- the last k digits of a number, the highest first
 unfoldable pub digits : ℕ → ℕ → List ℕ
 digits zero n = []
 digits (suc k) n = digits k (n / 256) ++ (n % 256 ∷ [])

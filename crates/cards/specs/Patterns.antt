@@ -1,6 +1,5 @@
 -- No section of the paper: how the code finds the order of "Hand order" for five ranks that fall. All that counts of them, straights aside, is which
 -- neighbours are the same: a table has a row for each of the 16 patterns (proofs/Patterns.antt: each row is right). Assumes nothing.
--- for each rank but the last, whether the next is the same
 use mathlib.Core.Bool.{Bool, false}
 use mathlib.Core.List.{List, [], _∷_}
 use Prim.Native.Nat.{ℕ, _+_, _*_, _/_, _%_}
@@ -11,6 +10,7 @@ use Rattle.cards.specs.Cards.{lowered, inRow}
 use Rattle.cards.specs.Hands.{hand}
 use Rattle.cards.specs.declared.Hand.{Hand}
 
+-- for each rank but the last, whether the next is the same
 unfoldable pub neighbours : List ℕ → List Bool
 neighbours [] = []
 neighbours (x ∷ []) = []

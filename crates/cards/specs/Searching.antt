@@ -1,6 +1,5 @@
 -- No section of the paper: the search for the best hand as the code goes about it, card by card: the next is skipped, or taken. proofs/Skipped.antt:
 -- it meets the same hands as the choices of "Hand order". Assumes nothing.
--- what is left of a list, in its order, when k of it are skipped
 use mathlib.Core.Path.{_≡_}
 use mathlib.Core.List.{List, [], _∷_, _++_, map}
 use Prim.Native.Nat.{ℕ, zero, suc, _+_, _-_, _*_, _/_, _%_, _<_, _≤_}
@@ -8,6 +7,7 @@ use Rattle.cards.specs.Hands.{valueOf}
 use Rattle.cards.specs.declared.Hand.{Hand}
 use Rattle.cards.specs.declared.Ranking.{Ranking}
 
+-- what is left of a list, in its order, when k of it are skipped
 unfoldable pub leaving : ℕ → List ℕ → List (List ℕ)
 leaving zero l = l ∷ []
 leaving (suc k) [] = []

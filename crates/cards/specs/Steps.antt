@@ -1,8 +1,8 @@
 -- No section of the paper: what the code reads off five cards, the digits of one number to the base 256, without taking the digits apart: their ranks,
 -- their suits, and how far each rank is above the next (proofs/Stepped.antt: what that tells of a hand). Assumes nothing.
--- the ranks of five cards, as digits
 use Prim.Native.Nat.{ℕ, _+_, _-_, _*_, _/_, _%_}
 
+-- the ranks of five cards, as digits
 unfoldable pub ranksIn : ℕ → ℕ
 ranksIn n = n / 4 % 64 + n / 1024 % 64 * 256 + n / 262144 % 64 * 65536 + (n / 67108864 % 64 * 16777216 + n / 17179869184 % 64 * 4294967296) + 8623620610
 

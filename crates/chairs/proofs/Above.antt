@@ -1,6 +1,5 @@
 -- Chairs above a table's seats add nothing: what is counted, summed, read off or done over the seats is so over all chairs. Over any number of chairs.
 -- Assumes nothing.
--- a chair put down at a seat, and a sweep that leaves a chair as it is that nobody ever had
 use Prim.Native.Nat.{ℕ, zero, suc, _+_, _*_, _≤_, _<_}
 use mathlib.Core.Bool.{Bool, true, false}
 use mathlib.Core.Path.{_≡_, refl, sym, ap, ap₂, _∙_}
@@ -24,6 +23,7 @@ use Rattle.chairs.proofs.Laws.{sweepTo, closeTo}
 use Rattle.chairs.proofs.Over.{map-at}
 use Rattle.chairs.specs.declared.What.the-variants as col
 
+-- a chair put down at a seat, and a sweep that leaves a chair as it is that nobody ever had
 pub above-put : (n : ℕ) (cs : List Chair) (x : ℕ) (d : Chair) → x ≤ n → Above n cs → Above n (putAt cs x d)
 above-put n cs x d l h s k = put-other cs x s d (λ e. omega arith) ∙ h s k
 

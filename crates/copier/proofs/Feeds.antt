@@ -1,6 +1,5 @@
 -- A call of `feed`: behind a bad sheet, or by way of the buffer, it does with the bytes that it uses up what they do one by one. For the proofs of the functions.
 -- Assumes nothing.
--- ---- the two kinds of lines alike
 use mathlib.Core.Path.{_≡_, refl, sym, ap, subst, _∙_}
 use mathlib.Core.List.{List}
 use mathlib.Core.Bool.{Bool, true, false}
@@ -26,6 +25,7 @@ use Rattle.copier.specs.Feeding.{stateAt, keptBy, copierIn, Held, Gave, 
 use Rattle.copier.proofs.Onward.{shut-onward, kept-onward, ends-onward}
 use Rattle.copier.proofs.Steps.{state-shut, state-else}
 
+-- ---- the two kinds of lines alike
 kept-heard : (opened : Bool) (s : Sheet) (n : ℕ) (k : Kept) (part : List ℕ) → gatherOf (linesOf opened) k part .kept .lines < linesOf opened
     → onward (stateAt opened s n) k (take (gatherOf (linesOf opened) k part .used) part) ≡ still (stateAt opened s n) (gatherOf (linesOf opened) k part .kept)
 kept-heard true s n k part h = kept-onward (Open s n) refl k part h

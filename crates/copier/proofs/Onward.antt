@@ -1,6 +1,5 @@
 -- Bytes one by one: those of two lists one behind the other do what the whole does, and what is gathered of a part, for the sheet and for a block alike, is what its
 -- bytes do. For any state and any bytes. Assumes nothing.
--- ---- one after another
 use Prim.Native.Nat.{ℕ, _≤_, _<_}
 use mathlib.Core.Bool.{Bool, true, false}
 use mathlib.Core.Path.{_≡_, refl, sym, ap, subst, _∙_}
@@ -16,6 +15,7 @@ use Rattle.lines.specs.Kept.{Kept, keepOf, Gathered, gatherOf}
 use Rattle.lines.proofs.Gathers.{gather-ends, gather-goes}
 use Rattle.copier.specs.Onward.{State, Shut, Given, still, andThen, linesDone, wanted, isShut, byteOf, onward}
 
+-- ---- one after another
 pub then-nothing : (x : Given) → andThen x (still (x .state) (x .kept)) ≡ x
 then-nothing x =
     ap (λ (l : List ℕ). record { state = x .state; kept = x .kept; copy = l; notes = x .notes ++ [] }) (append-nil (x .copy))

@@ -1,6 +1,5 @@
 -- Request No. 1, a log that comes in parts: however it is cut, what is copied of the parts and at the close is `fairCopy` of the whole log, and what is said about blocks that
 -- are left out is `leftOut` of it. For any parts, none and empty ones too, and a good sheet or a bad one. Assumes nothing.
--- ---- what is done with a block depends on the block alone
 use mathlib.Core.Path.{_≡_, refl, sym, ap, subst, _∙_}
 use mathlib.Core.List.{List, [], _∷_, _++_}
 use mathlib.Core.Bool.{Bool, false}
@@ -30,6 +29,7 @@ use Rattle.logs.specs.FairCopy.{formCode, blockCode, formCopy, blockCopy, copie
 use Rattle.copier.specs.Onward.{State, Unread, Open, Given, still, andThen, blockDone, sheetDone, wanted, isShut, onward, closing, closed, whole, partsOf}
 use Rattle.copier.proofs.Onward.{then-nothing, then-assoc, onward-append, shut-onward, kept-onward, ends-onward}
 
+-- ---- what is done with a block depends on the block alone
 block-same : (s : Sheet) (n : ℕ) (x y : List ℕ) → blockOf x ≡ blockOf y → blockDone s n x ≡ blockDone s n y
 unfolding blockCopy blockCode
 block-same s n x y e =

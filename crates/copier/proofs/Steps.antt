@@ -1,7 +1,5 @@
 -- Whole lines, the sheet or a block, and the close: a copy is no longer than the lines that it copies, so what the calls say and write is what is given. For the
 -- proofs of the functions. Assumes nothing.
--- ---- a block's copy is no longer than the block
--- a block that the reader accepts is written back byte for byte
 use mathlib.Core.Path.{_≡_, refl, sym, ap, subst, _∙_}
 use mathlib.Core.List.{List, []}
 use mathlib.Core.Bool.{Bool, true, false, not}
@@ -39,6 +37,9 @@ use Rattle.copier.specs.Feeding.{stateAt, stateOf, keptBy, copierIn, Hel
 use Rattle.text.specs.declared.sheet.Opening.the-variants as opening
 use Rattle.blocks.specs.declared.Parsed.the-variants as parsed
 
+-- ---- a block's copy is no longer than the block
+
+-- a block that the reader accepts is written back byte for byte
 back-most : (log : List ℕ) (n k seat a b : ℕ) (e : Entry) → blockOf log ≡ Raw n k seat a b → parsedOf k seat a b ≡ parsed.Read e → length (entryText n e) ≤ length log
 back-most log n k seat a b e p q =
     omega (arith, ap length (accepted-back log n k seat a b e p q), length-append (entryText n e) (restOf log))

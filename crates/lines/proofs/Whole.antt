@@ -1,6 +1,5 @@
 -- The sheet and a block, from their first byte to the LF of their last line: what is gathered of a log reads as the log itself does, and what is left is what
 -- follows them; lines that are cut after 33 bytes read as the lines do; and a sheet without all its LFs is bad. For any bytes. Assumes nothing.
--- ---- lines that are cut after 33 bytes read as the lines do
 use mathlib.Core.Path.{_≡_, refl, sym, ap, _∙_}
 use mathlib.Core.List.{List, [], _∷_, _++_}
 use mathlib.Core.Bool.{Bool, true, false, true≢false}
@@ -23,6 +22,7 @@ use Rattle.lines.specs.Kept.{Kept, nothing, keepAll, Gathered, gatherOf}
 use Rattle.lines.proofs.Cut.{ended, cap, lfs, cap-lf, cap-in, kept-bytes, lfs-lf, lfs-on, ended-is, value-same, cap-lines, cap-value, cap-block, lines-front, lines-lfs, front-line, front-block, lines-none}
 use Rattle.lines.proofs.Gathers.{gather-keeps, gather-lines, whole-kept}
 
+-- ---- lines that are cut after 33 bytes read as the lines do
 pub cut-block : (l : List ℕ) → blockOf (cap 0 l) ≡ blockOf l
 cut-block [] = refl
 cut-block (b ∷ l) = cap-block b l

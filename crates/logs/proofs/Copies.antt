@@ -1,5 +1,4 @@
 -- Laws of one block's copy, by what reading and writing answered. Assumes nothing.
--- no bytes are written anywhere
 use mathlib.Core.Path.{_≡_, refl, sym, ap, subst, _∙_}
 use mathlib.Core.List.{List, [], _∷_, _++_}
 use mathlib.Core.Bool.{Bool, true, false}
@@ -28,6 +27,7 @@ use Rattle.logs.specs.LogText.{entryText, isEntry, putOf, putAfter}
 use Rattle.logs.specs.FairCopy.{entryCopy, formCopy, blockCopy, noteText, noteMost, noteIn, copiedAs, leftAs, entryCopied, formCopied, copiedOf}
 use Rattle.blocks.specs.declared.Parsed.the-variants as parsed
 
+-- no bytes are written anywhere
 after-none : (buffer : List ℕ) → buffer ≡ sheetAfter [] buffer
 after-none buffer = go (leb 0 (length buffer))
   where

@@ -1,6 +1,5 @@
 -- Demand 2, second half: every entry that is taken does what document 01 says of its kind, and nothing else moves. At every table that `take` can hold.
 -- Assumes nothing.
--- the table after the entry, counted
 use Prim.Native.Nat.{ℕ, suc, _+_, _-_, _≤_, _<_, min}
 use mathlib.Core.Bool.{Bool, true, not, false≢true}
 use mathlib.Core.Path.{_≡_, refl, sym, ap, _∙_, subst}
@@ -42,6 +41,7 @@ use Rattle.mission.proofs.Taken.{taken-allowed}
 use Rattle.mission.proofs.DoesHand.{does-hand}
 use Rattle.mission.specs.Does.{Still, Puts, DoesSit, DoesLeave, DoesHole, GivenUp, DoesFold, DoesCheck, DoesCall, Again, DoesWager, DoesDead, DoesBoard, DoesSettle, Does}
 
+-- the table after the entry, counted
 abbrev done : Table → ℕ → Entry → Table
 done t n e = withTaken (appliedTo t e) n
 

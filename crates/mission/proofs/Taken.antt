@@ -1,5 +1,4 @@
 -- Demand 2: an entry is taken exactly when document 01 allows it. Assumes nothing.
--- ---- a code of 0, and its parts
 use Prim.Native.Nat.{ℕ, zero, suc, _+_, _-_}
 use mathlib.Core.Bool.{Bool, true, false, not, true≢false, false≢true}
 use mathlib.Core.Path.{_≡_, refl, sym, _∙_}
@@ -26,6 +25,7 @@ use Rattle.table.specs.declared.table.Table.{Table}
 use Rattle.mission.specs.Allowed.{SomeoneOwes, MaySit, MayLeave, MayOpen, MayHole, MayAct, MayCheck, MayCall, MayWager, MayBoard, MayDead, MaySettle, May, Allowed}
 use Rattle.mission.proofs.Someone.{someone, nobody, not-nobody}
 
+-- ---- a code of 0, and its parts
 zero-or : (a b : ℕ) → a ≡ 0 → b ≡ 0 → orElse a b ≡ 0
 zero-or zero b p q = q
 zero-or (suc a) b p q = absurd (omega arith)

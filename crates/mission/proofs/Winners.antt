@@ -1,6 +1,5 @@
 -- Demand 2: of two hands the better wins. Of every pot of every taken settle the winners are exactly its contenders whose best hand no contender's best hand
 -- beats, whatever the number of seats; and hands tie exactly when neither is better (cards, `tie-iff`). A sole contender needs no cards. Assumes nothing.
--- ---- what is told seat by seat
 use Prim.Native.Nat.{ℕ, zero, suc, _+_, _/_, _≤_, _<_, _^_}
 use mathlib.Core.Bool.{Bool, true, false, not, true≢false}
 use mathlib.Core.Path.{_≡_, refl, sym, ap, ap₂, _∙_, subst}
@@ -48,6 +47,7 @@ use Rattle.history.proofs.Kept.{cards-is}
 use Rattle.history.proofs.Shown.{cards-after, scores-compare}
 use Rattle.mission.specs.Winners.{bestAt, scoresBy, Contends, BestWin}
 
+-- ---- what is told seat by seat
 pub seat-at : (f : ℕ → ℕ) (k m i : ℕ) → i < m → getD (map f (seatsFrom k m)) i 0 ≡ f (suc (i + k))
 seat-at f k zero i l = absurd (omega arith)
 seat-at f k (suc m) zero l = let z : suc k ≡ suc (0 + k) = omega arith in ap f z

@@ -1,7 +1,5 @@
 -- Document 01, the table of entries, "Opening" and "Betting": when an entry is allowed, said as conditions and not as a code. One record for each kind.
 -- Assumes nothing.
--- "A seat owes if it is live, has chips, hasn't acted since the last wager of this round by another, and two hands or more are live; but the only live
--- seat with chips owes nothing once its round total equals the mark."
 use Prim.Native.Nat.{ℕ, _+_, _-_, _≤_, _<_}
 use mathlib.Core.Bool.{true, false}
 use mathlib.Core.Path.{_≡_}
@@ -18,6 +16,8 @@ use Rattle.table.specs.Opening.{nextDealtIn}
 use Rattle.table.specs.State.{seatOf}
 use Rattle.table.specs.declared.table.Table.{Table}
 
+-- "A seat owes if it is live, has chips, hasn't acted since the last wager of this round by another, and two hands or more are live; but the only live
+-- seat with chips owes nothing once its round total equals the mark."
 pub record Owes (t : Table) (c : Chair) : Type 0 where
   pub live : c .dealt .live ≡ true
   pub chips : 0 < c .stack

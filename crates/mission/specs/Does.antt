@@ -1,7 +1,5 @@
 -- Document 01, "Sittings", "Opening", "Betting" and "The answer block": what a taken entry does to a table t, so that it is the table u. One record for each kind:
 -- what becomes of stacks, totals, mark, lift, turn and of who owes again, and that nothing else moves. Assumes nothing.
--- ---- what is kept
--- every seat but x
 use Prim.Native.Nat.{ℕ, suc, _+_, _-_, _≤_, _<_, min}
 use mathlib.Core.Bool.{Bool, true, false, not}
 use mathlib.Core.Path.{_≡_}
@@ -18,6 +16,9 @@ use Rattle.table.specs.Settle.{payoutNow}
 use Rattle.table.specs.State.{seatOf, noBoard}
 use Rattle.table.specs.declared.table.Table.{Table}
 
+-- ---- what is kept
+
+-- every seat but x
 abbrev pub Others : Table → Table → ℕ → Type 0
 Others t u x = (y : ℕ) → (x ≡ y → ⊥) → seatOf u y ≡ seatOf t y
 

@@ -1,7 +1,5 @@
 -- Document 01, "Chip heights and pots", who is paid at a settle, by the notebook: the winners of a pot, and what is unclaimed. A pot's contenders are a mask of
 -- seats: bit i is seat i + 1. Assumes nothing.
--- "A hand is the best of the 21 choices of five among two hole and five board cards", and with four "exactly two of the hole cards with exactly three of the board":
--- of the sitting dealt in at seat x
 use Prim.Native.Nat.{ℕ, suc, _<_}
 use mathlib.Core.Bool.{false}
 use mathlib.Core.Path.{_≡_}
@@ -19,6 +17,8 @@ use Rattle.pots.specs.Heights.{returnedOf}
 use Rattle.pots.specs.declared.Pot.{Pot}
 use Rattle.history.specs.Notebook.{Notebook, tenSeats, partAt, putsBy, livesBy, scoreBy, here}
 
+-- "A hand is the best of the 21 choices of five among two hole and five board cards", and with four "exactly two of the hole cards with exactly three of the board":
+-- of the sitting dealt in at seat x
 abbrev pub bestAt : Sheet → Notebook → ℕ → Hand
 bestAt sheet n x = bestAmong ranking52 (allowed (sheet .game) (partAt n x .hole) (n .board .cards))
 

@@ -1,5 +1,4 @@
 -- The table of rows: the tests of a row's numbers in the order that the code takes them, and when code 2 applies. Assumes nothing.
--- three numbers, each used or not
 use Prim.Native.Nat.{ℕ, _+_, _≤_, _<_}
 use native.Mathlib.Omega.{arith}
 use mathlib.Core.Bool.{Bool, true, false, not}
@@ -13,6 +12,7 @@ use Rattle.paper.specs.declared.Sheet.{Sheet}
 use Rattle.paper.specs.declared.Row.{Row}
 use Rattle.paper.specs.declared.Numbers.{Numbers}
 
+-- three numbers, each used or not
 -- a number that is at least m and is not m is at least the next
 pub past : (k m : ℕ) → m ≤ k → (k ≡ m → ⊥) → m + 1 ≤ k
 past k m h n = omega arith

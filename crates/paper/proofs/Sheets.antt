@@ -1,5 +1,4 @@
 -- What a good sheet tells of its numbers, and that the stand-in is one. Assumes nothing.
--- each of some tests that all hold; past the last there is none
 use Prim.Native.Nat.{ℕ, zero, suc, _≤_, _<_, _^_}
 use mathlib.Core.Bool.{Bool, true}
 use mathlib.Core.List.{List, [], _∷_}
@@ -17,6 +16,7 @@ use Rattle.paper.specs.SheetAndEntries.{between, allOf, sheetValues, she
 use Rattle.paper.specs.declared.Sheet.{Sheet}
 use Rattle.paper.proofs.Codes.{between-in}
 
+-- each of some tests that all hold; past the last there is none
 pub each-holds : (ts : List Bool) → allOf ts ≡ true → (k : ℕ) → getD ts k true ≡ true
 each-holds [] h k = refl
 each-holds (t ∷ []) h zero = h

@@ -1,6 +1,5 @@
 -- A block's answer, as the functions that make it end: a refusal changes nothing, the checker's answer is that for the rows that were lent, and what the proposer proposes is
 -- accepted and lowers the rows. Assumes nothing.
--- listed sittings that can be paid are at most ten
 use Prim.Native.Nat.{ℕ, _-_, _*_, _≤_, _<_, _^_}
 use mathlib.Core.Path.{_≡_, refl, sym, ap, _∙_}
 use mathlib.Core.Bool.{true, false}
@@ -25,6 +24,7 @@ use Rattle.teller.specs.Keeping.{faulty, anew, SmallRow, Sound}
 use Rattle.payments.specs.Payments.{codeText, rowWith, refusal, rows, paid, proposed, long, proposing, payment, paidOut, checkedCode, checked}
 use Rattle.payments.proofs.Small.{take-each, counts-small, proposal-small}
 
+-- listed sittings that can be paid are at most ten
 pub few-listed : (s : Teller) → faulty (s .listed) ≡ false → s .listed .count ≤ 10
 few-listed s e = ltb-false 10 (s .listed .count) (either-false (s .listed .bad) (ltb 10 (s .listed .count)) e .1)
 

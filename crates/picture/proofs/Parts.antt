@@ -1,6 +1,5 @@
 -- The picture of an input that comes in parts is the picture of the whole, wherever it is cut; and the loop over a part, byte after byte. For any bytes.
 -- Assumes nothing.
--- ---- one after another
 use Prim.Native.Nat.{ℕ, _+_, _-_, _≤_, _<_}
 use mathlib.Core.Bool.{Bool, true, false}
 use mathlib.Core.Path.{_≡_, refl, sym, ap, subst, _∙_}
@@ -26,6 +25,7 @@ use Rattle.picture.specs.declared.Stepped.{Stepped}
 use Rattle.picture.specs.Screen.{drawnMost, Kept, Step, Held, stateOf, stepOf, closeOf, fresh, pictureFrom, pictureOf}
 use Rattle.picture.specs.Parts.{still, andThen, drawnOf, partsDrawn, whole, drawnBy, DrawnOn, DrawnTo, goesOn}
 
+-- ---- one after another
 then-assoc : (x y z : Step) → andThen (andThen x y) z ≡ andThen x (andThen y z)
 then-assoc x y z = ap (λ (l : List ℕ). record { after = z .after; drawn = l }) (append-assoc (x .drawn) (y .drawn) (z .drawn))
 

@@ -1,6 +1,5 @@
 -- Two calls that the walks over lent rows make alike: `no_columns` before the loop that reads the rows, and `with_row` in each of its turns. What each asks is had
 -- for nothing, since its arguments are plain data; what it says is its contract. Assumes nothing.
--- the machine value of columns, and that they have it
 use mathlib.Core.Path.{_≡_, refl, ap, _∙_, subst}
 use Prim.Native.Nat.{ℕ, _<_, _^_}
 use mathlib.Core.List.{List, [], _∷_}
@@ -35,6 +34,7 @@ use Rattle.rows.proofs.Columns.Laws as C′
 use Rattle.rows.proofs.no_columns as none
 use Rattle.rows.proofs.with_row as adds
 
+-- the machine value of columns, and that they have it
 abbrev pub cells : Columns → Val
 cells c = LL.val C.the-type C′.the-laws c
 

@@ -2,7 +2,6 @@
 -- Assumes nothing.
 --     column-at        what stands at a place of a column
 --     worths-read, counts-read    the front of a column, where there are at most sixteen rows
--- one number of each of the first i rows
 use Prim.Native.Nat.{ℕ, zero, suc, _≤_, _<_}
 use mathlib.Core.Path.{_≡_, refl, sym, ap, _∙_}
 use mathlib.Core.Logic.{⊎-elim}
@@ -16,6 +15,7 @@ use Rattle.rows.specs.declared.Row.{Row}
 use Rattle.rows.specs.Rows.{noRow, worthsOf, countsOf}
 use Rattle.rows.specs.Columns.{columnsTo}
 
+-- one number of each of the first i rows
 abbrev pub column : (Row → ℕ) → ℕ → List Row → List ℕ
 column f zero rows = replicate mostRows 0
 column f (suc i) rows = set (column f i rows) i (f (getD rows i noRow))

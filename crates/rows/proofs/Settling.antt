@@ -1,6 +1,5 @@
 -- What the walks over lent rows end with: the answer of the checker over the columns, and the rows with the counts after it, are the checker's answer for the
 -- rows and the rows lowered where it accepts; the proposer's answer and list likewise. For any number of rows, too many as well. Assumes nothing.
--- within a list it does not matter what stands past its end
 use Prim.Native.Nat.{ℕ, zero, suc, _-_, _≤_, _<_}
 use mathlib.Core.Path.{_≡_, refl, sym, ap, _∙_}
 use mathlib.Core.Bool.{true, false}
@@ -27,6 +26,7 @@ use Rattle.rows.specs.Rows.{noRow, worthsOf, countsOf, lower, lowerAll, 
 use Rattle.rows.specs.Columns.{columnsTo, settledOf, recount, proposedCode, proposedList}
 use Rattle.rows.proofs.Reading.{counts-column, column-at, column-past, worths-read, counts-read}
 
+-- within a list it does not matter what stands past its end
 pub any-default : (l : List ℕ) (i d e : ℕ) → i < length l → getD l i d ≡ getD l i e
 any-default [] i d e h = absurd (not-suc-le-zero h)
 any-default (x ∷ l) zero d e h = refl

@@ -1,5 +1,4 @@
 -- The covered functions over columns: each law is what a function's last line has to show. Assumes nothing.
--- ---- a row past the last place
 use Prim.Native.Nat.{ℕ, _-_, _≤_, _<_}
 use mathlib.Core.Path.{_≡_, refl, sym, ap, _∙_}
 use mathlib.Core.List.{List}
@@ -15,6 +14,7 @@ use Rattle.rows.specs.declared.Columns.{Columns}
 use Rattle.rows.specs.Columns.{withRow, settledOf, recount, proposedCode, proposedList}
 use Rattle.rows.proofs.Settling.{any-default}
 
+-- ---- a row past the last place
 pub no-slot : (c : Columns) (r : Row) (i : ℕ) → length (c .worths) ≤ i → length (c .counts) ≤ i → c ≡ withRow c r i
 no-slot c r i a b =
     ap (λ w. record { worths = w; counts = c .counts }) (sym (set-out (c .worths) i (r .worth) a))

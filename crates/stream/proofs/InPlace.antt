@@ -1,5 +1,4 @@
 -- Whole blocks that are answered where they lie do what their bytes do one by one. For any part and any room. Assumes nothing.
--- ---- what is answered depends on the block alone
 use mathlib.Core.Path.{_≡_, refl, sym, ap, subst, _∙_}
 use mathlib.Core.List.{List, [], _∷_, _++_, append-assoc}
 use mathlib.Core.Bool.{Bool, true, false}
@@ -28,6 +27,7 @@ use Rattle.stream.specs.InPlace.{InPlace, answersFront, inPlaceFrom, inP
 use Rattle.stream.proofs.Onward.{onward-append, ends-onward}
 use Rattle.stream.proofs.Runs.{from-none, from-more}
 
+-- ---- what is answered depends on the block alone
 pub judged-same : (t : Table) (x y : List ℕ) → blockOf x ≡ blockOf y → judgedOf t x ≡ judgedOf t y
 unfolding judgedOf
 judged-same t x y e = ap (judgeBlock t) e

@@ -1,6 +1,4 @@
 -- Whole blocks that are answered one after another where they lie: one block more, and the loop over them. For any part and any room. Assumes nothing.
--- ---- one block more
--- a whole block has bytes
 use mathlib.Core.Path.{_≡_, refl, sym, ap, subst, _∙_}
 use mathlib.Core.List.{List, [], _++_, append-assoc, append-nil}
 use mathlib.Core.Bool.{Bool, true, false}
@@ -36,6 +34,9 @@ use Rattle.desk.proofs.Whole.{answered-parts, fitting-within}
 use Rattle.stream.specs.declared.Ran.{Ran}
 use Rattle.stream.specs.InPlace.{InPlace, stopped, behind, answersFront, inPlaceFrom, inPlaceOf, ranOf}
 
+-- ---- one block more
+
+-- a whole block has bytes
 ended-some : (part : List ℕ) → blockEnded part ≡ true → 0 < length part
 unfolding blockEnded
 ended-some part e = omega (arith, after-lines-no-longer 4 part, ltb-true (lineLen (afterLines 4 part)) (length (afterLines 4 part)) e)

@@ -1,6 +1,5 @@
 -- Document 01, "Refusal numbers", at the table: codes are 0 and 2 to 10 only; a taken entry moves the count of taken entries by exactly one; after any
 -- other code the table is the one before, and nothing is paid. Assumes nothing.
--- a code that the table gives
 use Prim.Native.Nat.{ℕ, zero, suc, _+_, _≤_}
 use mathlib.Core.Bool.{Bool, true, false, not}
 use mathlib.Core.Path.{_≡_, refl, sym}
@@ -24,6 +23,7 @@ use Rattle.table.specs.Take.{kindCode, codeOf, nextOf, payoutOf}
 use Rattle.table.specs.declared.table.Table.{Table}
 use Rattle.table.proofs.Sounds.{passed}
 
+-- a code that the table gives
 unfoldable Code : ℕ → Type 0
 Code k = (k ≡ 0) ⊎ ((2 ≤ k) × (k ≤ 10))
 

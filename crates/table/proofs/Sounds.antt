@@ -1,5 +1,4 @@
 -- What `take` keeps of `Sound`, the standing apart: no act makes chips but `sit`, which is refused past 100,000,000; sittings grow by one at most. Assumes nothing.
--- what an act keeps of a table
 use Prim.Native.Nat.{ℕ, zero, suc, _+_, _-_, _≤_}
 use mathlib.Core.Bool.{Bool, true, false, not}
 use mathlib.Core.Path.{_≡_, refl}
@@ -30,6 +29,7 @@ use Rattle.table.specs.declared.table.Table.{Table}
 use Rattle.table.proofs.Laws.{chips-posted, sheet-seats, paid-sum}
 use Rattle.chairs.specs.declared.What.the-variants as what
 
+-- what an act keeps of a table
 pub record Kept (t u : Table) : Type 0 where
   pub chips : chipsOf (u .chairs) ≤ chipsOf (t .chairs)
   pub sittings : u .sittings ≡ t .sittings

@@ -1,5 +1,4 @@
 -- What a line says, by its first letter: no two of the keys that are looked at begin with the same one. Assumes nothing.
--- a number has at most nine digits, and a bad one is 0
 use Prim.Native.Nat.{ℕ, _<_, _≤_, _^_}
 use mathlib.Core.Path.{_≡_, refl, sym, ap, _∙_, subst}
 use mathlib.Core.Bool.{false}
@@ -20,6 +19,7 @@ use Rattle.answers.specs.Answer.{keySitting, keyPaid, keyUnclaimed}
 use Rattle.teller.specs.declared.keys.Line.{Line}
 use Rattle.teller.specs.Lines.{keys, keyGive, keyRows, keyWorth, keyCount, otherLine, keyedLine, saidOf}
 
+-- a number has at most nine digits, and a bad one is 0
 pub value-small : (key line : List ℕ) → valueIn (lineNumber key line) < 10 ^ 9
 value-small key line = go (lineNumber key line) refl
   where

@@ -1,7 +1,6 @@
 -- What holds at every line: a tray of at most sixteen rows, and no number of more than nine digits. It holds before the first line, and each line keeps it.
 -- Assumes nothing.
 --     sound-start, sound-tray, sound-answer, sound-give, sound-anew
--- a fact of every place of a list stays one where an element that has it is put somewhere
 use Prim.Native.Nat.{ℕ, zero, suc, _≤_, _<_, _^_}
 use mathlib.Core.Path.{_≡_, refl, sym, ap, _∙_, subst}
 use mathlib.Core.Bool.{Bool, true, false}
@@ -23,6 +22,7 @@ use Rattle.teller.specs.declared.keys.Line.{Line}
 use Rattle.teller.specs.declared.state.Teller.{Teller}
 use Rattle.teller.specs.Keeping.{started, withinDue, fitsDue, takenDue, trayLine, answerLine, giveLine, listing, sittingLine, anew, SmallRow, Sound}
 
+-- a fact of every place of a list stays one where an element that has it is put somewhere
 pub put-each : {A : Type 0} (P : A → Type 0) (d : A) (l : List A) (i : ℕ) (x : A) → P x → ((k : ℕ) → P (getD l k d)) → (k : ℕ) → P (getD (set l i x) k d)
 put-each P d l i x p h k =
     ⊎-elim

@@ -1,5 +1,4 @@
 -- A line that is read as a number is the line that is written for it: the form and the value determine each other. Assumes nothing.
--- a line that is ended is ended by an LF
 use mathlib.Core.Path.{_≡_, refl, sym, ap, _∙_}
 use mathlib.Core.List.{List, [], _∷_, _++_}
 use mathlib.Core.Bool.{Bool, true, false}
@@ -21,6 +20,7 @@ use Rattle.text.proofs.Numbers.{number-back, number-none}
 use Rattle.text.proofs.Lines.{line-within}
 use Rattle.text.proofs.RoundTrip.{line-shape}
 
+-- a line that is ended is ended by an LF
 ended-lf : (l : List ℕ) → lineLen l < length l → getD l (lineLen l) 0 ≡ 10
 ended-lf [] h = absurd (omega arith)
 ended-lf (b ∷ l) h = go (eqb b 10) refl h (λ k. ended-lf l k)

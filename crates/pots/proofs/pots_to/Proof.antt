@@ -1,6 +1,5 @@
 -- `pots::pots_to` meets its contract. The invariant: the pots up to the level lo are written (`Filled`).
 -- Assumes nothing.
--- a padded list is no shorter than the list
 use lib.ListN.{length, replicate, length-append}
 use Rattle.pots.specs.Runs.{pot, potsOf, padded}
 use Rattle.pots.specs.declared.Pot.{Pot}
@@ -16,6 +15,7 @@ use Rattle.pots.proofs.PotLevels.{next-lo, next-top}
 use Rattle.pots.proofs.pots_to.Statement.{statement}
 use Rattle.pots.proofs.pots_to.Tie as tie
 
+-- a padded list is no shorter than the list
 padded-long : (n : ℕ) (ps : List Pot) → length ps ≤ length (padded n ps)
 unfolding padded
 padded-long n ps = omega (arith, length-append ps (replicate (n - length ps) (pot 0 0)))

@@ -1,7 +1,6 @@
 -- `records::Reader::next` meets its contract: a walk of its MIR, by hand. The struct is taken apart, `record_at` is called on the slice and the number (all that is known of it is its contract), and what is handed back is made of
 -- the record and of a reader with the next place. The struct is Copy: what it owns is had twice, and once more inside the result.
 -- Assumes nothing.
--- the struct's type, over the signature's lifetimes
 use mathlib.Core.Path.{_≡_, refl, ap, subst}
 use Prim.Native.Nat.{_<_, _^_}
 use mathlib.Core.List.{[], _∷_}
@@ -63,6 +62,7 @@ use Rattle.records.proofs.Reader.next as next
 use Rattle.records.proofs.Reader.next.Statement as stated
 use Rattle.records.proofs.Reader.next.Code as code
 
+-- the struct's type, over the signature's lifetimes
 abbrev B : Lfts 1 → RattleType
 B κs = T.the-row (namedLft 1 0 tt κs)
 
