@@ -212,9 +212,3 @@ pub hears-all : (c : Copier) (buf part : List ℕ) (from : ℕ) (d : Copier) (bu
 hears-all c buf part from d buf2 h l g =
     let e : from ≡ length part = omega arith in
     subst (λ (i : ℕ). HeardTo c buf part 0 d buf2 i) e g
-
--- a call goes further
-pub hears-moves : (part : List ℕ) (from : ℕ) {to u : ℕ} → to ≡ from + u → from < length part → (0 < length (midOf from (length part - from) part) → 0 < u) → from < to
-hears-moves part from {to} {u} e l h =
-    let m : 0 < u = h (omega (arith, ap length (part-is from part), length-drop from part)) in
-    omega (arith, e)

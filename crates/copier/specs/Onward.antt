@@ -5,6 +5,7 @@ use mathlib.Core.List.{List, [], _∷_, _++_}
 use mathlib.Core.Bool.{Bool, true, false}
 use lib.ListN.{length}
 use lib.Dec.{eqb, leb}
+pub use Rattle.laws.specs.Lists.{whole}
 use Rattle.laws.specs.Tests.{pick}
 use Rattle.paper.specs.declared.Sheet.{Sheet}
 use Rattle.text.specs.TableSheet.{sheetOf}
@@ -88,10 +89,6 @@ abbrev pub closed : Given → Given
 closed x = andThen x (closing (x .state) (x .kept))
 
 -- ---- a log in parts, none and empty ones too
-
-abbrev pub whole : List (List ℕ) → List ℕ
-whole [] = []
-whole (p ∷ ps) = p ++ whole ps
 
 -- part after part
 abbrev pub partsOf : State → Kept → List (List ℕ) → Given

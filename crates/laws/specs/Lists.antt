@@ -1,6 +1,6 @@
--- Sums, the largest, a fact of every element, over lists of any length. Assumes nothing.
+-- Sums, the largest, a fact of every element, what came in parts, over lists of any length. Assumes nothing.
 use Prim.Native.Nat.{ℕ, _+_, max}
-use mathlib.Core.List.{List, [], _∷_}
+use mathlib.Core.List.{List, [], _∷_, _++_}
 
 unfoldable pub sumOf : List ℕ → ℕ
 sumOf [] = 0
@@ -13,3 +13,8 @@ maxOf (x ∷ xs) = max x (maxOf xs)
 abbrev pub All : {A : Type 0} → (A → Type 0) → List A → Type 0
 All P [] = Unit {0}
 All P (x ∷ xs) = P x × All P xs
+
+-- what came in parts: each behind those before it
+abbrev pub whole : List (List ℕ) → List ℕ
+whole [] = []
+whole (p ∷ ps) = p ++ whole ps

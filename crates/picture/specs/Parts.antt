@@ -5,6 +5,7 @@ use mathlib.Core.List.{List, [], _∷_, _++_}
 use mathlib.Core.Bool.{Bool}
 use lib.ListN.{take, drop}
 use lib.Dec.{ltb, leb}
+pub use Rattle.laws.specs.Lists.{whole}
 use Rattle.laws.specs.Tests.{both}
 use Rattle.writing.specs.Sheet.{Wrote}
 use Rattle.picture.specs.declared.Screen.{Screen}
@@ -21,11 +22,6 @@ andThen x y = record { after = y .after; drawn = x .drawn ++ y .drawn }
 abbrev pub drawnOf : Bool → Kept → List ℕ → Step
 drawnOf colour k [] = still k
 drawnOf colour k (b ∷ bs) = andThen (stepOf colour k b) (drawnOf colour (stepOf colour k b .after) bs)
-
--- the input that came in parts
-abbrev pub whole : List (List ℕ) → List ℕ
-whole [] = []
-whole (p ∷ ps) = p ++ whole ps
 
 -- part after part
 abbrev pub partsDrawn : Bool → Kept → List (List ℕ) → Step

@@ -5,16 +5,12 @@ use mathlib.Core.List.{List, [], _∷_, _++_}
 use mathlib.Core.Bool.{Bool, false}
 use lib.ListN.{take}
 use lib.Dec.{ltb, leb}
+pub use Rattle.laws.specs.Lists.{whole}
 use Rattle.laws.specs.Tests.{both, pick}
 use Rattle.writing.specs.Sheet.{Wrote}
 use Rattle.renewal.specs.declared.Renewal.{Renewal}
 use Rattle.renewal.specs.declared.Given.{Given}
 use Rattle.renewal.specs.Renewing.{Step, still, andThen, givenOf, givenMost}
-
--- the input that came in parts
-abbrev pub whole : List (List ℕ) → List ℕ
-whole [] = []
-whole (p ∷ ps) = p ++ whole ps
 
 -- part after part
 abbrev pub partsGiven : Renewal → List (List ℕ) → Step

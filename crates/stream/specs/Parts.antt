@@ -4,6 +4,7 @@ use Prim.Native.Nat.{ℕ, zero, suc}
 use mathlib.Core.List.{List, [], _∷_, _++_}
 use lib.ListN.{length, drop}
 use lib.Dec.{eqb}
+pub use Rattle.laws.specs.Lists.{whole}
 use Rattle.laws.specs.Tests.{pick}
 use Rattle.lines.specs.Kept.{markOf}
 use Rattle.stream.specs.declared.Clerk.{Clerk}
@@ -53,8 +54,3 @@ closedOf room x = andThen (x .given) (closing room (stateOf (x .clerk)) (keptBy 
 
 unfoldable pub servedOf : ℕ → List ℕ → List (List ℕ) → Given
 servedOf room buf parts = closedOf room (partsFrom room startOf buf parts)
-
--- the log that came in parts
-abbrev pub whole : List (List ℕ) → List ℕ
-whole [] = []
-whole (p ∷ ps) = p ++ whole ps

@@ -1,5 +1,5 @@
 -- `open_one` meets its contract: the part goes on behind the bytes that were used up.
-use Rattle.copier.proofs.On.{hears-moves}
+use Rattle.text.proofs.Parts.{goes-further}
 use borrow.Author.Needs.{needs}
 use Rattle.fair_copy.proofs.open_one.Statement.{statement}
 use Rattle.fair_copy.proofs.open_one.Tie as tie
@@ -51,7 +51,7 @@ same-length-2 : tie.Need-same-length-2
 same-length-2 c = search needs
 
 returns : tie.Need-returns
-returns c = let s = (c .before .before .before .before .before .before .before .before .before .before .before .before .before .before .before .before .before .before .before .before) in let f = c .before .before .before .before .before .before .before .before .before .before .before .before .before .before .renew-on .ensures in (f .1 .0 .0, c .before .before .before .before .before .before .serve .ensures .1, hears-moves (s .args .part .now) (s .args .from) (c .before .before .before .before .before .before .before .before .before .before .before .ahead .ensures .0) (s .pre .4) (λ l. f .1 .1 (s .pre .1) l (s .pre .5)), c .before .before .before .before .before .before .before .before .before .before .before .ahead .ensures .1)
+returns c = let s = (c .before .before .before .before .before .before .before .before .before .before .before .before .before .before .before .before .before .before .before .before) in let f = c .before .before .before .before .before .before .before .before .before .before .before .before .before .before .renew-on .ensures in (f .1 .0 .0, c .before .before .before .before .before .before .serve .ensures .1, goes-further (s .args .part .now) (s .args .from) (c .before .before .before .before .before .before .before .before .before .before .before .ahead .ensures .0) (s .pre .4) (λ l. f .1 .1 (s .pre .1) l (s .pre .5)), c .before .before .before .before .before .before .before .before .before .before .before .ahead .ensures .1)
 
 pub open-one-spec : {M : Type 1} → statement M
 open-one-spec =

@@ -1,5 +1,6 @@
 -- `serve_one` meets its contract: the copier has heard the bytes that it used up, and the part goes on behind them.
-use Rattle.copier.proofs.On.{hears-one, hears-moves}
+use Rattle.text.proofs.Parts.{goes-further}
+use Rattle.copier.proofs.On.{hears-one}
 use borrow.Author.Needs.{needs}
 use Rattle.fair_copy.proofs.serve_one.Statement.{statement}
 use Rattle.fair_copy.proofs.serve_one.Tie as tie
@@ -54,7 +55,7 @@ returns c = let s = (c .before .before .before .before .before .before .before .
     let f = c .before .before .before .before .before .before .before .before .before .before .before .before .before .copy-on in
     let a = c .before .before .before .before .before .before .ahead .ensures in (
       hears-one (s .args .part .now) (s .args .from) (f .result) (f .ensures .0) (a .0),
-      (f .ensures .1 .0 .0, hears-moves (s .args .part .now) (s .args .from) (a .0) (s .pre .2) (λ h. f .ensures .1 .1 .1 h (s .pre .3) (s .pre .4)), a .1),
+      (f .ensures .1 .0 .0, goes-further (s .args .part .now) (s .args .from) (a .0) (s .pre .2) (λ h. f .ensures .1 .1 .1 h (s .pre .3) (s .pre .4)), a .1),
     )
 
 pub serve-one-spec : {M : Type 1} → statement M
