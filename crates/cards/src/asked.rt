@@ -55,7 +55,7 @@ fn any_below(least: u8, cards: &[u8]) -> bool
 }
 
 // Whether a card is not of the deck: the 32 cards go from 20 to 51, and of the 52 none is too low.
-pub fn any_outside(deck: u8, cards: &[u8]) -> bool
+pub fn any_outside(deck: u32, cards: &[u8]) -> bool
     ensures { λ r. ⌜ r ≡ anyOutside deck (now (cards .entry)) ⌝ }
 {
     if any_above(cards) {
@@ -97,7 +97,7 @@ pub fn any_twice(cards: &[u8]) -> bool
 }
 
 // The best hand of seven cards of the deck: any other number of cards is refused, then a card that is not of the deck, then a card that comes twice.
-pub fn read_hand(deck: u8, cards: &[u8]) -> Reading
+pub fn read_hand(deck: u32, cards: &[u8]) -> Reading
     ensures { λ r. ⌜ (r ≡ readingOf deck (now (cards .entry))) × (codeOfReading r ≡ codeAsked deck (now (cards .entry))) ⌝ }
 {
     if cards.len() != 7 {

@@ -177,7 +177,7 @@ fn best_by(ranking: Ranking, cards: &[u8]) -> Hand
 }
 
 // By the ranking of the deck, the best hand of five among the cards, of any number of them; of fewer than five, no hand.
-pub fn best_hand(deck: u8, cards: &[u8]) -> Hand
+pub fn best_hand(deck: u32, cards: &[u8]) -> Hand
     ensures { λ r. ⌜ r ≡ bestOf (rankingOf deck) (now (cards .entry)) ⌝ }
 {
     best_by(ranking_of(deck), cards)

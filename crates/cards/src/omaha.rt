@@ -38,7 +38,7 @@ fn best_of_both(ranking: Ranking, hole: [u8; 4], board: &[u8]) -> Hand
 }
 
 // By the ranking of the deck, the best hand of two of the hole and three of the board cards; with fewer than three on the board, no hand.
-pub fn best_omaha(deck: u8, hole: [u8; 4], board: &[u8]) -> Hand
+pub fn best_omaha(deck: u32, hole: [u8; 4], board: &[u8]) -> Hand
     ensures { λ r. ⌜ r ≡ bestAmong (rankingOf deck) (fromBoth 2 3 hole (now (board .entry))) ⌝ }
 {
     if board.len() < 3 {

@@ -18,7 +18,7 @@ ghost use Rattle.hands.specs.Answers.{Wrote, numberBytes, rankBytes, han
 
 // What is asked for: the deck; the second reader in place of the first; the hand's place in place of its class and ranks.
 struct Wish {
-    deck: u8,
+    deck: u32,
     counted: bool,
     place: bool,
 }
@@ -227,7 +227,7 @@ fn read_counted(cards: &[u8]) -> Reading
 }
 
 // The answer of either reader: it is the same. The second knows the 52 cards only.
-fn read_cards(deck: u8, counted: bool, cards: &[u8]) -> Reading
+fn read_cards(deck: u32, counted: bool, cards: &[u8]) -> Reading
     ensures { λ r. ⌜ r ≡ readingOf deck (now (cards .entry)) ⌝ }
 {
     if both(counted, deck == 52) {

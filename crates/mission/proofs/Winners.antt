@@ -18,7 +18,7 @@ use Rattle.paper.specs.declared.Sheet.{Sheet}
 use Rattle.paper.specs.declared.Entry.{Entry}
 use Rattle.paper.specs.declared.Entry.the-variants.{Settle}
 use Rattle.paper.proofs.Codes.{or-zero, when-zero}
-use Rattle.cards.specs.Order.{ranking52, beatsBy, bestAmong}
+use Rattle.cards.specs.Order.{rankingOf, beatsBy, bestAmong}
 use Rattle.cards.specs.Omaha.{allowed}
 use Rattle.cards.specs.declared.Hand.{Hand}
 use Rattle.cards.proofs.Above.{beats-irrefl}
@@ -171,38 +171,43 @@ module _ (sheet : Sheet) (ok : isSheet sheet ≡ true) (es : List Entry) (taken 
 
   -- one best hand beats another exactly where it counts more
   compare : (x y : ℕ) → Shown x → Shown y
-      → beatsBy ranking52 (bestAt sheet n x) (bestAt sheet n y) ≡ ltb (scoreBy (sheet .game) (n .board .cards) (partAt n y)) (scoreBy (sheet .game) (n .board .cards) (partAt n x))
+      → beatsBy (rankingOf (sheet .deck)) (bestAt sheet n x) (bestAt sheet n y)
+      ≡ ltb (scoreBy (sheet .deck) (sheet .game) (n .board .cards) (partAt n y)) (scoreBy (sheet .deck) (sheet .game) (n .board .cards) (partAt n x))
   unfolding scoreOf handScore scoreBy
   compare x y p q =
-      sym (ap₂ (beatsBy ranking52) (same-hand x) (same-hand y)) ∙ scores-compare sheet ok es (taken .1) x y (shown-at x ∙ p) (shown-at y ∙ q) ∙ ap₂ ltb (score-at y) (score-at x)
+      sym (ap₂ (λ (d : ℕ) (hs : Hand × Hand). beatsBy (rankingOf d) (hs .0) (hs .1)) deck (λ i. (same-hand x i, same-hand y i))) ∙ scores-compare sheet ok es (taken .1) x y (shown-at x ∙ p) (shown-at y ∙ q) ∙ ap₂ ltb (score-at y) (score-at x)
     where
       game : run sheet es .sheet .game ≡ sheet .game
       game = ap (λ (z : Sheet). z .game) (cards-after sheet ok es (taken .1) .rules)
 
-      best : ℕ → List ℕ → List ℕ → Hand
-      best g hole board = bestAmong ranking52 (allowed g hole board)
+      deck : run sheet es .sheet .deck ≡ sheet .deck
+      deck = ap (λ (z : Sheet). z .deck) (cards-after sheet ok es (taken .1) .rules)
 
-      same-hand : (x : ℕ) → best (run sheet es .sheet .game) (holeOf (seatOf (run sheet es) x)) (run sheet es .board .cards) ≡ bestAt sheet (notebook sheet es) x
+      best : Sheet → List ℕ → List ℕ → Hand
+      best s hole board = bestAmong (rankingOf (s .deck)) (allowed (s .game) hole board)
+
+      same-hand : (x : ℕ) → best (run sheet es .sheet) (holeOf (seatOf (run sheet es) x)) (run sheet es .board .cards) ≡ bestAt sheet (notebook sheet es) x
       same-hand x =
-          ap (λ (g : ℕ). best g (holeOf (seatOf (run sheet es) x)) (run sheet es .board .cards)) game
-          ∙ ap₂ (λ (c : Part) (b : List ℕ). best (sheet .game) (c .hole) b) (says .chairs x .part) (cards-is (notebook sheet es) (run sheet es) says)
+          ap (λ (s : Sheet). best s (holeOf (seatOf (run sheet es) x)) (run sheet es .board .cards)) (cards-after sheet ok es (taken .1) .rules)
+          ∙ ap₂ (λ (c : Part) (b : List ℕ). best sheet (c .hole) b) (says .chairs x .part) (cards-is (notebook sheet es) (run sheet es) says)
 
       shown-at : (x : ℕ) → isShown (run sheet es .sheet .game) (seatOf (run sheet es) x) ≡ shownBy (sheet .game) (partAt (notebook sheet es) x)
       shown-at x = ap (λ (g : ℕ). isShown g (seatOf (run sheet es) x)) game ∙ ap (shownBy (sheet .game)) (says .chairs x .part)
 
-      score-at : (x : ℕ) → scoreOf (run sheet es .sheet .game) (run sheet es .board) (seatOf (run sheet es) x) ≡ scoreBy (sheet .game) (notebook sheet es .board .cards) (partAt (notebook sheet es) x)
+      score-at : (x : ℕ)
+          → scoreOf (run sheet es .sheet .deck) (run sheet es .sheet .game) (run sheet es .board) (seatOf (run sheet es) x) ≡ scoreBy (sheet .deck) (sheet .game) (notebook sheet es .board .cards) (partAt (notebook sheet es) x)
       score-at x =
-          ap (λ (g : ℕ). scoreOf g (run sheet es .board) (seatOf (run sheet es) x)) game
-          ∙ ap₂ (λ (c : Part) (b : List ℕ). scoreBy (sheet .game) b c) (says .chairs x .part) (cards-is (notebook sheet es) (run sheet es) says)
+          ap (λ (s : Sheet). scoreOf (s .deck) (s .game) (run sheet es .board) (seatOf (run sheet es) x)) (cards-after sheet ok es (taken .1) .rules)
+          ∙ ap₂ (λ (c : Part) (b : List ℕ). scoreBy (sheet .deck) (sheet .game) b c) (says .chairs x .part) (cards-is (notebook sheet es) (run sheet es) says)
 
   abbrev score : ℕ → ℕ
   score i = getD (scoresBy sheet n) i 0
 
   abbrev told : ℕ → ℕ
-  told i = scoreBy (sheet .game) (n .board .cards) (partAt n (suc i))
+  told i = scoreBy (sheet .deck) (sheet .game) (n .board .cards) (partAt n (suc i))
 
   score-is : (i : ℕ) → i < 10 → score i ≡ told i
-  score-is i l = at-seat (λ x. scoreBy (sheet .game) (n .board .cards) (partAt n x)) i l
+  score-is i l = at-seat (λ x. scoreBy (sheet .deck) (sheet .game) (n .board .cards) (partAt n x)) i l
 
   -- ---- one pot
   module _ (p : Pot) (low : p .who < 2 ^ 10) (some : 0 < ones 10 (p .who)) (few : ones 10 (p .who) ≤ liveBy n) (live : (i : ℕ) → bitAt (livesBy n) i ≡ 0 → bitAt (p .who) i ≡ 0) where
@@ -234,7 +239,7 @@ module _ (sheet : Sheet) (ok : isSheet sheet ≡ true) (es : List Entry) (taken 
         record {
           wins = λ i l e.
               let q = winners-are (scoresBy sheet n) (p .who) i low some l .0 e in
-              (q .0, λ j k c. subst (λ (z : ℕ). beatsBy ranking52 (bestAt sheet n (suc j)) (bestAt sheet n (suc z)) ≡ false) (only-bit 10 (p .who) j i k l c (q .0) (omega arith)) (beats-irrefl ranking52 (bestAt sheet n (suc j))));
+              (q .0, λ j k c. subst (λ (z : ℕ). beatsBy (rankingOf (sheet .deck)) (bestAt sheet n (suc j)) (bestAt sheet n (suc z)) ≡ false) (only-bit 10 (p .who) j i k l c (q .0) (omega arith)) (beats-irrefl (rankingOf (sheet .deck)) (bestAt sheet n (suc j))));
           unbeaten = λ i l q. ap (λ (w : ℕ). bitAt w i) (winners-sole (scoresBy sheet n) (p .who) m) ∙ q .0;
           sole = λ e scores len. winners-sole scores (p .who) (ap (λ (k : ℕ). ones k (p .who)) len ∙ e);
         }

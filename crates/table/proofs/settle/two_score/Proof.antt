@@ -43,7 +43,7 @@ returns c =
     let k = s .args .b .cards in
     let ld : length d ≡ 4 = search needs in
     let lk : length k ≡ 5 = search needs in
-    c .strength .ensures ∙ seven-score (s .args .h .count) d k (s .pre) ld lk (c .before .best-hand .ensures)
+    c .strength .ensures ∙ seven-score (s .args .deck) (s .args .h .count) d k (s .pre) ld lk (c .before .best-hand .ensures)
 
 pub two-score-spec : {M : Type 1} → statement M
 two-score-spec =
