@@ -18,10 +18,10 @@ use Rattle.paper.specs.declared.Sheet.{Sheet}
 use Rattle.paper.specs.declared.Entry.{Entry}
 use Rattle.paper.specs.declared.Entry.the-variants.{Settle}
 use Rattle.paper.proofs.Codes.{or-zero, when-zero}
-use Rattle.cards.specs.Order.{rankingOf, beatsBy, bestAmong}
+use Rattle.cards.specs.Order.{ranking32, rankingOf, beatsBy, bestAmong}
 use Rattle.cards.specs.Omaha.{allowed}
 use Rattle.cards.specs.declared.Hand.{Hand}
-use Rattle.cards.proofs.Above.{beats-irrefl}
+use Rattle.cards.proofs.Above.{higher, beats-irrefl}
 use Rattle.pots.specs.Heights.{has, chipsAt, liveOf, maskAt, contenders, contested, contest}
 use Rattle.pots.specs.Runs.{potsOf}
 use Rattle.pots.specs.declared.Pot.{Pot}
@@ -45,7 +45,7 @@ use Rattle.history.proofs.AsNoted.{as-noted}
 use Rattle.history.proofs.Codes.{taken-by}
 use Rattle.history.proofs.Kept.{cards-is}
 use Rattle.history.proofs.Shown.{cards-after, scores-compare}
-use Rattle.mission.specs.Winners.{bestAt, scoresBy, Contends, BestWin}
+use Rattle.mission.specs.Winners.{bestAt, scoresBy, Contends, Wins, BestWin}
 
 -- ---- what is told seat by seat
 pub seat-at : (f : ℕ → ℕ) (k m i : ℕ) → i < m → getD (map f (seatsFrom k m)) i 0 ≡ f (suc (i + k))
@@ -121,6 +121,14 @@ kind-zero sheet es k e h =
     let next = when (not (eqb (length es + 1) k)) 3 in
     let kind = kindBy sheet (notebook sheet es) (turnOf sheet es) e in
     or-zero next kind (or-zero (when (not (inRange sheet k e)) 2) (orElse next kind) h .1) .1
+
+-- with 32 cards a flush has the higher place, whatever the ranks
+short-flush : (h g : Hand) → h .class ≡ 3 → g .class ≡ 2 → beatsBy (rankingOf 32) h g ≡ true
+unfolding rankingOf
+short-flush h g e f =
+    let p : getD (ranking32 .places) (h .class) 0 ≡ 7 = ap (λ (k : ℕ). getD (ranking32 .places) k 0) e in
+    let q : getD (ranking32 .places) (g .class) 0 ≡ 6 = ap (λ (k : ℕ). getD (ranking32 .places) k 0) f in
+    higher _ _ _ _ (omega (arith, p, q))
 
 module _ (sheet : Sheet) (ok : isSheet sheet ≡ true) (es : List Entry) (taken : AllTaken sheet (Settle ∷ es)) where
   abbrev n : Notebook
@@ -260,3 +268,11 @@ module _ (sheet : Sheet) (ok : isSheet sheet ≡ true) (es : List Entry) (taken 
   better-wins =
       each-pot (potsOf (putsBy n) (livesBy n)) (pots-manned (putsBy n) (livesBy n)) (contenders-few (putsBy n) (livesBy n))
       (pots-all Fits (putsBy n) (livesBy n) (λ h p. (low-contest (putsBy n) (livesBy n) h, λ i e. contender-live (putsBy n) (livesBy n) h i p e)))
+
+-- No. 6 at the table, "flush above full house": with 32 cards a contender for a pot whose best hand is a full house wins nothing of it where another has a flush
+pub flush-wins : (sheet : Sheet) (n : Notebook) (p : Pot) → sheet .deck ≡ 32 → BestWin sheet n p → (i j : ℕ) → i < 10 → j < 10 → Contends p i
+    → (bestAt sheet n (suc i)) .class ≡ 3 → (bestAt sheet n (suc j)) .class ≡ 2 → Wins sheet n p j → ⊥
+flush-wins sheet n p d b i j li lj c flush full w = true≢false (sym (over (bestAt sheet n (suc i)) (bestAt sheet n (suc j)) flush full) ∙ b .wins j lj w .1 i li c)
+  where
+    over : (h g : Hand) → h .class ≡ 3 → g .class ≡ 2 → beatsBy (rankingOf (sheet .deck)) h g ≡ true
+    over h g e f = subst (λ (k : ℕ). beatsBy (rankingOf k) h g ≡ true) (sym d) (short-flush h g e f)
