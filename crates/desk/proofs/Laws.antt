@@ -342,7 +342,7 @@ shown-small n code t p r a b w d z =
       pots = λ k. omega (arith, padded-within 9 (potsOf ts live) k, all);
       closed = z;
       back = omega arith;
-      payout = record { fee = w .fee; rows = λ k. rows-small (p .sittings) (p .paid) k (w .sittings) (w .paid); unclaimed = w .unclaimed };
+      payout = record { fee = w .fee; jackpot = omega arith; rows = λ k. rows-small (p .sittings) (p .paid) k (w .sittings) (w .paid); unclaimed = w .unclaimed };
     }
 
 pub made-shown : (n code : ℕ) (t : Table) (p : Paid) {ps : Pots} {back k : ℕ} {po : Payout}

@@ -1,0 +1,2 @@
+-- Laws of the royal flush.
+pub mod Laws

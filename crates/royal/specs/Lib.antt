@@ -1,0 +1,2 @@
+-- Request No. 7: the royal flush that wins the pool.
+pub mod Royal
