@@ -58,6 +58,10 @@ pub opened-lone : (log : List ℕ) (s : Sheet) → openedOf log ≡ Read s → s
 opened-lone log s e = opened log s e .drop
 
 -- what code reads: the sheet of the log, with no drop
-pub opened-by : (log : List ℕ) {o p : Opening} → o ≡ sheetOf log → p ≡ loneOpening o → p ≡ openedOf log
+pub opened-read : (log : List ℕ) {o : Opening} {s u : Sheet} → o ≡ sheetOf log → o ≡ Read s → u ≡ lone s → Read u ≡ openedOf log
 unfolding openedOf
-opened-by log e f = f ∙ ap loneOpening e
+opened-read log e f g = ap Read g ∙ ap loneOpening (sym f ∙ e)
+
+pub opened-bad : (log : List ℕ) {o : Opening} → o ≡ sheetOf log → o ≡ Bad → Bad ≡ openedOf log
+unfolding openedOf
+opened-bad log e f = ap loneOpening (sym f ∙ e)
