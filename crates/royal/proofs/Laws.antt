@@ -7,6 +7,7 @@ use Prim.Native.Nat.{ℕ, suc}
 use native.Mathlib.Omega.{arith}
 use lib.ListN.{length, getD, take}
 use lib.Dec.{eqb}
+use borrow.Author.Tests.{ne-eqb}
 use Rattle.laws.specs.Tests.{both, either}
 use Rattle.cards.specs.Cards.{oneSuit, inRow}
 use Rattle.cards.specs.Hands.{ranking52, first, tests, classOf, ranksOf, classOfCards, mostHeld, nextHeld, valueOf}
@@ -126,8 +127,8 @@ four-hole n d k e l = ap (λ (m : ℕ). royalIn (take m d) k) e ∙ four d k l
 
 -- ---- cards of more than one suit are no royal flush
 no-straight-flush : (straight : Bool) (most next : ℕ) → eqb (first (tests straight false most next)) 0 ≡ false
-no-straight-flush true most next = refl
-no-straight-flush false most next = refl
+no-straight-flush true most next = ne-eqb (suc _) 0 (λ e. omega arith)
+no-straight-flush false most next = ne-eqb (suc _) 0 (λ e. omega arith)
 
 pub suits-differ : (m : List ℕ) → oneSuit m ≡ false → isRoyal m ≡ false
 unfolding isRoyal valueOf classOfCards classOf

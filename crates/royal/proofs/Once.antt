@@ -3,7 +3,7 @@
 use mathlib.Core.Path.{_≡_, refl, sym, ap, subst, _∙_}
 use mathlib.Core.List.{List, [], _∷_, _++_, map}
 use mathlib.Core.Bool.{Bool, true, false, cond, false≢true}
-use mathlib.Core.Logic.{⊎-elim}
+use mathlib.Core.Logic.{_⊎_, inl, inr, ⊎-elim}
 use Prim.Native.Nat.{ℕ, zero, suc, _+_, _*_, _/_, _%_, _≤_, _<_}
 use native.Mathlib.Omega.{arith}
 use native.Mathlib.Nat.{div-add-mod, mod-lt}
@@ -88,10 +88,13 @@ top-down os l = go (isWheel 2 os)
     go true r t = absurd (omega (arith, t))
     go false r t = five-down os l r t
 
+past-zero : (n : ℕ) → eqb (suc n) 0 ≡ true → ⊥
+past-zero n e = omega (arith, eqb-true (suc n) 0 e)
+
 straight-flush : (st fl : Bool) (mo ne : ℕ) → eqb (first (tests st fl mo ne)) 0 ≡ true → (st ≡ true) × (fl ≡ true)
 straight-flush true true mo ne e = (refl, refl)
-straight-flush true false mo ne e = absurd (false≢true e)
-straight-flush false fl mo ne e = absurd (false≢true e)
+straight-flush true false mo ne e = absurd (past-zero _ e)
+straight-flush false fl mo ne e = absurd (past-zero _ e)
 
 pub record Royal (m : List ℕ) : Type 0 where
   pub ranks : ordered (map rank m) ≡ top
@@ -160,7 +163,8 @@ miss j k s c p n = ap one (ne-eqb (j + s) c (λ e. n (omega (arith, e, eqb-true 
 
 hit : (q s c : ℕ) → s < 4 → eqb (4 * q + s) c ≡ true → one (eqb s (suit c)) ≡ 1
 hit q s c h p =
-    let e : s ≡ c % 4 = omega (arith, eqb-true (4 * q + s) c p, div-add-mod c 4, mod-lt c 4 (omega arith), h) in
+    let m : c % 4 < 4 = mod-lt c (omega arith) in
+    let e : s ≡ c % 4 = omega (arith, eqb-true (4 * q + s) c p, div-add-mod c 4, m, h) in
     ap one (eq-eqb s (c % 4) e)
 
 abbrev ones : ℕ → ℕ → ℕ
@@ -207,7 +211,7 @@ suited-most : (s : ℕ) (l : List ℕ) → s < 4 → royals s l ≤ count s (map
 suited-most s [] h = omega arith
 suited-most s (c ∷ l) h = omega (arith, is-one s c h, suited-most s l h)
 
-one-most : (b : Bool) → one b ≤ 1
+pub one-most : (b : Bool) → one b ≤ 1
 one-most true = omega arith
 one-most false = omega arith
 
@@ -292,7 +296,7 @@ royal-held hole board m f e =
     go [] l b r = absurd (omega arith)
     go (x ∷ m) l b r =
         let s = suit x in
-        let h : s < 4 = mod-lt x 4 (omega arith) in
+        let h : x % 4 < 4 = mod-lt x (omega arith) in
         let all = flush-has x m r in
         let split : royals s (x ∷ m) ≡ royals s (f .mine) + royals s (f .theirs) = ap (royals s) b ∙ royals-append s (f .mine) (f .theirs) in
         let p = royals-most s (f .mine) h in

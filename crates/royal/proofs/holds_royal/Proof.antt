@@ -1,30 +1,31 @@
+-- `holds_royal` meets its contract: a hand that is not live with all its cards entered holds none. Assumes nothing.
+use mathlib.Core.Path.{sym, _∙_}
+use lib.Dec.{eqb}
+use borrow.Author.Tests.{eqb-true}
+use Rattle.laws.proofs.Tests.{both-true}
+use Rattle.royal.specs.Royal.{holdsRoyal}
 use borrow.Author.Needs.{needs}
 use Rattle.royal.proofs.holds_royal.Statement.{statement}
 use Rattle.royal.proofs.holds_royal.Tie as tie
-use Rattle.royal.proofs.holds_royal.Reads as reads
-use Rattle.royal.proofs.holds_royal.Lts as lts
-use Rattle.laws.proofs.both.Reads as both-reads
-use Rattle.royal.proofs.royal_in.Reads as royal-in-reads
 
--- src/lib.rt:117:27
 cast-both : tie.Need-cast-both
 cast-both c = search needs
 
--- src/lib.rt:117:8
 both-requires : tie.Need-both-requires
 both-requires c κs = search needs
 
--- src/lib.rt:118:9
 royal-in-requires : tie.Need-royal-in-requires
-royal-in-requires c κs = ?
+royal-in-requires c κs =
+    let a = c .before .before .before .before .args in
+    (c .before .before .before .before .pre, eqb-true (a .c .hole .count) (a .game) (both-true (a .c .dealt .live) (eqb (a .c .hole .count) (a .game)) (sym (c .before .both .ensures) ∙ c .if1 .taken) .1))
 
--- src/lib.rt:118:9
 returns : tie.Need-returns
-returns c = ?
+unfolding holdsRoyal
+returns c = rw (sym (c .before .before .both .ensures) ∙ c .before .if1 .taken) (c .royal-in .ensures)
 
--- src/lib.rt:112:1
 returns-2 : tie.Need-returns-2
-returns-2 c = ?
+unfolding holdsRoyal
+returns-2 c = rw (sym (c .before .both .ensures) ∙ c .if1 .left)
 
 pub holds-royal-spec : {M : Type 1} → statement M
 holds-royal-spec = tie.close (tie.spec cast-both both-requires royal-in-requires returns returns-2)

@@ -1,24 +1,24 @@
+-- `royal_in` meets its contract: with four hole cards, and with two. Assumes nothing.
+use mathlib.Core.Path.{_≡_, _∙_}
+use mathlib.Core.Logic.{_⊎_, ⊎-elim}
+use Prim.Native.Nat.{ℕ}
+use Rattle.paper.proofs.Sheets.{game-is}
 use borrow.Author.Needs.{needs}
 use Rattle.royal.proofs.royal_in.Statement.{statement}
 use Rattle.royal.proofs.royal_in.Tie as tie
-use Rattle.royal.proofs.royal_in.Reads as reads
-use Rattle.royal.proofs.royal_in.Lts as lts
-use Rattle.royal.proofs.four_royal.Reads as four-royal-reads
-use Rattle.royal.proofs.two_royal.Reads as two-royal-reads
 
--- src/lib.rt:106:9
 four-royal-requires : tie.Need-four-royal-requires
 four-royal-requires c κs = search needs
 
--- src/lib.rt:106:9
 returns : tie.Need-returns
 returns c = search needs
 
--- src/lib.rt:108:5
-two-royal-requires : tie.Need-two-royal-requires
-two-royal-requires c κs = ?
+two : (game : ℕ) → (game ≡ 2) ⊎ (game ≡ 4) → (game ≡ 4 → ⊥) → game ≡ 2
+two game h n = ⊎-elim (λ e. e) (λ e. absurd (n e)) h
 
--- src/lib.rt:101:1
+two-royal-requires : tie.Need-two-royal-requires
+two-royal-requires c κs = c .before .pre .1 ∙ two _ (game-is _ (c .before .pre .0)) (c .if1 .left)
+
 returns-2 : tie.Need-returns-2
 returns-2 c = search needs
 
