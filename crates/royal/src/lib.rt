@@ -40,14 +40,9 @@ fn is_royal(a: u8, b: u8, c: u8, d: u8, e: u8) -> bool
 }
 
 // Whether two cards are a royal flush with some three of the board.
-fn with_two(x: u8, y: u8, k: [u8; 5]) -> bool
-    ensures { λ r. ⌜ r ≡ anyRoyal (map (λ q. (x ∷ y ∷ []) ++ q) (choices 3 k)) ⌝ }
+fn with_five(x: u8, y: u8, a: u8, b: u8, c: u8, d: u8, e: u8) -> bool
+    ensures { λ r. ⌜ r ≡ anyRoyal (map (λ q. (x ∷ y ∷ []) ++ q) (choices 3 (a ∷ b ∷ c ∷ d ∷ e ∷ []))) ⌝ }
 {
-    let a = k[0];
-    let b = k[1];
-    let c = k[2];
-    let d = k[3];
-    let e = k[4];
     let with_c = either(
         is_royal(x, y, b, d, e),
         is_royal(x, y, c, d, e),
@@ -68,6 +63,12 @@ fn with_two(x: u8, y: u8, k: [u8; 5]) -> bool
             either(is_royal(x, y, a, b, e), with_a),
         ),
     )
+}
+
+fn with_two(x: u8, y: u8, k: [u8; 5]) -> bool
+    ensures { λ r. ⌜ r ≡ anyRoyal (map (λ q. (x ∷ y ∷ []) ++ q) (choices 3 k)) ⌝ }
+{
+    with_five(x, y, k[0], k[1], k[2], k[3], k[4])
 }
 
 // Two hole cards.
