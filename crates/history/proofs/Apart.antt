@@ -142,8 +142,8 @@ lies-board t v q h = go (leb 3 (t .board .count + 1))
         let free = not-in t v (board-free t v q) in
         ⊎-elim
         (λ (p : eqb k v ≡ true).
-            let e = eqb-true k v p in
-            omega (arith, one-more, ap one p, ap (λ (z : ℕ). heldTimes z (t .chairs)) e, ap (λ (z : ℕ). count z (lying t)) e, free .0, free .1))
+        let e = eqb-true k v p in
+        omega (arith, one-more, ap one p, ap (λ (z : ℕ). heldTimes z (t .chairs)) e, ap (λ (z : ℕ). count z (lying t)) e, free .0, free .1))
         (λ (p : eqb k v ≡ false). omega (arith, one-more, ap one p, h .once k))
         (test (eqb k v))
 
@@ -202,16 +202,16 @@ module _ (sheet : Sheet) (good : isSheet sheet ≡ true) where
           let put = put-times k (t .chairs) x (heldOf (seatOf t x) a b) (one (eqb k a) + one (eqb k b)) (omega (arith, more k)) in
           ⊎-elim
           (λ (p : eqb k a ≡ true).
-              let e = eqb-true k a p in
-              let n = ap one (ne-eqb k b (λ z. eqb-false a b (f .0) (sym e ∙ z))) in
-              omega (arith, put, ap one p, n, ap (λ (z : ℕ). heldTimes z (t .chairs)) e, ap (λ (z : ℕ). count z (lying t)) e, fa .0, fa .1))
+          let e = eqb-true k a p in
+          let n = ap one (ne-eqb k b (λ z. eqb-false a b (f .0) (sym e ∙ z))) in
+          omega (arith, put, ap one p, n, ap (λ (z : ℕ). heldTimes z (t .chairs)) e, ap (λ (z : ℕ). count z (lying t)) e, fa .0, fa .1))
           (λ (p : eqb k a ≡ false).
-              ⊎-elim
-              (λ (w : eqb k b ≡ true).
-                  let e = eqb-true k b w in
-                  omega (arith, put, ap one p, ap one w, ap (λ (z : ℕ). heldTimes z (t .chairs)) e, ap (λ (z : ℕ). count z (lying t)) e, fb .0, fb .1))
-              (λ (w : eqb k b ≡ false). omega (arith, put, ap one p, ap one w, h .once k))
-              (test (eqb k b)))
+          ⊎-elim
+          (λ (w : eqb k b ≡ true).
+          let e = eqb-true k b w in
+          omega (arith, put, ap one p, ap one w, ap (λ (z : ℕ). heldTimes z (t .chairs)) e, ap (λ (z : ℕ). count z (lying t)) e, fb .0, fb .1))
+          (λ (w : eqb k b ≡ false). omega (arith, put, ap one p, ap one w, h .once k))
+          (test (eqb k b)))
           (test (eqb k a))
 
   keeps : (t : Table) (x : ℕ) → Lies t → (d : Chair) → d .hole ≡ seatOf t x .hole → Once (putAt (t .chairs) x d) (lying t)

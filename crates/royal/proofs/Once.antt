@@ -129,8 +129,8 @@ ranked r k s (c ∷ l) e h = omega (arith, ranked r k s l e (h .1), go)
     go =
         ⊎-elim
         (λ (p : eqb r (rank c) ≡ true).
-            let q : k + s ≡ c = omega (arith, eqb-true r (rank c) p, e, h .0, div-add-mod c 4) in
-            omega (arith, ap one p, ap one (eq-eqb (k + s) c q)))
+        let q : k + s ≡ c = omega (arith, eqb-true r (rank c) p, e, h .0, div-add-mod c 4) in
+        omega (arith, ap one p, ap one (eq-eqb (k + s) c q)))
         (λ (p : eqb r (rank c) ≡ false). omega (arith, ap one p))
         (test (eqb r (rank c)))
 
@@ -194,7 +194,7 @@ past-ten : (s c : ℕ) → s < 4 → eqb (32 + s) c ≡ false → ones s c ≤ o
 past-ten s c h z =
     ⊎-elim
     (λ (p : eqb (36 + s) c ≡ true).
-        omega (arith, ap one z, ap one p, miss 40 36 s c p (λ e. omega arith), miss 44 36 s c p (λ e. omega arith), miss 48 36 s c p (λ e. omega arith), hit 9 s c h p))
+    omega (arith, ap one z, ap one p, miss 40 36 s c p (λ e. omega arith), miss 44 36 s c p (λ e. omega arith), miss 48 36 s c p (λ e. omega arith), hit 9 s c h p))
     (λ (p : eqb (36 + s) c ≡ false). omega (arith, ap one z, ap one p, past-jack s c h))
     (test (eqb (36 + s) c))
 
@@ -202,7 +202,7 @@ is-one : (s c : ℕ) → s < 4 → ones s c ≤ one (eqb s (suit c))
 is-one s c h =
     ⊎-elim
     (λ (p : eqb (32 + s) c ≡ true).
-        omega (arith, ap one p, miss 36 32 s c p (λ e. omega arith), miss 40 32 s c p (λ e. omega arith), miss 44 32 s c p (λ e. omega arith), miss 48 32 s c p (λ e. omega arith), hit 8 s c h p))
+    omega (arith, ap one p, miss 36 32 s c p (λ e. omega arith), miss 40 32 s c p (λ e. omega arith), miss 44 32 s c p (λ e. omega arith), miss 48 32 s c p (λ e. omega arith), hit 8 s c h p))
     (λ (p : eqb (32 + s) c ≡ false). past-ten s c h p)
     (test (eqb (32 + s) c))
 
