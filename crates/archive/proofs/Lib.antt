@@ -3,3 +3,4 @@ pub mod Lists
 pub mod Index
 pub mod Entered
 pub mod Righted
+pub mod Corrected

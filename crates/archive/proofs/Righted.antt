@@ -1,5 +1,5 @@
 -- A correction is refused with 13 exactly if the corrected log, read afresh, refuses an entry (right-iff); a taken one leaves table, log and index as that fresh
--- reading has them (right-fresh), with the rows up to the corrected hand's own start byte for byte (its field `kept`); a refused one changes nothing (wrong-same).
+-- reading has them (right-fresh), with the rows up to the corrected hand's own start byte for byte (rows-kept); a refused one changes nothing (wrong-same).
 -- Assumes nothing beside `Stored`, where it is named.
 use mathlib.Core.Path.{_≡_, refl, sym, ap, ap₂, _∙_, subst}
 use mathlib.Core.Bool.{Bool, true, false, not}
@@ -409,3 +409,8 @@ module _ (sheet : Sheet) (es : List Entry) (b : Book) (log index : List ℕ) (s 
               (index′ ∙ index-is e (f .1) ∙ ap (λ (l : List ℕ). over l index) (aft .1));
         },
       )
+
+  -- the sentence on the rows, by its own name: as many rows as hands were opened before the corrected entry, so the last of them is its own hand's
+  pub rows-kept : (out : List ℕ) → rightedOf b shared r log out .code ≡ 0
+      → take (44 * handsIn (before n es)) (indexRighted b shared r log index out) ≡ take (44 * handsIn (before n es)) index
+  rows-kept out h = let f = right-fresh out h in f .1 .kept

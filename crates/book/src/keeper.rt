@@ -19,7 +19,7 @@ use paper::Sheet;
 use text::sheet::Opening;
 use text::sheet::read_sheet;
 ghost use mathlib.Core.Path.{_≡_};
-ghost use Prim.Native.Nat.{_+_, _≤_, _<_};
+ghost use Prim.Native.Nat.{_+_, _≤_, _<_, _^_};
 ghost use lib.ListN.{length};
 ghost use Rattle.blocks.specs.Block.{blockOf};
 ghost use Rattle.lines.specs.Kept.{keptMost, Room, linesOf};
@@ -89,7 +89,7 @@ fn take_sheet(k: Keeper, lines: &[u8]) -> Keeper
 
 // What is said about a block that was answered: its answer, which has been written; or, where the log is asked for, a line in its place where it was refused.
 fn said(as_log: bool, number: u32, a: Answered, out: &mut [u8]) -> usize
-    requires { ⌜ (number < 1000000000) × (a .written ≤ length (now out)) ⌝ }
+    requires { ⌜ (number < 10 ^ 9) × (a .written ≤ length (now out)) ⌝ }
     ensures { λ r. ⌜ r ≤ length (now (out .entry)) ⌝ }
 {
     if as_log {

@@ -153,6 +153,14 @@ fn put_entry(s: Sheet, log: &[u8], k: u32, out: &mut [u8]) -> usize
     }
 }
 
+// The same behind what is written already; where that ends then.
+fn put_behind(s: Sheet, log: &[u8], k: u32, out: &mut [u8], at: usize) -> usize
+    requires { ⌜ (k < 1000000) × (at ≤ length (now out)) ⌝ }
+    ensures { λ r. ⌜ r ≤ length (now (out .entry)) ⌝ }
+{
+    at + put_entry(s, log, k, &mut out[at..])
+}
+
 // The log as it stands: the sheet, and every stored entry.
 fn write_log(s: Sheet, count: u32, log: &[u8])
     requires { ⌜ count ≤ 1000000 ⌝ }
@@ -163,8 +171,7 @@ fn write_log(s: Sheet, count: u32, log: &[u8])
     let mut k: u32 = 0;
     while k < count {
         let w = flush(STDOUT_FILENO, &out[0..at], ENOUGH);
-        let told = w.at;
-        at = told + put_entry(s, log, k, &mut out[told..]);
+        at = put_behind(s, log, k, &mut out, w.at);
         k += 1;
     }
     io::write_all(STDOUT_FILENO, &out[0..at]);
