@@ -2,6 +2,7 @@
 use blocks::Block;
 use blocks::read_block;
 use blocks::read_front;
+use desk::log::lone;
 use laws::both;
 use ledger::Answered;
 use ledger::Book;
@@ -54,7 +55,7 @@ pub fn start() -> Keeper
     }
 }
 
-// The sheet: it opens the book, or is bad and shuts it.
+// The sheet: it opens the book, whose table shares no pool and drops nothing, or is bad and shuts it.
 fn take_sheet(k: Keeper, lines: &[u8]) -> Keeper
     requires { ⌜ Held (k .book) ⌝ }
     ensures { λ r. ⌜ Ready r ⌝ }
@@ -74,7 +75,7 @@ fn take_sheet(k: Keeper, lines: &[u8]) -> Keeper
             }
         }
         Opening::Read(s) => {
-            let b = opened(s);
+            let b = opened(lone(s));
             Keeper {
                 opened: true,
                 shut: false,

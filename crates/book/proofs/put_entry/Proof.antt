@@ -1,3 +1,4 @@
+-- `put_entry` meets its contract: an entry that is written is within the buffer. Assumes nothing.
 use Rattle.book.proofs.Fronts.{put-within}
 use Rattle.logs.specs.LogText.{isEntry, entryText}
 use Prim.Native.Nat.{_+_}

@@ -1,3 +1,4 @@
+-- `read_all` meets its contract: the loop over the input ends, and the book is ready behind it. Assumes nothing.
 use Rattle.book.specs.Ready.{Ready}
 use lib.ListN.{length}
 use native.Mathlib.Omega.{arith}

@@ -1,3 +1,4 @@
+-- `take_part` meets its contract: every block of a part is taken, each within the room that is left. Assumes nothing.
 use borrow.Author.Needs.{needs}
 use Rattle.book.specs.Ready.{Ready}
 use lib.ListN.{length}

@@ -1,3 +1,4 @@
+-- `start` meets its contract: the stand-in is a good sheet. Assumes nothing.
 use native.Mathlib.Omega.{arith}
 use Rattle.paper.proofs.Sheets.{stand-in-good}
 use borrow.Author.Needs.{needs}

@@ -1,3 +1,4 @@
+-- `take_block` meets its contract: the book holds behind the block, and nothing is kept. Assumes nothing.
 use native.Mathlib.Omega.{arith}
 use borrow.Author.Needs.{needs}
 use Rattle.book.proofs.keeper.take_block.Statement.{statement}

@@ -1,3 +1,4 @@
+-- `take_kept` meets its contract: what is gathered is kept, or taken where it is whole; the part is used up further. Assumes nothing.
 use Rattle.book.proofs.Fronts.{left-of}
 use Rattle.text.proofs.Parts.{goes-further}
 use native.Mathlib.Omega.{arith}

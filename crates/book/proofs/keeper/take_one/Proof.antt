@@ -1,3 +1,4 @@
+-- `take_one` meets its contract: a whole block where it lies, or by way of the buffer. Assumes nothing.
 use Rattle.book.proofs.Fronts.{left-of, front-used}
 use Rattle.text.proofs.Parts.{goes-further}
 use Rattle.blocks.specs.declared.front.Front.{Front}
