@@ -12,7 +12,6 @@ use Rattle.laws.specs.Tests.{pick, both}
 use Rattle.paper.specs.Paper.{taken}
 use Rattle.chairs.specs.Chairs.{roundOf}
 use Rattle.chairs.specs.declared.Chair.{Chair}
-use Rattle.table.specs.Betting.{mayRaise}
 use Rattle.table.specs.Settle.{noPayout}
 use Rattle.table.specs.declared.table.Play.{Play}
 use Rattle.table.specs.declared.table.Board.{Board}

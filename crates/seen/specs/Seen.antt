@@ -8,7 +8,6 @@ use lib.Dec.{ltb, eqb}
 use Rattle.laws.specs.Tests.{pick, both, either}
 use Rattle.writing.specs.Sheet.{over}
 use Rattle.paper.specs.Paper.{standIn, taken, badSheet}
-use Rattle.text.specs.TableSheet.{sheetOf}
 use Rattle.text.specs.declared.sheet.Opening.{Opening}
 use Rattle.text.specs.declared.sheet.Opening.the-variants.{Read, Bad}
 use Rattle.blocks.specs.Block.{blockOf}
@@ -17,6 +16,7 @@ use Rattle.lines.specs.declared.Mark.{Mark}
 use Rattle.lines.specs.Kept.{nothing, linesOf, Gathered, gatherOf, keptIn, markOf, Room}
 use Rattle.table.specs.Take.{Sound, freshTable}
 use Rattle.desk.specs.Desk.{judgedOf}
+use Rattle.desk.specs.Log.{openedOf}
 use Rattle.seen.specs.Told.{toldAfter, toldStart}
 use Rattle.seen.specs.declared.feed.Seen.{Seen}
 use Rattle.seen.specs.declared.feed.Fed.{Fed}
@@ -53,9 +53,9 @@ abbrev pub openedBy : Seen → Opening → Seen
 openedBy s Bad = shutOf s
 openedBy s (Read sheet) = laidOf sheet
 
--- after the sheet
+-- after the sheet: of a lone table, without a drop
 unfoldable pub afterSheet : Seen → List ℕ → Seen
-afterSheet s block = openedBy s (sheetOf block)
+afterSheet s block = openedBy s (openedOf block)
 
 -- after whole lines: the sheet's, or a block's
 unfoldable pub afterLines : Seen → List ℕ → Seen

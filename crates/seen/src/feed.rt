@@ -3,6 +3,7 @@ use crate::told;
 use crate::told::Told;
 use blocks::read_block;
 use desk::judge;
+use desk::log::read_opening;
 use lines::Mark;
 use lines::empty;
 use lines::gather;
@@ -13,7 +14,6 @@ use paper::Sheet;
 use table::table::Table;
 use table::take::new_table;
 use text::sheet::Opening;
-use text::sheet::read_sheet;
 ghost use mathlib.Core.Path.{_≡_};
 ghost use mathlib.Core.Bool.{true};
 ghost use Prim.Native.Nat.{_≤_, _<_};
@@ -113,7 +113,7 @@ fn after_sheet(s: Seen, block: &[u8]) -> Seen
     requires { ⌜ Held s ⌝ }
     ensures { λ r. ⌜ (r ≡ afterSheet s (now (block .entry))) × Held r ⌝ }
 {
-    match read_sheet(block) {
+    match read_opening(block) {
         Opening::Bad => bad_sheet(s),
         Opening::Read(sheet) => good_sheet(sheet),
     }

@@ -12,7 +12,7 @@ use Rattle.cards.specs.Order.{rankingOf, bestAmong, strengthBy}
 use Rattle.cards.specs.Omaha.{allowed}
 use Rattle.pots.specs.Heights.{maskAt, backOf}
 use Rattle.pots.specs.Runs.{potsOf}
-use Rattle.pots.specs.Hand.{lone, feeOfHand, dropOfHand, dueOf, paidOf, unclaimedOf}
+use Rattle.pots.specs.Hand.{feeOfHand, dropOfHand, dueOf, paidOf, unclaimedOf}
 use Rattle.pots.specs.declared.Pot.{Pot}
 use Rattle.pots.specs.declared.Commission.{Commission}
 use Rattle.chairs.specs.Chairs.{countOf, wantOf, holeOf, isFull, columnOf, chipsOf, closeAll}
@@ -65,9 +65,10 @@ scoreOf deck game b c = pick (isShown game c) (handScore deck game (holeOf c) (b
 abbrev pub scoresOf : Table → List ℕ
 scoresOf t = map (scoreOf (t .sheet .deck) (t .sheet .game) (t .board)) (t .chairs)
 
--- what the commission of the open hand goes by: the sheet's lines, and "the count of board cards"; the table is a lone one
+-- what the commission of the open hand goes by: the sheet's lines, and "the count of board cards". Of a table that shares no pool the drop is 0
+-- (desk/specs/Log, `lone`)
 abbrev pub commissionOf : Table → Commission
-commissionOf t = record { rate = t .sheet .rate; cap = t .sheet .cap; step = t .sheet .step; board = t .board .count; drop = lone }
+commissionOf t = record { rate = t .sheet .rate; cap = t .sheet .cap; step = t .sheet .step; board = t .board .count; drop = t .sheet .drop }
 
 -- what the sitting dealt in at each seat is due: its part of the pots less commission, and its returned chips
 abbrev pub dueNow : Table → List ℕ

@@ -150,7 +150,7 @@ fn commission(t: Table) -> Commission
         cap: t.sheet.cap,
         step: t.sheet.step,
         board: t.board.count as u32,
-        drop: 0, // a lone table: no pool is shared
+        drop: t.sheet.drop,
     }
 }
 

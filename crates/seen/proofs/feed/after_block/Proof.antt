@@ -6,12 +6,6 @@ use Rattle.seen.proofs.Feeds.{block-seen}
 use borrow.Author.Needs.{needs}
 use Rattle.seen.proofs.feed.after_block.Statement.{statement}
 use Rattle.seen.proofs.feed.after_block.Tie as tie
-use Rattle.seen.proofs.feed.after_block.Reads as reads
-use Rattle.seen.proofs.feed.after_block.Lts as lts
-use Rattle.blocks.proofs.read_block.Reads as read-block-reads
-use Rattle.desk.proofs.judge.Reads as judge-reads
-use Rattle.lines.proofs.empty.Reads as empty-reads
-use Rattle.seen.proofs.told.after.Reads as after-reads
 
 judge-requires : tie.Need-judge-requires
 judge-requires c κs = search needs

@@ -3,10 +3,6 @@ use Rattle.seen.proofs.Feeds.{lines-block, lines-sheet}
 use borrow.Author.Needs.{needs}
 use Rattle.seen.proofs.feed.after_lines.Statement.{statement}
 use Rattle.seen.proofs.feed.after_lines.Tie as tie
-use Rattle.seen.proofs.feed.after_lines.Reads as reads
-use Rattle.seen.proofs.feed.after_lines.Lts as lts
-use Rattle.seen.proofs.feed.after_block.Reads as after-block-reads
-use Rattle.seen.proofs.feed.after_sheet.Reads as after-sheet-reads
 
 after-block-requires : tie.Need-after-block-requires
 after-block-requires c κs = search needs

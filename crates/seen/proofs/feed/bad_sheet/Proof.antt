@@ -5,10 +5,6 @@ use Rattle.lines.specs.declared.Mark.{Mark}
 use borrow.Author.Needs.{needs}
 use Rattle.seen.proofs.feed.bad_sheet.Statement.{statement}
 use Rattle.seen.proofs.feed.bad_sheet.Tie as tie
-use Rattle.seen.proofs.feed.bad_sheet.Reads as reads
-use Rattle.seen.proofs.feed.bad_sheet.Lts as lts
-use Rattle.lines.proofs.empty.Reads as empty-reads
-use Rattle.seen.proofs.told.start.Reads as start-reads
 
 empty-requires : tie.Need-empty-requires
 empty-requires c κs = search needs

@@ -3,10 +3,6 @@ use Rattle.seen.proofs.Feeds.{close-shut, close-none, close-block, clos
 use borrow.Author.Needs.{needs}
 use Rattle.seen.proofs.feed.close.Statement.{statement}
 use Rattle.seen.proofs.feed.close.Tie as tie
-use Rattle.seen.proofs.feed.close.Reads as reads
-use Rattle.seen.proofs.feed.close.Lts as lts
-use Rattle.seen.proofs.feed.after_block.Reads as after-block-reads
-use Rattle.seen.proofs.feed.bad_sheet.Reads as bad-sheet-reads
 
 returns : tie.Need-returns
 returns c = (close-shut (c .before .before .args .s) (c .before .before .args .buf .now) (c .if1 .taken), c .before .before .pre .0)

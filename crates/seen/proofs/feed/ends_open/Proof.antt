@@ -3,10 +3,6 @@ use Rattle.seen.proofs.Feeds.{ends-shut, ends-else}
 use borrow.Author.Needs.{needs}
 use Rattle.seen.proofs.feed.ends_open.Statement.{statement}
 use Rattle.seen.proofs.feed.ends_open.Tie as tie
-use Rattle.seen.proofs.feed.ends_open.Reads as reads
-use Rattle.seen.proofs.feed.ends_open.Lts as lts
-use Rattle.laws.proofs.both.Reads as both-reads
-use Rattle.laws.proofs.either.Reads as either-reads
 
 returns : tie.Need-returns
 returns c = ends-shut (c .before .args .s) (c .if1 .taken)

@@ -6,12 +6,6 @@ use Rattle.seen.proofs.Feeds.{fed-shut, buffer-is, fed-kept, fed-whole}
 use borrow.Author.Needs.{needs}
 use Rattle.seen.proofs.feed.feed.Statement.{statement}
 use Rattle.seen.proofs.feed.feed.Tie as tie
-use Rattle.seen.proofs.feed.feed.Reads as reads
-use Rattle.seen.proofs.feed.feed.Lts as lts
-use Rattle.lines.proofs.gather.Reads as gather-reads
-use Rattle.lines.proofs.lines_of.Reads as lines-of-reads
-use Rattle.seen.proofs.feed.after_lines.Reads as after-lines-reads
-use Rattle.seen.proofs.feed.keeping.Reads as keeping-reads
 
 returns : tie.Need-returns
 returns c = let s = c .before .before .before in

@@ -5,11 +5,6 @@ use Rattle.lines.specs.declared.Mark.{Mark}
 use borrow.Author.Needs.{needs}
 use Rattle.seen.proofs.feed.good_sheet.Statement.{statement}
 use Rattle.seen.proofs.feed.good_sheet.Tie as tie
-use Rattle.seen.proofs.feed.good_sheet.Reads as reads
-use Rattle.seen.proofs.feed.good_sheet.Lts as lts
-use Rattle.lines.proofs.empty.Reads as empty-reads
-use Rattle.seen.proofs.told.start.Reads as start-reads
-use Rattle.table.proofs.take.new_table.Reads as new-table-reads
 
 new-table-requires : tie.Need-new-table-requires
 new-table-requires c κs = search needs

@@ -6,11 +6,6 @@ use Rattle.lines.specs.declared.Mark.{Mark}
 use borrow.Author.Needs.{needs}
 use Rattle.seen.proofs.feed.start.Statement.{statement}
 use Rattle.seen.proofs.feed.start.Tie as tie
-use Rattle.seen.proofs.feed.start.Reads as reads
-use Rattle.seen.proofs.feed.start.Lts as lts
-use Rattle.lines.proofs.empty.Reads as empty-reads
-use Rattle.seen.proofs.told.start.Reads as start-reads
-use Rattle.table.proofs.take.new_table.Reads as new-table-reads
 
 new-table-requires : tie.Need-new-table-requires
 new-table-requires c κs = stand-in-good

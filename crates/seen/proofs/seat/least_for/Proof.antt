@@ -1,16 +1,9 @@
 -- `least_for` meets its contract: none where the right to raise is spent or the whole stack is not above the mark; else the lesser of a full lift and the whole stack.
-use mathlib.Core.Path.{_≡_, ap}
-use Prim.Native.Nat.{ℕ, _+_, min}
 use native.Mathlib.Omega.{arith}
-use Rattle.chairs.specs.Chairs.{roundOf}
 use Rattle.seen.proofs.Laws.{least-spent, least-short, least-is}
 use borrow.Author.Needs.{needs}
 use Rattle.seen.proofs.seat.least_for.Statement.{statement}
 use Rattle.seen.proofs.seat.least_for.Tie as tie
-use Rattle.seen.proofs.seat.least_for.Reads as reads
-use Rattle.seen.proofs.seat.least_for.Lts as lts
-use Rattle.chairs.proofs.round_of.Reads as round-of-reads
-use Rattle.laws.proofs.sum.Reads as sum-reads
 
 round-of-requires : tie.Need-round-of-requires
 round-of-requires c κs = search needs

@@ -8,10 +8,6 @@ use Rattle.seen.specs.Seats.{leastWager}
 use borrow.Author.Needs.{needs}
 use Rattle.seen.proofs.seat.least_wager.Statement.{statement}
 use Rattle.seen.proofs.seat.least_wager.Tie as tie
-use Rattle.seen.proofs.seat.least_wager.Reads as reads
-use Rattle.seen.proofs.seat.least_wager.Lts as lts
-use Rattle.chairs.proofs.seats.chair_at.Reads as chair-at-reads
-use Rattle.seen.proofs.seat.least_for.Reads as least-for-reads
 
 chair-at-requires : tie.Need-chair-at-requires
 chair-at-requires c κs = search needs

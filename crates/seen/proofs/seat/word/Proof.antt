@@ -3,10 +3,6 @@ use Rattle.seen.specs.Seats.{wordOf}
 use borrow.Author.Needs.{needs}
 use Rattle.seen.proofs.seat.word.Statement.{statement}
 use Rattle.seen.proofs.seat.word.Tie as tie
-use Rattle.seen.proofs.seat.word.Reads as reads
-use Rattle.seen.proofs.seat.word.Lts as lts
-use Rattle.laws.proofs.chosen.Reads as chosen-reads
-use Rattle.seen.proofs.seat.here.Reads as here-reads
 
 chosen-requires : tie.Need-chosen-requires
 chosen-requires c κs = search needs

@@ -3,12 +3,6 @@ use Rattle.seen.specs.Told.{toldAfter}
 use borrow.Author.Needs.{needs}
 use Rattle.seen.proofs.told.after.Statement.{statement}
 use Rattle.seen.proofs.told.after.Tie as tie
-use Rattle.seen.proofs.told.after.Reads as reads
-use Rattle.seen.proofs.told.after.Lts as lts
-use Rattle.seen.proofs.told.board_after.Reads as board-after-reads
-use Rattle.seen.proofs.told.dead_after.Reads as dead-after-reads
-use Rattle.seen.proofs.told.paid_after.Reads as paid-after-reads
-use Rattle.seen.proofs.told.said.Reads as said-reads
 
 board-after-requires : tie.Need-board-after-requires
 board-after-requires c κs = search needs

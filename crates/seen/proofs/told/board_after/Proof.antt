@@ -2,8 +2,6 @@
 use Rattle.seen.proofs.Laws.{board-opened, board-old}
 use Rattle.seen.proofs.told.board_after.Statement.{statement}
 use Rattle.seen.proofs.told.board_after.Tie as tie
-use Rattle.seen.proofs.told.board_after.Reads as reads
-use Rattle.seen.proofs.told.board_after.Lts as lts
 
 returns : tie.Need-returns
 returns c = board-opened (c .before .args .old) (c .before .args .now) (c .before .args .opened) (c .if1 .taken)

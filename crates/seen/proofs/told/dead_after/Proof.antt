@@ -4,10 +4,6 @@ use Rattle.seen.proofs.Laws.{dead-opens, dead-kills, dead-stays}
 use borrow.Author.Needs.{needs}
 use Rattle.seen.proofs.told.dead_after.Statement.{statement}
 use Rattle.seen.proofs.told.dead_after.Tie as tie
-use Rattle.seen.proofs.told.dead_after.Reads as reads
-use Rattle.seen.proofs.told.dead_after.Lts as lts
-use Rattle.laws.proofs.both.Reads as both-reads
-use Rattle.seen.proofs.told.marked.Reads as marked-reads
 
 both-requires : tie.Need-both-requires
 both-requires c κs = search needs

@@ -6,8 +6,6 @@ use Rattle.seen.proofs.Laws.{mark-in, mark-out}
 use borrow.Author.Needs.{needs}
 use Rattle.seen.proofs.told.marked.Statement.{statement}
 use Rattle.seen.proofs.told.marked.Tie as tie
-use Rattle.seen.proofs.told.marked.Reads as reads
-use Rattle.seen.proofs.told.marked.Lts as lts
 
 returns : tie.Need-returns
 returns c = search needs

@@ -3,9 +3,6 @@ use Rattle.seen.proofs.Laws.{paid-settled, paid-opened, paid-old}
 use borrow.Author.Needs.{needs}
 use Rattle.seen.proofs.told.paid_after.Statement.{statement}
 use Rattle.seen.proofs.told.paid_after.Tie as tie
-use Rattle.seen.proofs.told.paid_after.Reads as reads
-use Rattle.seen.proofs.told.paid_after.Lts as lts
-use Rattle.table.proofs.settle.no_payout.Reads as no-payout-reads
 
 returns : tie.Need-returns
 returns c = paid-settled (c .before .args .old) (c .before .args .paid) (c .before .args .opened) (c .if1 .taken)

@@ -2,8 +2,6 @@
 use borrow.Author.Needs.{needs}
 use Rattle.seen.proofs.told.said.Statement.{statement}
 use Rattle.seen.proofs.told.said.Tie as tie
-use Rattle.seen.proofs.told.said.Reads as reads
-use Rattle.seen.proofs.told.said.Lts as lts
 
 enum-known-b : tie.Need-enum-known-b
 enum-known-b c = search needs
