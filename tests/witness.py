@@ -11,7 +11,7 @@ SECOND = "second/target/release/second"
 GEN = "second/target/release/gen"
 COUNT = "second/target/release/count"
 SECONDS_ALLOWED = 120
-SHEET_LINES = 7
+SHEET_LINES = 9
 
 # Each profile of the generator with the length of its logs: a table needs
 # some time to reach its limit, and one sheet is enough for a look at sheets.
@@ -26,6 +26,7 @@ PROFILES = {
     "damage": 1000,
     "sheets": 10,
     "four": 1000,
+    "short": 1000,
 }
 
 

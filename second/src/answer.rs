@@ -18,7 +18,7 @@ pub struct Answer {
 /// Reads one block, takes or refuses it, and says how the table stands then.
 pub fn answer_block(table: &mut Table, block: &[u8]) -> Answer {
     let Some(written) = read_block(block) else { return answer(table, 0, Err(1)) };
-    let entry = written.entry(table.sheet.seats);
+    let entry = written.entry(&table.sheet);
     let outcome = entry.map_or(Err(2), |entry: Entry| table.take(written.n, &entry));
     answer(table, written.n, outcome)
 }

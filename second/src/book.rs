@@ -58,7 +58,7 @@ impl Book {
     fn enter(&mut self, block: &[u8]) -> Answer {
         let Some(written) = read_block(block) else { return self.say(0, 1, None) };
         let n = written.n;
-        let Some(entry) = written.entry(self.sheet.seats) else { return self.say(n, 2, None) };
+        let Some(entry) = written.entry(&self.sheet) else { return self.say(n, 2, None) };
         if n != self.table.taken + 1 {
             return self.say(n, 3, None);
         }
@@ -103,7 +103,7 @@ impl Book {
         for (place, entry) in log.iter().enumerate() {
             let n = place as u64 + 1;
             let written = Written { n, word: &entry.word, seat: entry.seat, a: entry.a, b: entry.b };
-            table.take(n, &written.entry(self.sheet.seats)?).ok()?;
+            table.take(n, &written.entry(&self.sheet)?).ok()?;
         }
         Some(table)
     }

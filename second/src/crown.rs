@@ -230,7 +230,7 @@ mod tests {
                     for d in c + 1..52 {
                         for e in d + 1..52 {
                             let (ranking, _) = worth(&[a, b, c, d, e]);
-                            let five = hands::of_five([a, b, c, d, e].map(|card| card as u8));
+                            let five = hands::five_value(52, [a, b, c, d, e].map(|card| card as u8));
                             let class = if ranking == RoyalFlush { 8 } else { ranking as usize };
                             assert_eq!(class, five.class);
                             assert_eq!(ranking == RoyalFlush, five.class == 8 && five.ranks[0] == 14);
@@ -249,8 +249,8 @@ mod tests {
         let mut random = crate::random::Random::new(7);
         for _ in 0..200_000 {
             let (one, other) = (random.seven_cards(), random.seven_cards());
-            let chosen = hands::best_of_seven(one.map(|card| card as u8))
-                .cmp(&hands::best_of_seven(other.map(|card| card as u8)));
+            let chosen = hands::best_of_seven(52, one.map(|card| card as u8))
+                .cmp(&hands::best_of_seven(52, other.map(|card| card as u8)));
             assert_eq!(worth(&one).cmp(&worth(&other)), chosen, "{one:?} {other:?}");
         }
     }

@@ -1,7 +1,7 @@
 //! The twelve kinds of entries, each carrying only its own numbers.
 
 use crate::seats::Seat;
-use crate::text::{number, values, word, ENTRY_KEYS};
+use crate::text::{number, values, word, Sheet, ENTRY_KEYS};
 use std::ops::RangeInclusive;
 
 pub type Card = u8;
@@ -39,20 +39,30 @@ pub fn read_block(block: &[u8]) -> Option<Written<'_>> {
 }
 
 const UNUSED: RangeInclusive<u64> = 0..=0;
-const CARD: RangeInclusive<u64> = 0..=51;
 const SIT_CHIPS: RangeInclusive<u64> = 1..=1_000_000;
 const WAGER_TO: RangeInclusive<u64> = 1..=100_000_000;
 const N: RangeInclusive<u64> = 1..=1_000_000;
 
+/// The cards of a deck: all 52, or (request No. 6) seven to ace only.
+pub fn cards_of(deck: usize) -> RangeInclusive<Card> {
+    if deck == 32 {
+        20..=51
+    } else {
+        0..=51
+    }
+}
+
 /// The column "uses" of the paper's table: the ranges of seat, a and b.
-fn ranges(word: &str, seats: usize) -> Option<[RangeInclusive<u64>; 3]> {
-    let seat = 1..=seats as u64;
+fn ranges(word: &str, sheet: &Sheet) -> Option<[RangeInclusive<u64>; 3]> {
+    let seat = 1..=sheet.seats as u64;
+    let cards = cards_of(sheet.deck);
+    let card = u64::from(*cards.start())..=u64::from(*cards.end());
     Some(match word {
         "sit" => [seat, SIT_CHIPS, UNUSED],
         "leave" | "hand" | "fold" | "check" | "call" | "dead" => [seat, UNUSED, UNUSED],
-        "hole" => [seat, CARD, CARD],
+        "hole" => [seat, card.clone(), card],
         "wager" => [seat, WAGER_TO, UNUSED],
-        "board" => [UNUSED, CARD, UNUSED],
+        "board" => [UNUSED, card, UNUSED],
         "settle" | "void" => [UNUSED, UNUSED, UNUSED],
         _ => return None,
     })
@@ -60,8 +70,8 @@ fn ranges(word: &str, seats: usize) -> Option<[RangeInclusive<u64>; 3]> {
 
 impl Written<'_> {
     /// The entry meant; nothing where the paper gives 2.
-    pub fn entry(&self, seats: usize) -> Option<Entry> {
-        let [seat_range, a_range, b_range] = ranges(self.word, seats)?;
+    pub fn entry(&self, sheet: &Sheet) -> Option<Entry> {
+        let [seat_range, a_range, b_range] = ranges(self.word, sheet)?;
         let in_range = N.contains(&self.n)
             && seat_range.contains(&self.seat)
             && a_range.contains(&self.a)

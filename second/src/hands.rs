@@ -1,10 +1,12 @@
 //! "Hand order": the best of the 21 choices of five among seven cards, and
-//! (request No. 5) of the 60 of two hole cards with three of the board.
+//! (request No. 5) of the 60 of two hole cards with three of the board. The
+//! deck of 32 (request No. 6) ranks a flush above a full house, and its ace
+//! is low in 10-9-8-7-A.
 
-use crate::entries::Card;
+use crate::entries::{cards_of, Card};
 use std::cmp::Reverse;
 
-/// The nine classes, low to high; a class is its place in this table.
+/// The nine classes, low to high in the deck of 52; a class is its place in this table.
 pub const CLASSES: [&str; 9] = [
     "five odd cards",
     "pair",
@@ -17,10 +19,15 @@ pub const CLASSES: [&str; 9] = [
     "straight flush",
 ];
 
-/// Compared by class, then rank by rank. The ranks stand in the order of
-/// comparison: held most often first, equal counts by higher rank.
+pub const FLUSH: usize = 5;
+pub const FULL_HOUSE: usize = 6;
+
+/// Compared by the place of the class in the deck's order, low to high, then
+/// rank by rank. The ranks stand in the order of comparison: held most often
+/// first, equal counts by higher rank.
 #[derive(Clone, Copy, Debug, PartialEq, Eq, PartialOrd, Ord)]
 pub struct Strength {
+    place: usize,
     pub class: usize,
     pub ranks: [u8; 5],
 }
@@ -33,38 +40,60 @@ fn suit(card: Card) -> u8 {
     card % 4
 }
 
-pub fn of_five(cards: [Card; 5]) -> Strength {
+/// Where a deck ranks a class.
+fn place_of(deck: usize, class: usize) -> usize {
+    match (deck, class) {
+        (32, FLUSH) => FULL_HOUSE,
+        (32, FULL_HOUSE) => FLUSH,
+        _ => class,
+    }
+}
+
+/// The straight in which a deck's ace is low, and what it ranks as: five high,
+/// and with 32 cards ten high.
+fn lowest_straight(deck: usize) -> ([u8; 5], [u8; 5]) {
+    match deck {
+        32 => ([14, 10, 9, 8, 7], [10, 9, 8, 7, 6]),
+        _ => ([14, 5, 4, 3, 2], [5, 4, 3, 2, 1]),
+    }
+}
+
+/// What five cards are worth in a deck of that many.
+pub fn five_value(deck: usize, cards: [Card; 5]) -> Strength {
     let mut ranks = cards.map(rank);
     let mut times = [0; 15];
     ranks.iter().for_each(|rank| times[*rank as usize] += 1);
     ranks.sort_by_key(|rank| Reverse((times[*rank as usize], *rank)));
     let held = ranks.map(|rank| times[rank as usize]);
-    // Ace is low only in 5-4-3-2-A, which then ranks as five high.
-    if ranks == [14, 5, 4, 3, 2] {
-        ranks = [5, 4, 3, 2, 1];
+    let (with_low_ace, counted_as) = lowest_straight(deck);
+    if ranks == with_low_ace {
+        ranks = counted_as;
     }
     let straight = ranks.windows(2).all(|pair| pair[0] == pair[1] + 1);
     let flush = cards.iter().all(|card| suit(*card) == suit(cards[0]));
     let class = match (straight, flush, held) {
         (true, true, _) => 8,
         (_, _, [4, ..]) => 7,
-        (_, _, [3, _, _, 2, _]) => 6,
-        (_, true, _) => 5,
+        (_, _, [3, _, _, 2, _]) => FULL_HOUSE,
+        (_, true, _) => FLUSH,
         (true, _, _) => 4,
         (_, _, [3, ..]) => 3,
         (_, _, [2, _, 2, ..]) => 2,
         (_, _, [2, ..]) => 1,
         _ => 0,
     };
-    Strength { class, ranks }
+    Strength { place: place_of(deck, class), class, ranks }
 }
 
+/// Below every hand.
+const NONE: Strength = Strength { place: 0, class: 0, ranks: [0; 5] };
+
 /// All 21 choices: every way to leave out two of the seven.
-pub fn best_of_seven(cards: [Card; 7]) -> Strength {
-    let mut best = Strength { class: 0, ranks: [0; 5] };
+pub fn best_of_seven(deck: usize, cards: [Card; 7]) -> Strength {
+    let mut best = NONE;
     for first in 0..7 {
         for second in first + 1..7 {
-            best = best.max(of_five(without(cards, first, second)));
+            best = best.max(five_value(deck, without(cards, first, second)));
         }
     }
     best
@@ -72,13 +101,13 @@ pub fn best_of_seven(cards: [Card; 7]) -> Strength {
 
 /// Exactly two of four hole cards with exactly three of the board: all 60,
 /// as pairs of places times the pairs of board cards left out.
-pub fn best_of_both(hole: [Card; 4], board: [Card; 5]) -> Strength {
-    let mut best = Strength { class: 0, ranks: [0; 5] };
+pub fn best_of_both(deck: usize, hole: [Card; 4], board: [Card; 5]) -> Strength {
+    let mut best = NONE;
     for (first, second) in pairs(4) {
         for (left, out) in pairs(5) {
             let mut lying = (0..5).filter(|place| *place != left && *place != out).map(|place| board[place]);
             let mut next = || lying.next().expect("three of five");
-            best = best.max(of_five([hole[first], hole[second], next(), next(), next()]));
+            best = best.max(five_value(deck, [hole[first], hole[second], next(), next(), next()]));
         }
     }
     best
@@ -99,14 +128,16 @@ fn without(cards: [Card; 7], first: usize, second: usize) -> [Card; 5] {
 }
 
 /// Asked directly about cards: refuses any number of them but seven with 2,
-/// then any above 51 with 2, then a repeat with 8.
-pub fn read_hand(cards: &[u64]) -> Result<Strength, u8> {
+/// then any that the deck has not with 2, then a repeat with 8.
+pub fn read_hand(deck: usize, cards: &[u64]) -> Result<Strength, u8> {
     let seven: [u64; 7] = cards.try_into().map_err(|_| 2)?;
-    if seven.iter().any(|card| *card > 51) {
-        return Err(2);
+    let in_deck = |card: u64| Card::try_from(card).ok().filter(|card| cards_of(deck).contains(card)).ok_or(2);
+    let mut cards = [0; 7];
+    for (slot, card) in cards.iter_mut().zip(seven) {
+        *slot = in_deck(card)?;
     }
-    if (1..7).any(|place| seven[..place].contains(&seven[place])) {
+    if (1..7).any(|place| cards[..place].contains(&cards[place])) {
         return Err(8);
     }
-    Ok(best_of_seven(seven.map(|card| card as Card)))
+    Ok(best_of_seven(deck, cards))
 }

@@ -13,7 +13,7 @@ const MOST: u64 = 999_999_999;
 
 /// The lines of the first paper's sheet, and what a missing later one means.
 const FIRST_LINES: usize = 5;
-const MEANT: [&str; SHEET_KEYS.len() - FIRST_LINES] = ["step=1\n", "game=2\n"];
+const MEANT: [&str; SHEET_KEYS.len() - FIRST_LINES] = ["step=1\n", "game=2\n", "deck=52\n", "drop=0\n"];
 
 /// A line that begins so can't be a sheet's: a block begins there.
 const BLOCK_BEGINS: &[u8] = b"n=";
@@ -129,8 +129,8 @@ impl Mender {
 }
 
 fn write_sheet(sheet: Sheet, copy: &mut Vec<u8>) {
-    let values =
-        [sheet.seats as u64, sheet.small, sheet.big, sheet.rate, sheet.cap, sheet.step, sheet.game as u64];
+    let Sheet { seats, small, big, rate, cap, step, game, deck, drop } = sheet;
+    let values = [seats as u64, small, big, rate, cap, step, game as u64, deck as u64, drop];
     for (key, value) in SHEET_KEYS.into_iter().zip(values) {
         line(copy, key, value);
     }
@@ -139,7 +139,7 @@ fn write_sheet(sheet: Sheet, copy: &mut Vec<u8>) {
 /// The block's entry in good form, or the code that the paper gives it.
 fn copy_block(block: &[u8], sheet: Sheet, copy: &mut Vec<u8>) -> Result<(), u8> {
     let written = read_block(block).ok_or(1)?;
-    written.entry(sheet.seats).ok_or(2)?;
+    written.entry(&sheet).ok_or(2)?;
     write_block(written, copy);
     Ok(())
 }

@@ -116,7 +116,13 @@ impl Pots {
 
     /// Commission, drop and what each seat's sitting is due, still there or not.
     /// `hands` are compared only where a pot has two contenders or more.
-    pub fn share_and_drop<H: Ord>(&self, commission: Commission, drop: u64, puck: Seat, hands: &[H]) -> Shares {
+    pub fn share_and_drop<H: Ord>(
+        &self,
+        commission: Commission,
+        drop: u64,
+        puck: Seat,
+        hands: &[H],
+    ) -> Shares {
         let mut shares = Shares { fee: 0, drop: 0, due: self.returned.clone(), divided: Vec::new() };
         let mut remains = Vec::new();
         for pot in &self.pots {

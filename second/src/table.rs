@@ -87,21 +87,21 @@ impl Hand {
     }
 
     /// The best five of each seat with all its cards, once five board cards lie.
-    fn strengths(&self, game: usize) -> Vec<Option<Strength>> {
+    pub fn strengths(&self, sheet: &Sheet) -> Vec<Option<Strength>> {
         let strength = |slot: &Option<Dealt>| {
             let board: [Card; 5] = self.board.as_slice().try_into().ok()?;
-            best_with(&slot.as_ref()?.cards, board, game)
+            best_with(&slot.as_ref()?.cards, board, sheet)
         };
         self.dealt.iter().map(strength).collect()
     }
 }
 
-/// The best five by the game's rule; nothing while some hole card is missing.
-fn best_with(hole: &[Card], board: [Card; 5], game: usize) -> Option<Strength> {
+/// The best five by the game's and the deck's rule; nothing while some hole card is missing.
+fn best_with(hole: &[Card], board: [Card; 5], &Sheet { game, deck, .. }: &Sheet) -> Option<Strength> {
     let [c, d, e, f, g] = board;
     match *hole {
-        [a, b] if game == 2 => Some(best_of_seven([a, b, c, d, e, f, g])),
-        [h, i, j, k] if game == 4 => Some(best_of_both([h, i, j, k], board)),
+        [a, b] if game == 2 => Some(best_of_seven(deck, [a, b, c, d, e, f, g])),
+        [h, i, j, k] if game == 4 => Some(best_of_both(deck, [h, i, j, k], board)),
         _ => None,
     }
 }
@@ -158,7 +158,7 @@ impl Table {
         let hand = self.hand.as_ref()?;
         let Sheet { rate, cap, step, .. } = self.sheet;
         let commission = Commission { rate, cap, step, board_cards: hand.board.len() };
-        Some(self.pots().share(commission, hand.puck, &hand.strengths(self.sheet.game)))
+        Some(self.pots().share(commission, hand.puck, &hand.strengths(&self.sheet)))
     }
 
     /// The first seat clockwise after this one that holds chips.

@@ -1,7 +1,7 @@
 //! "The table sheet and the entries": lines, numbers, words and the sheet.
 
 pub const LF: u8 = b'\n';
-pub const SHEET_KEYS: [&str; 7] = ["seats", "small", "big", "rate", "cap", "step", "game"];
+pub const SHEET_KEYS: [&str; 9] = ["seats", "small", "big", "rate", "cap", "step", "game", "deck", "drop"];
 pub const ENTRY_KEYS: [&str; 5] = ["n", "do", "seat", "a", "b"];
 const LONGEST_LINE: usize = 32;
 const MOST_DIGITS: usize = 9;
@@ -56,12 +56,17 @@ pub struct Sheet {
     pub step: u64,
     /// How many hole cards each dealt-in seat has: 2, or 4 (request No. 5).
     pub game: usize,
+    /// How many cards the deck has: 52, or 32, seven to ace (request No. 6).
+    pub deck: usize,
+    /// What a hand pays into a shared pool (request No. 7); at a lone table nothing.
+    pub drop: u64,
 }
 
 /// The sheet, or nothing where the paper gives 11.
 pub fn sheet(text: &[u8]) -> Option<Sheet> {
-    let [seats, small, big, rate, cap, step, game] = values(text, SHEET_KEYS)?.map(number);
-    let (seats, small, big, rate, cap, step, game) = (seats?, small?, big?, rate?, cap?, step?, game?);
+    let [seats, small, big, rate, cap, step, game, deck, drop] = values(text, SHEET_KEYS)?.map(number);
+    let (seats, small, big, rate, cap) = (seats?, small?, big?, rate?, cap?);
+    let (step, game, deck, drop) = (step?, game?, deck?, drop?);
     let in_range = (2..=10).contains(&seats)
         && 1 <= small
         && small <= big
@@ -69,7 +74,10 @@ pub fn sheet(text: &[u8]) -> Option<Sheet> {
         && rate <= 100
         && cap <= 1_000_000
         && (1..=1_000).contains(&step)
-        && [2, 4].contains(&game);
-    let (seats, game) = (seats as usize, game as usize);
-    in_range.then_some(Sheet { seats, small, big, rate, cap, step, game })
+        && [2, 4].contains(&game)
+        && [52, 32].contains(&deck)
+        && (deck, game) != (32, 4)
+        && drop <= 1_000;
+    let (seats, game, deck) = (seats as usize, game as usize, deck as usize);
+    in_range.then_some(Sheet { seats, small, big, rate, cap, step, game, deck, drop })
 }

@@ -4,7 +4,7 @@ mod play;
 
 use play::{block, sheet_text, Play};
 use second::clerk::answers_to;
-use second::hands::{best_of_seven, of_five, Strength, CLASSES};
+use second::hands::{best_of_seven, five_value, read_hand, Strength, CLASSES};
 use second::pots::{by_heights, by_levels, literally, Commission, Pots, Stake};
 use std::cmp::Ordering;
 
@@ -20,7 +20,11 @@ fn cards<const N: usize>(text: &str) -> [u8; N] {
 }
 
 fn five(text: &str) -> Strength {
-    of_five(cards(text))
+    five_value(52, cards(text))
+}
+
+fn short(text: &str) -> Strength {
+    five_value(32, cards(text))
 }
 
 fn class(text: &str) -> &'static str {
@@ -60,8 +64,8 @@ fn the_nine_classes_in_order() {
 fn all_hands_of_five() {
     let mut counts = [0; 9];
     let mut worths = std::collections::BTreeSet::new();
-    for_each_five(|cards| {
-        let strength = of_five(cards);
+    for_each_five(0, |cards| {
+        let strength = five_value(52, cards);
         counts[strength.class] += 1;
         worths.insert(strength);
     });
@@ -69,8 +73,63 @@ fn all_hands_of_five() {
     assert_eq!(worths.len(), 7_462);
 }
 
-fn for_each_five(mut visit: impl FnMut([u8; 5])) {
-    let mut cards = [0, 1, 2, 3, 4];
+/// The deck of 32: 8 ranks, 5 rows of five that make a straight.
+/// Straight flushes 5 x 4; four of a kind 8 x 28; full houses 8 x 4 x 7 x 6;
+/// flushes (8 over 5, less 5) x 4; straights 5 x (1024 - 4); threes
+/// 8 x 4 x 21 x 16; two pairs 28 x 36 x 24; pairs 8 x 6 x 35 x 64; odd cards
+/// (56 - 5) x (1024 - 4). In all 32 over 5.
+#[test]
+fn all_hands_of_five_of_32() {
+    let mut counts = [0; 9];
+    let mut worths = std::collections::BTreeSet::new();
+    for_each_five(20, |cards| {
+        let strength = five_value(32, cards);
+        counts[strength.class] += 1;
+        worths.insert(strength);
+    });
+    assert_eq!(counts, [52_020, 107_520, 24_192, 10_752, 5_100, 204, 1_344, 224, 20]);
+    assert_eq!(counts.iter().sum::<u64>(), 201_376);
+    // Ranks alone: 51, 8 x 35, 28 x 6, 8 x 21, 5, 8 x 7, 51, 8 x 7, 5.
+    assert_eq!(worths.len(), 840);
+    let mut order: Vec<&str> = worths.iter().map(|strength| CLASSES[strength.class]).collect();
+    order.dedup();
+    let low_to_high = [
+        "five odd cards",
+        "pair",
+        "two pair",
+        "three",
+        "straight",
+        "full house",
+        "flush",
+        "four of a kind",
+        "straight flush",
+    ];
+    assert_eq!(order, low_to_high);
+    for class in [4, 8] {
+        let least = worths.iter().find(|strength| strength.class == class).expect("one of that class");
+        assert_eq!(least.ranks, [10, 9, 8, 7, 6]);
+    }
+}
+
+/// Worked by hand: which of two fives of 32 cards is the better.
+#[test]
+fn the_order_of_32_cards() {
+    assert!(short("A0 70 81 92 T3") < short("70 81 92 T3 J0"));
+    assert!(short("A0 70 81 92 T3") > short("A0 A1 A2 K0 Q0"));
+    assert!(short("A0 70 80 90 T0") < short("70 80 90 T0 J0"));
+    assert!(short("A0 70 80 90 T0") > short("A0 A1 A2 A3 K0"));
+    assert!(short("70 80 90 T0 Q0") > short("A0 A1 A2 K0 K1"));
+    assert_eq!(short("A0 70 81 92 T3").cmp(&short("A1 71 82 93 T0")), Ordering::Equal);
+    // In the other deck the same five are no straight.
+    assert_eq!(class("A0 70 81 92 T3"), "five odd cards");
+    assert_eq!(read_hand(32, &[20, 24, 28, 32, 50, 51, 19]), Err(2));
+    assert_eq!(read_hand(32, &[20, 24, 28, 32, 50, 51, 51]), Err(8));
+    assert!(read_hand(32, &[20, 24, 28, 32, 50, 51, 23]).is_ok());
+}
+
+/// Every five different cards from this one on.
+fn for_each_five(least: u8, mut visit: impl FnMut([u8; 5])) {
+    let mut cards = [0, 1, 2, 3, 4].map(|place| least + place);
     loop {
         visit(cards);
         // The last place that can still rise does, and those behind it follow.
@@ -82,8 +141,8 @@ fn for_each_five(mut visit: impl FnMut([u8; 5])) {
 
 #[test]
 fn p5_and_p6_best_of_seven() {
-    assert_eq!(best_of_seven(cards("K0 K1 90 91 40 41 A0")).ranks, [13, 13, 9, 9, 14]);
-    assert_eq!(best_of_seven(cards("80 81 82 50 51 52 20")).ranks, [8, 8, 8, 5, 5]);
+    assert_eq!(best_of_seven(52, cards("K0 K1 90 91 40 41 A0")).ranks, [13, 13, 9, 9, 14]);
+    assert_eq!(best_of_seven(52, cards("80 81 82 50 51 52 20")).ranks, [8, 8, 8, 5, 5]);
 }
 
 fn stakes(given: &[(u64, bool)]) -> Vec<Stake> {

@@ -3,6 +3,7 @@
 mod play;
 
 use play::{block, sheet_of, sheet_text, Play};
+use second::answer::answer_block;
 use second::clerk::{answers_to, Clerk};
 use second::pots::literally;
 
@@ -43,6 +44,12 @@ fn bad_sheets() {
         ("game=2", "game=3"),
         ("game=2", "game=0"),
         ("game=2\n", ""),
+        ("deck=52", "deck=51"),
+        ("deck=52", "deck=0"),
+        ("deck=52\n", ""),
+        ("game=2\ndeck=52", "game=4\ndeck=32"),
+        ("drop=0", "drop=1001"),
+        ("drop=0\n", ""),
     ];
     bad.extend(changes.map(|(from, to)| good.replace(from, to)));
     for sheet in bad {
@@ -242,7 +249,7 @@ fn a_short_lift_after_checks_bars_those_who_checked() {
 
 /// Two seats of 10 chips all in before the flop, and no card entered.
 fn omaha() -> Play {
-    let mut play = Play::of(&sheet_of([2, 5, 10, 0, 0, 1], 4));
+    let mut play = Play::of(&sheet_of([2, 5, 10, 0, 0, 1], 4, 52));
     play.take(&["sit 1 10", "sit 2 10", "hand 1", "call 1"]);
     play
 }
@@ -267,4 +274,43 @@ fn exactly_two_of_the_hole_and_three_of_the_board() {
     play.take(&["board 0 3", "board 0 23", "board 0 31", "board 0 39", "board 0 26"]);
     let settled = play.answer("settle").settlement.expect("all cards entered");
     assert_eq!(settled.rows, [(1, 0), (2, 20)]);
+}
+
+/// Two seats of 10 chips all in before the flop, cards seven to ace.
+fn short_deck() -> Play {
+    let mut play = Play::of(&sheet_of([2, 5, 10, 0, 0, 1], 2, 32));
+    play.take(&["sit 1 10", "sit 2 10", "hand 1", "call 1"]);
+    play
+}
+
+#[test]
+fn a_card_below_seven_is_2_before_any_other_code() {
+    let mut play = short_deck();
+    let codes = ["hole 1 19 20", "hole 1 20 19", "hole 1 0 0", "board 0 19"].map(|entry| play.code(entry));
+    assert_eq!(codes, [2, 2, 2, 2]);
+    // 3 comes after 2, and a good card lets it through.
+    let wrong_n = |entry| block(99, entry).into_bytes();
+    let codes = ["board 0 19", "board 0 20"].map(|entry| answer_block(&mut play.table, &wrong_n(entry)).code);
+    assert_eq!(codes, [2, 3]);
+    play.take(&["hole 1 20 51", "hole 2 21 22", "board 0 23"]);
+}
+
+#[test]
+fn a_flush_beats_a_full_house_of_32_cards() {
+    // Seat 1: K-10-9-8-7 of one suit. Seat 2: kings full of tens.
+    let cards = [
+        "hole 1 20 24",
+        "hole 2 45 46",
+        "board 0 28",
+        "board 0 32",
+        "board 0 44",
+        "board 0 33",
+        "board 0 39",
+    ];
+    let mut play = short_deck();
+    play.take(&cards);
+    assert_eq!(play.answer("settle").settlement.expect("cards entered").rows, [(1, 20), (2, 0)]);
+    let mut play = Play::new([2, 5, 10, 0, 0, 1]);
+    play.take(&["sit 1 10", "sit 2 10", "hand 1", "call 1"]).take(&cards);
+    assert_eq!(play.answer("settle").settlement.expect("cards entered").rows, [(1, 0), (2, 20)]);
 }

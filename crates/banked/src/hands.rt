@@ -21,7 +21,7 @@ pub fn hand_of(x: u8, y: u8, d: Deal) -> Hand
     ensures { λ r. ⌜ r ≡ handOf x y d ⌝ }
 {
     let seven = [x, y, d.b1, d.b2, d.b3, d.b4, d.b5];
-    best_hand(&seven)
+    best_hand(52, &seven)
 }
 
 // Two hole cards and the flop cards.
@@ -56,10 +56,10 @@ pub fn card_twice(d: Deal) -> bool
 pub fn standing_of(player: Hand, dealer: Hand) -> Standing
     ensures { λ r. ⌜ r ≡ standingOf player dealer ⌝ }
 {
-    if beats(player, dealer) {
+    if beats(52, player, dealer) {
         return Standing::Above;
     }
-    if beats(dealer, player) {
+    if beats(52, dealer, player) {
         return Standing::Below;
     }
     Standing::Equal

@@ -2,7 +2,7 @@
 // search hands on without copying arrays at every step.
 use crate::Hand;
 use crate::Ranking;
-use crate::ranking52;
+use crate::ranking_of;
 use crate::seven::fallen_seven;
 use crate::seven::seven_in;
 use crate::weighing::better;
@@ -11,7 +11,7 @@ use crate::weighing::in_full;
 ghost use mathlib.Core.Path.{_≡_};
 ghost use Prim.Native.Nat.{_+_, _-_, _*_, _/_, _%_, _≤_, _<_};
 ghost use lib.ListN.{length, drop};
-ghost use Rattle.cards.specs.Order.{ranking52, keep, valuesFrom, bestOf, Placed};
+ghost use Rattle.cards.specs.Order.{rankingOf, keep, valuesFrom, bestOf, Placed};
 ghost use Rattle.cards.specs.Packed.{digits, handIn, IsHand};
 ghost use Rattle.cards.specs.Searching.{valuesLeft, lows, units, Stands};
 
@@ -176,9 +176,9 @@ fn best_by(ranking: Ranking, cards: &[u8]) -> Hand
     hand_in(search(ranking, n, 2, 0, 0, 1, NO_HAND))
 }
 
-// The best hand of five among the cards, of any number of them; of fewer than five, no hand.
-pub fn best_hand(cards: &[u8]) -> Hand
-    ensures { λ r. ⌜ r ≡ bestOf ranking52 (now (cards .entry)) ⌝ }
+// By the ranking of the deck, the best hand of five among the cards, of any number of them; of fewer than five, no hand.
+pub fn best_hand(deck: u32, cards: &[u8]) -> Hand
+    ensures { λ r. ⌜ r ≡ bestOf (rankingOf deck) (now (cards .entry)) ⌝ }
 {
-    best_by(ranking52(), cards)
+    best_by(ranking_of(deck), cards)
 }

@@ -4,13 +4,13 @@ use crate::Hand;
 use crate::Ranking;
 use crate::choose::NO_HAND;
 use crate::choose::best;
-use crate::ranking52;
+use crate::ranking_of;
 use crate::weighing::hand_in;
 ghost use mathlib.Core.Path.{_≡_};
 ghost use mathlib.Core.List.{[], _∷_};
 ghost use Prim.Native.Nat.{_≤_};
 ghost use lib.ListN.{length};
-ghost use Rattle.cards.specs.Order.{ranking52, keep, valuesFrom, bestAmong, Placed};
+ghost use Rattle.cards.specs.Order.{rankingOf, keep, valuesFrom, bestAmong, Placed};
 ghost use Rattle.cards.specs.Packed.{handIn, IsHand};
 ghost use Rattle.cards.specs.Omaha.{fromBoth};
 
@@ -37,12 +37,12 @@ fn best_of_both(ranking: Ranking, hole: [u8; 4], board: &[u8]) -> Hand
     hand_in(with_pair(ranking, board, hole[2], hole[3], n5))
 }
 
-// The best hand of two of the hole and three of the board cards; with fewer than three on the board, no hand.
-pub fn best_omaha(hole: [u8; 4], board: &[u8]) -> Hand
-    ensures { λ r. ⌜ r ≡ bestAmong ranking52 (fromBoth 2 3 hole (now (board .entry))) ⌝ }
+// By the ranking of the deck, the best hand of two of the hole and three of the board cards; with fewer than three on the board, no hand.
+pub fn best_omaha(deck: u32, hole: [u8; 4], board: &[u8]) -> Hand
+    ensures { λ r. ⌜ r ≡ bestAmong (rankingOf deck) (fromBoth 2 3 hole (now (board .entry))) ⌝ }
 {
     if board.len() < 3 {
         return hand_in(NO_HAND);
     }
-    best_of_both(ranking52(), hole, board)
+    best_of_both(ranking_of(deck), hole, board)
 }

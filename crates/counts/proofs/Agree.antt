@@ -18,10 +18,12 @@ use Rattle.laws.proofs.Compare.{both-last}
 use Rattle.laws.proofs.Often.{count-self, same-length, same-map}
 use Rattle.cards.specs.Cards.{rank, suit, oneSuit}
 use Rattle.cards.specs.Hands.{hand}
-use Rattle.cards.specs.Order.{ranking52, choices, bestOf}
+use Rattle.cards.specs.Order.{ranking52, rankingOf, choices, bestOf}
+use Rattle.cards.proofs.Outside.{outside52}
 use Rattle.cards.specs.Falls.{fall}
-use Rattle.cards.specs.Reading.{anyAbove, anyTwice, readingOf}
+use Rattle.cards.specs.Reading.{anyAbove, anyOutside, anyTwice, readingOf}
 use Rattle.cards.specs.declared.Hand.{Hand}
+use Rattle.cards.specs.declared.asked.Reading.{Reading}
 use Rattle.cards.specs.declared.asked.Reading.the-variants.{Known, NotSeven, NoCard, Repeat}
 use Rattle.cards.proofs.Kept.{placed52}
 use Rattle.cards.proofs.Mixing.{choice-within, best-same}
@@ -252,9 +254,10 @@ alike false true h g e = refl
 alike false false h g e = ap Known (e refl refl)
 
 -- the two readers agree on every seven numbers, refusals too
-pub readers-agree : (cards : List ℕ) → length cards ≡ 7 → countedReading cards ≡ readingOf cards
-unfolding countedReading readingOf
+pub readers-agree : (cards : List ℕ) → length cards ≡ 7 → countedReading cards ≡ readingOf 52 cards
+unfolding countedReading readingOf rankingOf
 readers-agree cards n =
-    let asked = pick (anyAbove cards) NoCard (pick (anyTwice cards) Repeat (Known (bestOf ranking52 cards))) in
+    let rest : Bool → Reading = λ (b : Bool). pick b NoCard (pick (anyTwice cards) Repeat (Known (bestOf ranking52 cards))) in
     alike (anyAbove cards) (anyTwice cards) (countedHand cards) (bestOf ranking52 cards) (λ p q. counted-best cards n p q)
-    ∙ sym (ap (λ (b : Bool). pick (not b) NotSeven asked) (eq-eqb (length cards) 7 n))
+    ∙ ap rest (sym (outside52 cards))
+    ∙ sym (ap (λ (b : Bool). pick (not b) NotSeven (rest (anyOutside 52 cards))) (eq-eqb (length cards) 7 n))

@@ -308,10 +308,10 @@ some-bytes t log h =
 nothing-fits : (sheet : List ℕ) → fits [] sheet ≡ true
 nothing-fits sheet = le-leb 0 (length sheet) (omega arith)
 
-writes-none : (sheet : List ℕ) → writtenOf [] sheet ≡ Bytes 0
+pub writes-none : (sheet : List ℕ) → writtenOf [] sheet ≡ Bytes 0
 writes-none sheet = ap (λ (b : Bool). pick b (Bytes 0) NoRoom) (nothing-fits sheet)
 
-keeps-all : (sheet : List ℕ) → sheetAfter [] sheet ≡ sheet
+pub keeps-all : (sheet : List ℕ) → sheetAfter [] sheet ≡ sheet
 keeps-all sheet = ap (λ (b : Bool). pick b (over [] sheet) sheet) (nothing-fits sheet)
 
 -- "No bytes left means no block": the caller is told, nothing is written, and the table and every byte of the sheet are as they were
@@ -342,7 +342,7 @@ shown-small n code t p r a b w d z =
       pots = λ k. omega (arith, padded-within 9 (potsOf ts live) k, all);
       closed = z;
       back = omega arith;
-      payout = record { fee = w .fee; rows = λ k. rows-small (p .sittings) (p .paid) k (w .sittings) (w .paid); unclaimed = w .unclaimed };
+      payout = record { fee = w .fee; jackpot = omega arith; rows = λ k. rows-small (p .sittings) (p .paid) k (w .sittings) (w .paid); unclaimed = w .unclaimed };
     }
 
 pub made-shown : (n code : ℕ) (t : Table) (p : Paid) {ps : Pots} {back k : ℕ} {po : Payout}

@@ -37,7 +37,7 @@ use Rattle.answers.specs.Answer.{answerBytes, longest}
 use Rattle.answers.specs.Room.{mostLines}
 use Rattle.answers.proofs.Room.{Few, answer-most, answer-lines-most, answer-lfs}
 use Rattle.desk.specs.declared.Judged.{Judged}
-use Rattle.desk.specs.Desk.{rowsOf, shownOf, judgeParsed, judgeBlock, judgedOf, judgedBytes, blockBytes, answeredOf, Closed}
+use Rattle.desk.specs.Desk.{rowsOf, shownOf, refusedAt, judgeParsed, judgeBlock, judgedOf, judgedBytes, blockBytes, answeredOf, Closed}
 use Rattle.desk.specs.Room.{roomOf}
 use Rattle.desk.proofs.Laws.{twelve-when, twelve-keeps}
 use Rattle.chairs.specs.declared.What.the-variants as what
@@ -140,7 +140,7 @@ few : (n code : ℕ) (t : Table) (p : Paid) → length (t .chairs) ≡ 10 → le
 unfolding shownOf
 few n code t p size rows closed = record { pots = pots-within t size; rows = omega (arith, rows, rows-within (p .sittings) (p .paid)); closed = closed }
 
-abbrev FewShown : Judged → Type 0
+abbrev pub FewShown : Judged → Type 0
 FewShown j = Few (shownOf (j .n) (j .code) (j .table) (j .payout))
 
 parsed-few : (t : Table) (n : ℕ) (p : Parsed) → Sound t → FewShown (judgeParsed t n p)
@@ -153,7 +153,16 @@ block-few t (Raw n k s a b) h = parsed-few t n (parsedOf k s a b) h
 block-few t Malformed h = few 0 _ t noPayout (h .standing .size) (omega arith) (λ z. absurd (false≢true z))
 block-few t Nothing h = few 0 _ t noPayout (h .standing .size) (omega arith) (λ z. absurd (false≢true z))
 
+-- for the answers of a table that shares a pool
+pub log-few : (t : Table) (log : List ℕ) → Sound t → FewShown (judgedOf t log)
+unfolding judgedOf
+log-few t log h = block-few t (blockOf log) h
+
+pub refused-few : (t : Table) (n code : ℕ) → Sound t → FewShown (refusedAt t n code)
+refused-few t n code h = few n code t noPayout (h .standing .size) (omega arith) (λ z. absurd (false≢true z))
+
 judged-most : (j : Judged) → FewShown j → (count 10 (judgedBytes j) ≤ mostLines) × (length (judgedBytes j) ≤ longest)
+unfolding shownOf
 judged-most j f = go (j .block)
   where
     go : (b : Bool) → (count 10 (pick b (answerBytes (shownOf (j .n) (j .code) (j .table) (j .payout))) []) ≤ mostLines)

@@ -1,5 +1,6 @@
 -- Laws of the whole log.
 -- ---- more fuel than the log is long makes no difference
+use Rattle.desk.specs.Log.{openedOf}
 use mathlib.Core.Path.{_≡_, refl, sym, ap, subst, _∙_}
 use mathlib.Core.List.{List, [], _++_, append-assoc, append-nil}
 use mathlib.Core.Bool.{Bool, true, false}
@@ -17,7 +18,7 @@ use Rattle.writing.proofs.Sheets.{then}
 use Rattle.text.proofs.Parts.{part-is}
 use Rattle.blocks.proofs.Blocks.{rest-shorter}
 use Rattle.text.proofs.Lines.{after-lines-no-longer}
-use Rattle.text.specs.TableSheet.{sheetLines, sheetOf, sheetEnd}
+use Rattle.text.specs.TableSheet.{sheetLines, sheetEnd}
 use Rattle.paper.specs.declared.Sheet.{Sheet}
 use Rattle.text.specs.declared.sheet.Opening.{Opening}
 use Rattle.text.specs.declared.sheet.Opening.the-variants.{Read, Bad}
@@ -184,11 +185,11 @@ module _ {t : Table} {log out : List ℕ} {table : Table} {left now : List ℕ} 
 
 -- ---- the two answers of running a log
 
-pub run-bad : (log : List ℕ) (o : Opening) (room : ℕ) → o ≡ sheetOf log → o ≡ Bad → outputIn log room ≡ fitting eleven room
+pub run-bad : (log : List ℕ) (o : Opening) (room : ℕ) → o ≡ openedOf log → o ≡ Bad → outputIn log room ≡ fitting eleven room
 unfolding outputIn
 run-bad log o room p q = rw (← p, q)
 
-pub run-good : (log : List ℕ) (o : Opening) (s : Sheet) (room : ℕ) {t : Table} {left : List ℕ} → o ≡ sheetOf log → o ≡ Read s → t ≡ freshTable s → left ≡ sheetEnd log
+pub run-good : (log : List ℕ) (o : Opening) (s : Sheet) (room : ℕ) {t : Table} {left : List ℕ} → o ≡ openedOf log → o ≡ Read s → t ≡ freshTable s → left ≡ sheetEnd log
     → outputIn log room ≡ answersIn t left room
 unfolding outputIn
 run-good log o s room p q e f = rw (← p, q, e, f)
@@ -200,7 +201,7 @@ end-within log = after-lines-no-longer sheetLines log
 -- with room for all, what is written is the output
 pub run-enough : (log : List ℕ) (room : ℕ) → length (outputOf log) ≤ room → outputIn log room ≡ outputOf log
 unfolding outputIn outputOf answersIn
-run-enough log room h = go (sheetOf log) h
+run-enough log room h = go (openedOf log) h
   where
     go : (o : Opening) → length (outputFrom o log) ≤ room → outputInFrom o log room ≡ outputFrom o log
     go Bad i = rw (le-leb 8 room i)

@@ -23,6 +23,7 @@ use Rattle.table.specs.Settle.{potsNow, backNow, noPayout}
 use Rattle.table.specs.Take.{codeOf, nextOf, payoutOf}
 use Rattle.pots.specs.Runs.{padded}
 use Rattle.answers.specs.declared.Row.{Row}
+use Rattle.answers.specs.declared.Jackpot.{Jackpot}
 use Rattle.answers.specs.declared.Payout.{Payout}
 use Rattle.answers.specs.declared.Shown.{Shown}
 use Rattle.answers.specs.Answer.{answerBytes}
@@ -35,8 +36,12 @@ rowsOf [] ps = []
 rowsOf (s ∷ ss) [] = []
 rowsOf (s ∷ ss) (p ∷ ps) = record { sitting = s; paid = p } ∷ rowsOf ss ps
 
+-- a table that shares no pool shows no jackpot
+abbrev pub noJackpot : Jackpot
+noJackpot = record { shared = false; amount = 0 }
+
 abbrev pub payoutShown : Paid → Payout
-payoutShown p = record { fee = p .fee; rows = rowsOf (p .sittings) (p .paid); unclaimed = p .unclaimed }
+payoutShown p = record { fee = p .fee; jackpot = noJackpot; rows = rowsOf (p .sittings) (p .paid); unclaimed = p .unclaimed }
 
 -- what the answer to a block with this number and code shows of the table after it, and of what the block paid
 unfoldable pub shownOf : ℕ → ℕ → Table → Paid → Shown

@@ -8,6 +8,7 @@ use lib.ListN.{length}
 use lib.Dec.{eqb, leb}
 use Rattle.laws.specs.Tests.{pick}
 use Rattle.blocks.specs.Block.{restOf}
+use Rattle.paper.specs.declared.Sheet.{Sheet}
 use Rattle.text.specs.TableSheet.{sheetOf, sheetEnd}
 pub use Rattle.text.specs.Codes.{eleven}
 use Rattle.text.specs.declared.sheet.Opening.{Opening}
@@ -21,13 +22,35 @@ abbrev pub blocksFrom : ℕ → Table → List ℕ → List ℕ
 blocksFrom zero t log = []
 blocksFrom (suc k) t log = pick (eqb (length log) 0) [] (blockBytes t log ++ blocksFrom k (judgedOf t log .table) (restOf log))
 
+-- No. 7: "Where a pool is shared .. elsewhere nothing is dropped": a lone table goes by its sheet with no drop
+abbrev pub lone : Sheet → Sheet
+lone s = record {
+  seats = s .seats;
+  small = s .small;
+  big = s .big;
+  rate = s .rate;
+  cap = s .cap;
+  step = s .step;
+  game = s .game;
+  deck = s .deck;
+  drop = 0;
+}
+
+abbrev pub loneOpening : Opening → Opening
+loneOpening (Read s) = Read (lone s)
+loneOpening Bad = Bad
+
+-- the sheet that a lone table goes by
+unfoldable pub openedOf : List ℕ → Opening
+openedOf log = loneOpening (sheetOf log)
+
 abbrev pub outputFrom : Opening → List ℕ → List ℕ
 outputFrom (Read s) log = blocksFrom (length log) (freshTable s) (sheetEnd log)
 outputFrom Bad log = eleven
 
 -- what is written for a log
 unfoldable pub outputOf : List ℕ → List ℕ
-outputOf log = outputFrom (sheetOf log) log
+outputOf log = outputFrom (openedOf log) log
 
 -- ---- with so much room: a block that does not fit is refused with 12, leaves the table and writes nothing
 
@@ -52,4 +75,4 @@ outputInFrom (Read s) log room = answersIn (freshTable s) (sheetEnd log) room
 outputInFrom Bad log room = fitting eleven room
 
 unfoldable pub outputIn : List ℕ → ℕ → List ℕ
-outputIn log room = outputInFrom (sheetOf log) log room
+outputIn log room = outputInFrom (openedOf log) log room

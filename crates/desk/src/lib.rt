@@ -1,4 +1,5 @@
 // One block at the desk: read, taken at the table, answered.
+use answers::Jackpot;
 use answers::Payout;
 use answers::Row;
 use answers::Shown;
@@ -51,14 +52,19 @@ fn rows_of(sittings: [u32; 10], paid: [u32; 10]) -> [Row; 10]
     rows
 }
 
-// What an answer shows of a payout.
+// What an answer shows of a payout at a table that shares no pool.
 fn payout_shown(p: table::table::Payout) -> Payout
     ensures { λ r. ⌜ r ≡ payoutShown p ⌝ }
 {
     let sittings = p.sittings;
     let paid = p.paid;
+    let none = Jackpot {
+        shared: false,
+        amount: 0,
+    };
     Payout {
         fee: p.fee,
+        jackpot: none,
         rows: rows_of(sittings, paid),
         unclaimed: p.unclaimed,
     }

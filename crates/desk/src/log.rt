@@ -1,6 +1,7 @@
 // The whole log: the sheet, then block after block.
 use crate::answer;
 use blocks::rest;
+use paper::Sheet;
 use table::table::Table;
 use table::take::new_table;
 use text::sheet::Opening;
@@ -12,7 +13,7 @@ ghost use mathlib.Core.List.{List, [], _∷_, _++_};
 ghost use lib.ListN.{length, take, drop, getD};
 ghost use Rattle.writing.specs.Sheet.{Wrote};
 ghost use Rattle.table.specs.Take.{Sound};
-ghost use Rattle.desk.specs.Log.{answersIn, outputIn, eleven, fitting};
+ghost use Rattle.desk.specs.Log.{answersIn, lone, openedOf, outputIn, eleven, fitting};
 
 // The answers to the blocks of a log, each written behind the last where there is room for it.
 pub fn blocks(t: Table, log: &[u8], out: &mut [u8]) -> usize
@@ -33,6 +34,25 @@ pub fn blocks(t: Table, log: &[u8], out: &mut [u8]) -> usize
     at
 }
 
+// A sheet with no drop, as a table goes by that shares no pool.
+pub fn lone(s: Sheet) -> Sheet
+    ensures { λ r. ⌜ r ≡ lone s ⌝ }
+{
+    let mut u = s;
+    u.drop = 0;
+    u
+}
+
+// The sheet that a lone table goes by.
+pub fn read_opening(log: &[u8]) -> Opening
+    ensures { λ r. ⌜ r ≡ openedOf (now (log .entry)) ⌝ }
+{
+    match read_sheet(log) {
+        Opening::Read(s) => Opening::Read(lone(s)),
+        Opening::Bad => Opening::Bad,
+    }
+}
+
 // The one line of a bad sheet.
 pub fn refuse_sheet(out: &mut [u8]) -> usize
     ensures { λ r. ⌜ Wrote (fitting eleven (length (now (out .entry)))) (now (out .entry)) (now (out .exit)) r ⌝ }
@@ -47,7 +67,7 @@ pub fn refuse_sheet(out: &mut [u8]) -> usize
 pub fn run(log: &[u8], out: &mut [u8]) -> usize
     ensures { λ r. ⌜ Wrote (outputIn (now (log .entry)) (length (now (out .entry)))) (now (out .entry)) (now (out .exit)) r ⌝ }
 {
-    match read_sheet(log) {
+    match read_opening(log) {
         Opening::Bad => refuse_sheet(out),
         Opening::Read(s) => blocks(new_table(s), after_sheet(log), out),
     }

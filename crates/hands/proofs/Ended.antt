@@ -7,12 +7,13 @@ use native.Mathlib.Omega.{arith}
 use lib.Dec.{eqb, ltb}
 use lib.ListN.{length, getD, take, drop, set}
 use lib.Seq.{set-out}
-use borrow.Author.Tests.{ne-eqb, lt-ltb, le-ltb}
-use Rattle.laws.specs.Tests.{pick}
+use borrow.Author.Tests.{ne-eqb, eqb-true, lt-ltb, le-ltb}
+use Rattle.laws.specs.Tests.{both, pick}
+use Rattle.laws.proofs.Tests.{both-true}
 use Rattle.laws.specs.Often.{tally}
 use Rattle.laws.proofs.Often.{tally-most}
-use Rattle.cards.specs.Order.{ranking52, bestOf}
-use Rattle.cards.specs.Reading.{codeOfReading, anyAbove, anyTwice, readingOf}
+use Rattle.cards.specs.Order.{rankingOf, bestOf}
+use Rattle.cards.specs.Reading.{codeOfReading, anyOutside, anyTwice, readingOf}
 use Rattle.cards.specs.declared.Hand.{Hand}
 use Rattle.cards.specs.declared.asked.Reading.{Reading}
 use Rattle.cards.specs.declared.asked.Reading.the-variants.{Known, NotSeven, NoCard, Repeat}
@@ -71,14 +72,14 @@ module _ {at s : ℕ} {o m : List ℕ} (place : Bool) where
   refused-bytes r v k e q c w =
       subst (λ (bs : List ℕ). Wrote bs at o m s) (ap numberBytes (c ∙ ap codeOfReading e) ∙ sym q ∙ ap (readingBytes place) (sym e)) w
 
-pub answer-is : {at r s : ℕ} {o m p : List ℕ} (place : Bool) (l e : Line) (cs ds : List ℕ) (a : Reading) → e ≡ endedTo l (length cs) → ds ≡ cardsTo l cs
-    → a ≡ readingOf (take (e .have - 0) (drop 0 ds)) → Wrote (readingBytes place a) at o m r → Wrote (10 ∷ []) r m p s → Wrote (answerOf place l cs) at o p s
+pub answer-is : {at r s : ℕ} {o m p : List ℕ} (deck : ℕ) (place : Bool) (l e : Line) (cs ds : List ℕ) (a : Reading) → e ≡ endedTo l (length cs) → ds ≡ cardsTo l cs
+    → a ≡ readingOf deck (take (e .have - 0) (drop 0 ds)) → Wrote (readingBytes place a) at o m r → Wrote (10 ∷ []) r m p s → Wrote (answerOf deck place l cs) at o p s
 unfolding answerOf
-answer-is {at} {r} {s} {o} {m} {p} place l e cs ds a f g q w v =
+answer-is {at} {r} {s} {o} {m} {p} deck place l e cs ds a f g q w v =
     let z : e .have - 0 ≡ e .have = omega arith in
     next
     (subst (λ (x : Reading). Wrote (readingBytes place x) at o m r)
-    (q ∙ ap (λ (n : ℕ). readingOf (take n ds)) z ∙ ap₂ (λ (x : Line) (y : List ℕ). readingOf (take (x .have) y)) f g) w)
+    (q ∙ ap (λ (n : ℕ). readingOf deck (take n ds)) z ∙ ap₂ (λ (x : Line) (y : List ℕ). readingOf deck (take (x .have) y)) f g) w)
     v
 
 -- ---- the place has four digits at most
@@ -92,9 +93,13 @@ place-small h = go (isOn h)
 
 -- ---- both readers give the same answer
 pub counted-as : (l : List ℕ) (r : Reading) → length l ≡ 7
-    → r ≡ countedReading (getD l 0 0 ∷ getD l 1 0 ∷ getD l 2 0 ∷ getD l 3 0 ∷ getD l 4 0 ∷ getD l 5 0 ∷ getD l 6 0 ∷ []) → r ≡ readingOf l
+    → r ≡ countedReading (getD l 0 0 ∷ getD l 1 0 ∷ getD l 2 0 ∷ getD l 3 0 ∷ getD l 4 0 ∷ getD l 5 0 ∷ getD l 6 0 ∷ []) → r ≡ readingOf 52 l
 counted-as l r n e = e ∙ ap countedReading (sym (seven-list 0 l n)) ∙ readers-agree l n
 
-pub not-seven : (l : List ℕ) → (length l ≡ 7 → ⊥) → NotSeven ≡ readingOf l
+pub not-seven : (l : List ℕ) → (length l ≡ 7 → ⊥) → NotSeven ≡ readingOf 52 l
 unfolding readingOf
-not-seven l h = sym (ap (λ (b : Bool). pick (not b) NotSeven (pick (anyAbove l) NoCard (pick (anyTwice l) Repeat (Known (bestOf ranking52 l))))) (ne-eqb (length l) 7 h))
+not-seven l h = sym (ap (λ (b : Bool). pick (not b) NotSeven (pick (anyOutside 52 l) NoCard (pick (anyTwice l) Repeat (Known (bestOf (rankingOf 52) l))))) (ne-eqb (length l) 7 h))
+
+-- the second reader is asked about the 52 cards only
+pub counted-deck : (counted : Bool) (deck : ℕ) (l : List ℕ) (r : Reading) → both counted (eqb deck 52) ≡ true → r ≡ readingOf 52 l → r ≡ readingOf deck l
+counted-deck counted deck l r e q = q ∙ ap (λ (d : ℕ). readingOf d l) (sym (eqb-true deck 52 (both-true counted (eqb deck 52) e .1)))

@@ -36,6 +36,6 @@ takenTo l room b = pick (eqb b 32) (endedTo l room) (record { have = l .have; wo
 unfoldable pub cardsWith : Line → List ℕ → ℕ → List ℕ
 cardsWith l cards b = pick (eqb b 32) (cardsTo l cards) cards
 
--- the answer to a line, with its LF; told whether the place is asked for. Both readers give it
-unfoldable pub answerOf : Bool → Line → List ℕ → List ℕ
-answerOf place l cards = readingBytes place (readingOf (take (endedTo l (length cards) .have) (cardsTo l cards))) ++ (10 ∷ [])
+-- the answer to a line, with its LF; told the deck and whether the place is asked for. Both readers give it
+unfoldable pub answerOf : ℕ → Bool → Line → List ℕ → List ℕ
+answerOf deck place l cards = readingBytes place (readingOf deck (take (endedTo l (length cards) .have) (cardsTo l cards))) ++ (10 ∷ [])

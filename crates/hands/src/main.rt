@@ -1,8 +1,10 @@
 // Hands: a line of card numbers after another on standard input, and for each what the box answers when it is asked about them: the class of the
 // best five, 8 for a straight flush down to 0 for five odd cards, and their ranks as they are compared; or the paper's number for a refusal. With the
-// argument --counted the second reader answers, which counts; with --place the place of the hand is written in place of its class and ranks.
+// argument --counted the second reader answers, which counts; with --place the place of the hand is written in place of its class and ranks. With --short
+// the cards are those of the 32-card deck, which has neither the second reader nor places.
 use cards::Hand;
 use cards::Reading;
+use laws::both;
 use laws::either;
 use libc::STDIN_FILENO;
 use libc::STDOUT_FILENO;
@@ -14,8 +16,9 @@ ghost use Rattle.cards.specs.Reading.{readingOf};
 ghost use Rattle.hands.specs.Lines.{noLine, grownOf, endedTo, cardsTo, takenTo, cardsWith, answerOf};
 ghost use Rattle.hands.specs.Answers.{Wrote, numberBytes, rankBytes, handBytes, fourBytes, keyBytes, placeBytes, knownBytes, readingBytes};
 
-// What is asked for: the second reader in place of the first; the hand's place in place of its class and ranks.
+// What is asked for: the deck; the second reader in place of the first; the hand's place in place of its class and ranks.
 struct Wish {
+    deck: u32,
     counted: bool,
     place: bool,
 }
@@ -207,7 +210,7 @@ fn put_reading(place: bool, r: Reading, out: &mut [u8], at: usize) -> usize
 
 // The answer of the second reader, which takes seven cards.
 fn read_counted(cards: &[u8]) -> Reading
-    ensures { λ r. ⌜ r ≡ readingOf (now (cards .entry)) ⌝ }
+    ensures { λ r. ⌜ r ≡ readingOf 52 (now (cards .entry)) ⌝ }
 {
     if cards.len() != 7 {
         return Reading::NotSeven;
@@ -223,27 +226,28 @@ fn read_counted(cards: &[u8]) -> Reading
     ])
 }
 
-// The answer of either reader: it is the same.
-fn read_cards(counted: bool, cards: &[u8]) -> Reading
-    ensures { λ r. ⌜ r ≡ readingOf (now (cards .entry)) ⌝ }
+// The answer of either reader: it is the same. The second knows the 52 cards only.
+fn read_cards(deck: u32, counted: bool, cards: &[u8]) -> Reading
+    ensures { λ r. ⌜ r ≡ readingOf deck (now (cards .entry)) ⌝ }
 {
-    if counted {
+    if both(counted, deck == 52) {
         return read_counted(cards);
     }
-    cards::read_hand(cards)
+    cards::read_hand(deck, cards)
 }
 
 // The answer to the line, in a line of its own.
 fn answer(w: Wish, l: Line, cards: &mut [u8], out: &mut [u8], at: usize) -> usize
     requires { ⌜ (l .have ≤ length (now cards)) × (at + 18 ≤ length (now out)) ⌝ }
-    ensures wrote { λ r. ⌜ Wrote (answerOf (w .place) l (now (cards .entry))) at (now (out .entry)) (now (out .exit)) r ⌝ }
+    ensures wrote { λ r. ⌜ Wrote (answerOf (w .deck) (w .place) l (now (cards .entry))) at (now (out .entry)) (now (out .exit)) r ⌝ }
     ensures room { λ r. ⌜ r ≤ at + 18 ⌝ }
 {
     let ended = end_word(l, cards);
     let n = ended.have;
+    let deck = w.deck;
     let counted = w.counted;
     let place = w.place;
-    let end = put_reading(place, read_cards(counted, &cards[0..n]), out, at);
+    let end = put_reading(place, read_cards(deck, counted, &cards[0..n]), out, at);
     put(out, end, 10)
 }
 
@@ -352,15 +356,21 @@ fn is_argument(k: usize, word: &[u8]) -> bool {
     check::same(&given[..n], word)
 }
 
-// Whether one of the two arguments is this word.
+// Whether one of the three arguments is this word.
 fn is_given(word: &[u8]) -> bool {
-    either(is_argument(1, word), is_argument(2, word))
+    either(
+        is_argument(1, word),
+        either(is_argument(2, word), is_argument(3, word)),
+    )
 }
 
+// The hands of the 32 cards have no places.
 fn wished() -> Wish {
+    let deck = if is_given(b"--short") { 32 } else { 52 };
     Wish {
+        deck,
         counted: is_given(b"--counted"),
-        place: is_given(b"--place"),
+        place: both(is_given(b"--place"), deck == 52),
     }
 }
 

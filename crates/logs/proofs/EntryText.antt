@@ -12,7 +12,7 @@ use Rattle.laws.specs.Tests.{pick, both, either}
 use Rattle.laws.proofs.Tests.{both-true}
 use Rattle.laws.proofs.Rules.{allBelow, below-all}
 use Rattle.paper.specs.Paper.{isSheet, inRange, between}
-use Rattle.paper.specs.SheetAndEntries.{rowAt, spared, ranged, spare, isSeat, inSpan, makesEntry, numbersFit, isCount, kindNames, numbersOf, made}
+use Rattle.paper.specs.SheetAndEntries.{rowAt, spared, ranged, spare, isSeat, leastIn, inSpan, makesEntry, numbersFit, isCount, kindNames, numbersOf, made}
 use Rattle.paper.specs.declared.Sheet.{Sheet}
 use Rattle.paper.specs.declared.Numbers.{Numbers}
 use Rattle.paper.specs.declared.Entry.{Entry}
@@ -61,9 +61,9 @@ fits-small sheet n x s c f =
     let zero-sab = both-true (spare (row .seat) (x .seat)) (both (spare (row .a .used) (x .a)) (spare (row .b .used) (x .b))) (m .1) in
     let zero-ab = both-true (spare (row .a .used) (x .a)) (spare (row .b .used) (x .b)) (zero-sab .1) in
     let seat-in = either (not (row .seat)) (isSeat sheet (x .seat)) in
-    let a-in = either (not (row .a .used)) (inSpan (row .a) (x .a)) in
-    let b-in = either (not (row .b .used)) (inSpan (row .b) (x .b)) in
-    let in-sab = both-true seat-in (both a-in b-in) (used-tests (row .seat) (row .a .used) (row .b .used) (isSeat sheet (x .seat)) (inSpan (row .a) (x .a)) (inSpan (row .b) (x .b)) ∙ p .1) in
+    let a-in = either (not (row .a .used)) (inSpan (sheet .deck) (row .a) (x .a)) in
+    let b-in = either (not (row .b .used)) (inSpan (sheet .deck) (row .b) (x .b)) in
+    let in-sab = both-true seat-in (both a-in b-in) (used-tests (row .seat) (row .a .used) (row .b .used) (isSeat sheet (x .seat)) (inSpan (sheet .deck) (row .a) (x .a)) (inSpan (sheet .deck) (row .b) (x .b)) ∙ p .1) in
     let in-ab = both-true a-in b-in (in-sab .1) in
     let kind : x .kind < 12 = ltb-true (x .kind) 12 (m .0) in
     let few-ab = both-true (ltb (row .a .most) 1000000000) (ltb (row .b .most) 1000000000) (below-all 12 few all-few (x .kind) kind) in
@@ -71,8 +71,8 @@ fits-small sheet n x s c f =
     let most-b : row .b .most < 1000000000 = ltb-true _ _ (few-ab .1) in
     let seats : sheet .seats ≤ 10 = good-ranged sheet s .seats .1 in
     let seat : x .seat ≤ sheet .seats = seat-most sheet (row .seat) (x .seat) (in-sab .0) (zero-sab .0) in
-    let a : x .a ≤ row .a .most = at-most (row .a .used) (row .a .least) (row .a .most) (x .a) (in-ab .0) (zero-ab .0) in
-    let b : x .b ≤ row .b .most = at-most (row .b .used) (row .b .least) (row .b .most) (x .b) (in-ab .1) (zero-ab .1) in
+    let a : x .a ≤ row .a .most = at-most (row .a .used) (leastIn (sheet .deck) (row .a)) (row .a .most) (x .a) (in-ab .0) (zero-ab .0) in
+    let b : x .b ≤ row .b .most = at-most (row .b .used) (leastIn (sheet .deck) (row .b)) (row .b .most) (x .b) (in-ab .1) (zero-ab .1) in
     let count : n ≤ 1000000 = between-in 1 1000000 n c .1 in
     record { kind = kind; count = omega arith; seat = omega arith; a = omega arith; b = omega arith }
 

@@ -17,7 +17,17 @@ ghost use Rattle.logs.specs.LogText.{sheetText, putOf, putAfter};
 fn values_of(s: Sheet) -> [u32; LINES]
     ensures { λ r. ⌜ r ≡ sheetValues s ⌝ }
 {
-    [s.seats, s.small, s.big, s.rate, s.cap, s.step, s.game]
+    [
+        s.seats,
+        s.small,
+        s.big,
+        s.rate,
+        s.cap,
+        s.step,
+        s.game,
+        s.deck,
+        s.drop,
+    ]
 }
 
 // How long a good sheet is.

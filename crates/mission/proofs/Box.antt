@@ -1,15 +1,15 @@
 -- One theorem at the top: for every list of parts, whatever bytes they hold and wherever they are cut, the bytes that are handed to `write`, and that the mission's
 -- demands 1, 2 and 3 hold of them. Assumes nothing.
+use Rattle.desk.specs.Log.{openedOf}
+use Rattle.desk.proofs.Opened.{opened-is}
 use Prim.Native.Nat.{ℕ, _≤_}
 use mathlib.Core.Path.{_≡_, refl, sym, subst}
 use mathlib.Core.List.{List, [], _∷_}
 use lib.ListN.{length}
 use Rattle.laws.specs.Lists.{All}
 use Rattle.paper.specs.declared.Sheet.{Sheet}
-use Rattle.text.specs.TableSheet.{sheetOf}
 use Rattle.text.specs.declared.sheet.Opening.{Opening}
 use Rattle.text.specs.declared.sheet.Opening.the-variants.{Read, Bad}
-use Rattle.text.proofs.SheetLaws.{sheet-is}
 use Rattle.table.specs.declared.table.Table.{Table}
 use Rattle.desk.specs.Log.{outputOf}
 use Rattle.history.specs.AsNoted.{AsNoted}
@@ -32,10 +32,10 @@ each P Q f [] a = tt
 each P Q f (g ∷ gs) a = (f g (a .0), each P Q f gs (a .1))
 
 -- of one log
-log-answered : (log : List ℕ) (s : Sheet) → sheetOf log ≡ Read s → Answered s log (outputOf log)
+log-answered : (log : List ℕ) (s : Sheet) → openedOf log ≡ Read s → Answered s log (outputOf log)
 log-answered log s e =
     let all = shown-right log s e in
-    let ok = sheet-is log s e in
+    let ok = opened-is log s e in
     record {
       answers = written log s e;
       demand-1 = each (Right s) (Demand1 s) (λ g r. r .one) (givenOf log) all;
@@ -45,14 +45,14 @@ log-answered log s e =
       stacks = λ k z. stacks-are s ok (takenIn k s log) (reached s k log .1) z;
     }
 
-pub log-box : (log : List ℕ) → Box (sheetOf log) log (outputOf log)
-log-box log = go (sheetOf log) refl
+pub log-box : (log : List ℕ) → Box (openedOf log) log (outputOf log)
+log-box log = go (openedOf log) refl
   where
-    go : (o : Opening) → sheetOf log ≡ o → Box o log (outputOf log)
+    go : (o : Opening) → openedOf log ≡ o → Box o log (outputOf log)
     go (Read s) e = log-answered log s e
     go Bad e = written-bad log e
 
 -- of its parts, any number of them, none and empty ones too: what is handed to `write` where each call of `feed` and the close are lent room for the longest answer
 pub the-box : (room : ℕ) (buf : List ℕ) (parts : List (List ℕ)) → longestAnswer ≤ room → keptMost ≤ length buf
-    → Box (sheetOf (whole parts)) (whole parts) (servedOf room buf parts .bytes)
-the-box room buf parts e n = subst (Box (sheetOf (whole parts)) (whole parts)) (sym (parts-output room buf parts e n)) (log-box (whole parts))
+    → Box (openedOf (whole parts)) (whole parts) (servedOf room buf parts .bytes)
+the-box room buf parts e n = subst (Box (openedOf (whole parts)) (whole parts)) (sym (parts-output room buf parts e n)) (log-box (whole parts))

@@ -1,4 +1,6 @@
 -- Each answer to a log shows what the clerk of demand 3 finds from the entries that are taken by then. For every log with a good sheet. Assumes nothing.
+use Rattle.desk.specs.Log.{openedOf}
+use Rattle.desk.proofs.Opened.{opened-is}
 use Prim.Native.Nat.{ℕ, zero, suc, _+_, _≤_}
 use mathlib.Core.Bool.{Bool, true, false, true≢false}
 use mathlib.Core.Path.{_≡_, refl, sym, ap, ap₂, subst, _∙_}
@@ -21,8 +23,7 @@ use Rattle.pots.specs.declared.Pot.{Pot}
 use Rattle.blocks.specs.Block.{restOf, blockOf}
 use Rattle.text.specs.Line.{numberLine}
 use Rattle.blocks.specs.Entry.{parsedOf}
-use Rattle.text.specs.TableSheet.{sheetOf, sheetEnd}
-use Rattle.text.proofs.SheetLaws.{sheet-is}
+use Rattle.text.specs.TableSheet.{sheetEnd}
 use Rattle.blocks.specs.declared.Block.{Block}
 use Rattle.blocks.specs.declared.Block.the-variants.{Raw, Malformed, Nothing}
 use Rattle.blocks.specs.declared.Parsed.{Parsed}
@@ -296,8 +297,8 @@ module _ (sheet : Sheet) (ok : isSheet sheet ≡ true) where
       go false r = (one-right t log es h, r)
 
 -- each answer to a log is right
-pub shown-right : (log : List ℕ) (s : Sheet) → sheetOf log ≡ Read s → All (Right s) (givenOf log)
+pub shown-right : (log : List ℕ) (s : Sheet) → openedOf log ≡ Read s → All (Right s) (givenOf log)
 unfolding givenOf
 shown-right log s e =
     subst (λ (o : Opening). All (Right s) (givenBy o log)) (sym e)
-    (all-right s (sheet-is log s e) (length log) (freshTable s) (sheetEnd log) [] (fresh-reached s))
+    (all-right s (opened-is log s e) (length log) (freshTable s) (sheetEnd log) [] (fresh-reached s))

@@ -8,7 +8,7 @@ use lib.ListN.{getD}
 use lib.Dec.{ltb}
 use borrow.Author.Tests.{ltb-true}
 use mathlib.Core.List.{List, map}
-use Rattle.answers.specs.Answer.{twoBytes, rowBytes, stateBytes, payoutBytes, tableBytes, answerBytes}
+use Rattle.answers.specs.Answer.{twoBytes, rowBytes, stateBytes, jackpotBytes, payoutBytes, tableBytes, answerBytes}
 use Rattle.laws.specs.Often.{SameNumbers}
 use Rattle.cards.specs.declared.Hand.{Hand as HandWorth}
 use Rattle.cards.proofs.Above.{higher, beats-irrefl}
@@ -17,7 +17,7 @@ use Rattle.cards.specs.Cards.{rank, before, put, inOrder, ordered, isWheel, low
 use Rattle.cards.specs.Hands.{classOf, ranksOf, classOfCards, valueOf as valueOfHands}
 use Rattle.cards.specs.Order.{ranking52, beatsBy, above, betterBy, keep, choices, bestOf, spells, strengthBy}
 use Rattle.desk.specs.Desk.{shownOf, judgedOf, blockBytes}
-use Rattle.desk.specs.Log.{outputOf}
+use Rattle.desk.specs.Log.{openedOf, outputOf}
 use Rattle.history.specs.History.{run}
 use Rattle.laws.specs.Lists.{maxOf, sumOf}
 use Rattle.paper.specs.Paper.{isSheet, isSeat, inRange}
@@ -38,7 +38,7 @@ use Rattle.text.specs.TableSheet.{sheetNumber, sheetWith, sheetOf, sheetEnd}
 use Rattle.mission.specs.Examples.{winsAll, passes, allPass, twelve}
 
 pub all-twelve : allPass twelve ≡ true
-unfolding before put inOrder ordered isWheel lowered inRow allAlike oneSuit classOf ranksOf classOfCards valueOfHands above betterBy keep choices bestOf has chipsAt liveOf maskAt contenders contested contest over maxOf sumOf backAt backOf returnedOf join runs keyed potsOf uncutOf feeOf feesOf ones shareOut sharesOf winnersOf plus lowestAfter dropOf wonOf isSheet isSeat inRange liveHands onlyWithChips owes firstOwing afterAct nextDealtIn turnCode sitCode satTo isPuck handCode postedTo openedTo callCode calledTo isWager wagerCode wageredTo codeOf nextOf run sheetNumber sheetWith sheetOf sheetEnd valueOfLine numberLine restOf kindOf blockOf wellFormed numberOf digits parsedOf foldedTo settleCode potsNow backNow scoreOf payoutNow settledTo payoutOf padded unclaimedOf spells strengthBy twoBytes rowBytes stateBytes payoutBytes tableBytes answerBytes shownOf judgedOf blockBytes outputOf
+unfolding before put inOrder ordered isWheel lowered inRow allAlike oneSuit classOf ranksOf classOfCards valueOfHands above betterBy keep choices bestOf has chipsAt liveOf maskAt contenders contested contest over maxOf sumOf backAt backOf returnedOf join runs keyed potsOf uncutOf feeOf feesOf ones shareOut sharesOf winnersOf plus lowestAfter dropOf wonOf isSheet isSeat inRange liveHands onlyWithChips owes firstOwing afterAct nextDealtIn turnCode sitCode satTo isPuck handCode postedTo openedTo callCode calledTo isWager wagerCode wageredTo codeOf nextOf run sheetNumber sheetWith sheetOf sheetEnd valueOfLine numberLine restOf kindOf blockOf wellFormed numberOf digits parsedOf foldedTo settleCode potsNow backNow scoreOf payoutNow settledTo payoutOf padded unclaimedOf spells strengthBy twoBytes rowBytes stateBytes jackpotBytes payoutBytes tableBytes answerBytes shownOf judgedOf blockBytes openedOf outputOf
 all-twelve = refl
 
 -- what a row `winsAll` says: the five cards beat every hand of the class, whatever its ranks

@@ -1,4 +1,6 @@
 -- Change request No. 8: of all answers to a log, whatever its bytes, none has more than 27 lines or 540 bytes. Assumes nothing.
+use Rattle.desk.specs.Log.{openedOf}
+use Rattle.desk.proofs.Opened.{opened-is}
 use Prim.Native.Nat.{ℕ, zero, suc, _≤_, _<_}
 use mathlib.Core.Bool.{Bool, true, false}
 use mathlib.Core.Path.{_≡_, refl, ap}
@@ -13,9 +15,8 @@ use Rattle.laws.specs.Often.{count}
 use Rattle.paper.specs.declared.Sheet.{Sheet}
 use Rattle.paper.specs.declared.Entry.{Entry}
 use Rattle.blocks.specs.Block.{restOf, blockOf}
-use Rattle.text.specs.TableSheet.{sheetOf, sheetEnd}
+use Rattle.text.specs.TableSheet.{sheetEnd}
 use Rattle.text.specs.declared.sheet.Opening.the-variants.{Read}
-use Rattle.text.proofs.SheetLaws.{sheet-is}
 use Rattle.table.specs.declared.table.Table.{Table}
 use Rattle.table.specs.Take.{Sound, freshTable}
 use Rattle.table.proofs.Standing.{sound-fresh}
@@ -47,6 +48,6 @@ from-within (suc k) t log es h = go (eqb (length log) 0) refl (from-within k (ju
         let same = some-bytes t log (not-none (eqb-false (length log) 0 z)) in
         (record { lines = omega (arith, ap (count 10) same, lines-most t log h); bytes = omega (arith, ap length same, bytes-most t log h) }, r)
 
-pub answers-within : (log : List ℕ) (s : Sheet) → sheetOf log ≡ Read s → All Within (givenOf log)
+pub answers-within : (log : List ℕ) (s : Sheet) → openedOf log ≡ Read s → All Within (givenOf log)
 unfolding givenOf
-answers-within log s e = rw e (from-within (length log) (freshTable s) (sheetEnd log) [] (sound-fresh s (sheet-is log s e)))
+answers-within log s e = rw e (from-within (length log) (freshTable s) (sheetEnd log) [] (sound-fresh s (opened-is log s e)))

@@ -18,6 +18,7 @@ use Rattle.pots.specs.Heights.{chipsAt, chipsOver, over, liveOf, backAt, backOf
 use Rattle.pots.proofs.Chips.{over-same, chips-none, chips-cons, chips-all}
 use Rattle.pots.proofs.Counts.{same-contested, max-same}
 use Rattle.pots.proofs.Drops.{drop-lone}
+use Rattle.history.proofs.AsNoted.{reached as as-reached}
 use Rattle.pots.specs.Runs.{potsOf}
 use Rattle.pots.specs.Hand.{reach}
 use Rattle.chairs.specs.Chairs.{noChair, chairAt, columnOf}
@@ -121,10 +122,11 @@ module _ (sheet : Sheet) (ok : isSheet sheet ≡ true) (es : List Entry) (taken 
   pub settle-whole : sumOf (settles sheet es .paid) + settles sheet es .fee + settles sheet es .drop + settles sheet es .unclaimed ≡ sumOf (puts sheet es)
   settle-whole = rw paying (settle-all now (after sheet ok es (taken .1) .sound .payable) ∙ sums-same (totalsOf now) (puts sheet es) (told-chips sheet ok es (taken .1)))
 
-  -- a lone table drops nothing
-  pub settle-lone : settles sheet es .drop ≡ 0
+  -- a table whose sheet has no drop, as every lone table's (desk, `opened-lone`), drops nothing
+  pub settle-lone : sheet .drop ≡ 0 → settles sheet es .drop ≡ 0
   unfolding payoutNow
-  settle-lone = rw paying (drop-lone (commissionOf now) (potsOf (totalsOf now) (livesOf now)) refl)
+  settle-lone e =
+      rw paying (drop-lone (commissionOf now) (potsOf (totalsOf now) (livesOf now)) (ap (λ (z : Sheet). z .drop) (as-reached sheet ok es (taken .1) .rules) ∙ e))
 
   -- no sitting is paid more than the sum of min(its total, theirs) over the sittings in the hand
   pub settle-reach : (s : ℕ) → 0 < s → paidTo (settles sheet es .sittings) (settles sheet es .paid) s ≤ reach (puts sheet es) (putIn sheet es s)

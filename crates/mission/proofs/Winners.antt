@@ -18,10 +18,10 @@ use Rattle.paper.specs.declared.Sheet.{Sheet}
 use Rattle.paper.specs.declared.Entry.{Entry}
 use Rattle.paper.specs.declared.Entry.the-variants.{Settle}
 use Rattle.paper.proofs.Codes.{or-zero, when-zero}
-use Rattle.cards.specs.Order.{ranking52, beatsBy, bestAmong}
+use Rattle.cards.specs.Order.{ranking32, rankingOf, beatsBy, bestAmong}
 use Rattle.cards.specs.Omaha.{allowed}
 use Rattle.cards.specs.declared.Hand.{Hand}
-use Rattle.cards.proofs.Above.{beats-irrefl}
+use Rattle.cards.proofs.Above.{higher, beats-irrefl}
 use Rattle.pots.specs.Heights.{has, chipsAt, liveOf, maskAt, contenders, contested, contest}
 use Rattle.pots.specs.Runs.{potsOf}
 use Rattle.pots.specs.declared.Pot.{Pot}
@@ -45,7 +45,7 @@ use Rattle.history.proofs.AsNoted.{as-noted}
 use Rattle.history.proofs.Codes.{taken-by}
 use Rattle.history.proofs.Kept.{cards-is}
 use Rattle.history.proofs.Shown.{cards-after, scores-compare}
-use Rattle.mission.specs.Winners.{bestAt, scoresBy, Contends, BestWin}
+use Rattle.mission.specs.Winners.{bestAt, scoresBy, Contends, Wins, BestWin}
 
 -- ---- what is told seat by seat
 pub seat-at : (f : ℕ → ℕ) (k m i : ℕ) → i < m → getD (map f (seatsFrom k m)) i 0 ≡ f (suc (i + k))
@@ -122,6 +122,14 @@ kind-zero sheet es k e h =
     let kind = kindBy sheet (notebook sheet es) (turnOf sheet es) e in
     or-zero next kind (or-zero (when (not (inRange sheet k e)) 2) (orElse next kind) h .1) .1
 
+-- with 32 cards a flush has the higher place, whatever the ranks
+short-flush : (h g : Hand) → h .class ≡ 3 → g .class ≡ 2 → beatsBy (rankingOf 32) h g ≡ true
+unfolding rankingOf
+short-flush h g e f =
+    let p : getD (ranking32 .places) (h .class) 0 ≡ 7 = ap (λ (k : ℕ). getD (ranking32 .places) k 0) e in
+    let q : getD (ranking32 .places) (g .class) 0 ≡ 6 = ap (λ (k : ℕ). getD (ranking32 .places) k 0) f in
+    higher _ _ _ _ (omega (arith, p, q))
+
 module _ (sheet : Sheet) (ok : isSheet sheet ≡ true) (es : List Entry) (taken : AllTaken sheet (Settle ∷ es)) where
   abbrev n : Notebook
   n = notebook sheet es
@@ -171,38 +179,43 @@ module _ (sheet : Sheet) (ok : isSheet sheet ≡ true) (es : List Entry) (taken 
 
   -- one best hand beats another exactly where it counts more
   compare : (x y : ℕ) → Shown x → Shown y
-      → beatsBy ranking52 (bestAt sheet n x) (bestAt sheet n y) ≡ ltb (scoreBy (sheet .game) (n .board .cards) (partAt n y)) (scoreBy (sheet .game) (n .board .cards) (partAt n x))
+      → beatsBy (rankingOf (sheet .deck)) (bestAt sheet n x) (bestAt sheet n y)
+      ≡ ltb (scoreBy (sheet .deck) (sheet .game) (n .board .cards) (partAt n y)) (scoreBy (sheet .deck) (sheet .game) (n .board .cards) (partAt n x))
   unfolding scoreOf handScore scoreBy
   compare x y p q =
-      sym (ap₂ (beatsBy ranking52) (same-hand x) (same-hand y)) ∙ scores-compare sheet ok es (taken .1) x y (shown-at x ∙ p) (shown-at y ∙ q) ∙ ap₂ ltb (score-at y) (score-at x)
+      sym (ap₂ (λ (d : ℕ) (hs : Hand × Hand). beatsBy (rankingOf d) (hs .0) (hs .1)) deck (λ i. (same-hand x i, same-hand y i))) ∙ scores-compare sheet ok es (taken .1) x y (shown-at x ∙ p) (shown-at y ∙ q) ∙ ap₂ ltb (score-at y) (score-at x)
     where
       game : run sheet es .sheet .game ≡ sheet .game
       game = ap (λ (z : Sheet). z .game) (cards-after sheet ok es (taken .1) .rules)
 
-      best : ℕ → List ℕ → List ℕ → Hand
-      best g hole board = bestAmong ranking52 (allowed g hole board)
+      deck : run sheet es .sheet .deck ≡ sheet .deck
+      deck = ap (λ (z : Sheet). z .deck) (cards-after sheet ok es (taken .1) .rules)
 
-      same-hand : (x : ℕ) → best (run sheet es .sheet .game) (holeOf (seatOf (run sheet es) x)) (run sheet es .board .cards) ≡ bestAt sheet (notebook sheet es) x
+      best : Sheet → List ℕ → List ℕ → Hand
+      best s hole board = bestAmong (rankingOf (s .deck)) (allowed (s .game) hole board)
+
+      same-hand : (x : ℕ) → best (run sheet es .sheet) (holeOf (seatOf (run sheet es) x)) (run sheet es .board .cards) ≡ bestAt sheet (notebook sheet es) x
       same-hand x =
-          ap (λ (g : ℕ). best g (holeOf (seatOf (run sheet es) x)) (run sheet es .board .cards)) game
-          ∙ ap₂ (λ (c : Part) (b : List ℕ). best (sheet .game) (c .hole) b) (says .chairs x .part) (cards-is (notebook sheet es) (run sheet es) says)
+          ap (λ (s : Sheet). best s (holeOf (seatOf (run sheet es) x)) (run sheet es .board .cards)) (cards-after sheet ok es (taken .1) .rules)
+          ∙ ap₂ (λ (c : Part) (b : List ℕ). best sheet (c .hole) b) (says .chairs x .part) (cards-is (notebook sheet es) (run sheet es) says)
 
       shown-at : (x : ℕ) → isShown (run sheet es .sheet .game) (seatOf (run sheet es) x) ≡ shownBy (sheet .game) (partAt (notebook sheet es) x)
       shown-at x = ap (λ (g : ℕ). isShown g (seatOf (run sheet es) x)) game ∙ ap (shownBy (sheet .game)) (says .chairs x .part)
 
-      score-at : (x : ℕ) → scoreOf (run sheet es .sheet .game) (run sheet es .board) (seatOf (run sheet es) x) ≡ scoreBy (sheet .game) (notebook sheet es .board .cards) (partAt (notebook sheet es) x)
+      score-at : (x : ℕ)
+          → scoreOf (run sheet es .sheet .deck) (run sheet es .sheet .game) (run sheet es .board) (seatOf (run sheet es) x) ≡ scoreBy (sheet .deck) (sheet .game) (notebook sheet es .board .cards) (partAt (notebook sheet es) x)
       score-at x =
-          ap (λ (g : ℕ). scoreOf g (run sheet es .board) (seatOf (run sheet es) x)) game
-          ∙ ap₂ (λ (c : Part) (b : List ℕ). scoreBy (sheet .game) b c) (says .chairs x .part) (cards-is (notebook sheet es) (run sheet es) says)
+          ap (λ (s : Sheet). scoreOf (s .deck) (s .game) (run sheet es .board) (seatOf (run sheet es) x)) (cards-after sheet ok es (taken .1) .rules)
+          ∙ ap₂ (λ (c : Part) (b : List ℕ). scoreBy (sheet .deck) (sheet .game) b c) (says .chairs x .part) (cards-is (notebook sheet es) (run sheet es) says)
 
   abbrev score : ℕ → ℕ
   score i = getD (scoresBy sheet n) i 0
 
   abbrev told : ℕ → ℕ
-  told i = scoreBy (sheet .game) (n .board .cards) (partAt n (suc i))
+  told i = scoreBy (sheet .deck) (sheet .game) (n .board .cards) (partAt n (suc i))
 
   score-is : (i : ℕ) → i < 10 → score i ≡ told i
-  score-is i l = at-seat (λ x. scoreBy (sheet .game) (n .board .cards) (partAt n x)) i l
+  score-is i l = at-seat (λ x. scoreBy (sheet .deck) (sheet .game) (n .board .cards) (partAt n x)) i l
 
   -- ---- one pot
   module _ (p : Pot) (low : p .who < 2 ^ 10) (some : 0 < ones 10 (p .who)) (few : ones 10 (p .who) ≤ liveBy n) (live : (i : ℕ) → bitAt (livesBy n) i ≡ 0 → bitAt (p .who) i ≡ 0) where
@@ -234,7 +247,7 @@ module _ (sheet : Sheet) (ok : isSheet sheet ≡ true) (es : List Entry) (taken 
         record {
           wins = λ i l e.
               let q = winners-are (scoresBy sheet n) (p .who) i low some l .0 e in
-              (q .0, λ j k c. subst (λ (z : ℕ). beatsBy ranking52 (bestAt sheet n (suc j)) (bestAt sheet n (suc z)) ≡ false) (only-bit 10 (p .who) j i k l c (q .0) (omega arith)) (beats-irrefl ranking52 (bestAt sheet n (suc j))));
+              (q .0, λ j k c. subst (λ (z : ℕ). beatsBy (rankingOf (sheet .deck)) (bestAt sheet n (suc j)) (bestAt sheet n (suc z)) ≡ false) (only-bit 10 (p .who) j i k l c (q .0) (omega arith)) (beats-irrefl (rankingOf (sheet .deck)) (bestAt sheet n (suc j))));
           unbeaten = λ i l q. ap (λ (w : ℕ). bitAt w i) (winners-sole (scoresBy sheet n) (p .who) m) ∙ q .0;
           sole = λ e scores len. winners-sole scores (p .who) (ap (λ (k : ℕ). ones k (p .who)) len ∙ e);
         }
@@ -255,3 +268,11 @@ module _ (sheet : Sheet) (ok : isSheet sheet ≡ true) (es : List Entry) (taken 
   better-wins =
       each-pot (potsOf (putsBy n) (livesBy n)) (pots-manned (putsBy n) (livesBy n)) (contenders-few (putsBy n) (livesBy n))
       (pots-all Fits (putsBy n) (livesBy n) (λ h p. (low-contest (putsBy n) (livesBy n) h, λ i e. contender-live (putsBy n) (livesBy n) h i p e)))
+
+-- No. 6 at the table, "flush above full house": with 32 cards a contender for a pot whose best hand is a full house wins nothing of it where another has a flush
+pub flush-wins : (sheet : Sheet) (n : Notebook) (p : Pot) → sheet .deck ≡ 32 → BestWin sheet n p → (i j : ℕ) → i < 10 → j < 10 → Contends p i
+    → (bestAt sheet n (suc i)) .class ≡ 3 → (bestAt sheet n (suc j)) .class ≡ 2 → Wins sheet n p j → ⊥
+flush-wins sheet n p d b i j li lj c flush full w = true≢false (sym (over (bestAt sheet n (suc i)) (bestAt sheet n (suc j)) flush full) ∙ b .wins j lj w .1 i li c)
+  where
+    over : (h g : Hand) → h .class ≡ 3 → g .class ≡ 2 → beatsBy (rankingOf (sheet .deck)) h g ≡ true
+    over h g e f = subst (λ (k : ℕ). beatsBy (rankingOf k) h g ≡ true) (sym d) (short-flush h g e f)

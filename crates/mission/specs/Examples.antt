@@ -83,7 +83,7 @@ charged step =
     fees ++ less (amounts seven 7) fees
 
 abbrev sheet11 : Sheet
-sheet11 = record { seats = 3; small = 5; big = 10; rate = 50; cap = 15; step = 1; game = 2 }
+sheet11 = record { seats = 3; small = 5; big = 10; rate = 50; cap = 15; step = 1; game = 2; deck = 52; drop = 0 }
 
 -- the mark, the lift, the seat's round total and stack, and the code of its wager to a
 abbrev wagers : List Entry → ℕ → ℕ → List ℕ
@@ -103,7 +103,7 @@ opening k = Hand 1 ∷ Sit 3 k ∷ Sit 2 500 ∷ Sit 1 500 ∷ []
 abbrev shortLift : List Entry
 shortLift = Wager 1 17 ∷ Call 3 ∷ Hand 1 ∷ Sit 3 500 ∷ Sit 2 500 ∷ Sit 1 17 ∷ []
 
--- P12, with the lines of requests No. 3 and No. 5, `step=1` and `game=2`, in its sheet: the log and the whole output, byte for byte
+-- P12, with the lines of requests No. 3, 5, 6 and 7, `step=1`, `game=2`, `deck=52` and `drop=0`, in its sheet: the log and the whole output, byte for byte
 abbrev log12 : List ℕ
 log12 =
     115 ∷ 101 ∷ 97 ∷ 116 ∷ 115 ∷ 61 ∷ 51 ∷ 10  -- seats=3
@@ -113,6 +113,8 @@ log12 =
     ∷ 99 ∷ 97 ∷ 112 ∷ 61 ∷ 49 ∷ 53 ∷ 10  -- cap=15
     ∷ 115 ∷ 116 ∷ 101 ∷ 112 ∷ 61 ∷ 49 ∷ 10  -- step=1
     ∷ 103 ∷ 97 ∷ 109 ∷ 101 ∷ 61 ∷ 50 ∷ 10  -- game=2
+    ∷ 100 ∷ 101 ∷ 99 ∷ 107 ∷ 61 ∷ 53 ∷ 50 ∷ 10  -- deck=52
+    ∷ 100 ∷ 114 ∷ 111 ∷ 112 ∷ 61 ∷ 48 ∷ 10  -- drop=0
     ∷ 110 ∷ 61 ∷ 49 ∷ 10  -- n=1
     ∷ 100 ∷ 111 ∷ 61 ∷ 115 ∷ 105 ∷ 116 ∷ 10  -- do=sit
     ∷ 115 ∷ 101 ∷ 97 ∷ 116 ∷ 61 ∷ 49 ∷ 10  -- seat=1

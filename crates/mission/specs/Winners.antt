@@ -9,7 +9,7 @@ use Rattle.laws.specs.Bits.{bitAt, ones}
 use Rattle.laws.specs.Lists.{sumOf}
 use Rattle.laws.specs.Tests.{pick}
 use Rattle.paper.specs.declared.Sheet.{Sheet}
-use Rattle.cards.specs.Order.{ranking52, beatsBy, bestAmong}
+use Rattle.cards.specs.Order.{rankingOf, beatsBy, bestAmong}
 use Rattle.cards.specs.Omaha.{allowed}
 use Rattle.cards.specs.declared.Hand.{Hand}
 use Rattle.pots.specs.Hand.{winnersOf}
@@ -20,10 +20,10 @@ use Rattle.history.specs.Notebook.{Notebook, tenSeats, partAt, putsBy, livesBy,
 -- "A hand is the best of the 21 choices of five among two hole and five board cards", and with four "exactly two of the hole cards with exactly three of the board":
 -- of the sitting dealt in at seat x
 abbrev pub bestAt : Sheet → Notebook → ℕ → Hand
-bestAt sheet n x = bestAmong ranking52 (allowed (sheet .game) (partAt n x .hole) (n .board .cards))
+bestAt sheet n x = bestAmong (rankingOf (sheet .deck)) (allowed (sheet .game) (partAt n x .hole) (n .board .cards))
 
 abbrev pub scoresBy : Sheet → Notebook → List ℕ
-scoresBy sheet n = map (λ x. scoreBy (sheet .game) (n .board .cards) (partAt n x)) tenSeats
+scoresBy sheet n = map (λ x. scoreBy (sheet .deck) (sheet .game) (n .board .cards) (partAt n x)) tenSeats
 
 -- seat i + 1 contends for a pot, and wins a share of it
 abbrev pub Contends : Pot → ℕ → Type 0
@@ -34,7 +34,7 @@ Wins sheet n p i = bitAt (winnersOf (scoresBy sheet n) (p .who)) i ≡ 1
 
 -- it contends, and no contender's best hand beats its own
 abbrev pub Unbeaten : Sheet → Notebook → Pot → ℕ → Type 0
-Unbeaten sheet n p i = Contends p i × ((j : ℕ) → j < 10 → Contends p j → beatsBy ranking52 (bestAt sheet n (suc j)) (bestAt sheet n (suc i)) ≡ false)
+Unbeaten sheet n p i = Contends p i × ((j : ℕ) → j < 10 → Contends p j → beatsBy (rankingOf (sheet .deck)) (bestAt sheet n (suc j)) (bestAt sheet n (suc i)) ≡ false)
 
 -- "shared equally by the contenders with the best hand"; "A sole contender needs no cards": it wins whatever the hands count
 pub record BestWin (sheet : Sheet) (n : Notebook) (p : Pot) : Type 0 where

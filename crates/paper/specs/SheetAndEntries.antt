@@ -1,10 +1,10 @@
 -- Document 01, "The table sheet and the entries": the ranges of every number, and so what gets code 2, and of the sheet's numbers 11. Assumes nothing.
 use Prim.Native.Nat.{ℕ}
-use mathlib.Core.Bool.{Bool, true, false}
+use mathlib.Core.Bool.{Bool, true, false, not}
 use mathlib.Core.List.{List, [], _∷_}
 use lib.ListN.{getD}
 use lib.Dec.{leb, ltb, eqb}
-use Rattle.laws.specs.Tests.{both, either}
+use Rattle.laws.specs.Tests.{both, either, pick}
 use Rattle.paper.specs.declared.Sheet.{Sheet}
 use Rattle.paper.specs.declared.Span.{Span}
 use Rattle.paper.specs.declared.Row.{Row}
@@ -26,17 +26,39 @@ allOf (t ∷ u ∷ ts) = both t (allOf (u ∷ ts))
 
 -- its numbers in the order of its lines, and the sheet of such numbers
 abbrev pub sheetValues : Sheet → List ℕ
-sheetValues s = s .seats ∷ s .small ∷ s .big ∷ s .rate ∷ s .cap ∷ s .step ∷ s .game ∷ []
+sheetValues s = s .seats ∷ s .small ∷ s .big ∷ s .rate ∷ s .cap ∷ s .step ∷ s .game ∷ s .deck ∷ s .drop ∷ []
 
 abbrev pub sheetBy : List ℕ → Sheet
-sheetBy vs = record { seats = getD vs 0 0; small = getD vs 1 0; big = getD vs 2 0; rate = getD vs 3 0; cap = getD vs 4 0; step = getD vs 5 0; game = getD vs 6 0 }
+sheetBy vs =
+    record {
+      seats = getD vs 0 0;
+      small = getD vs 1 0;
+      big = getD vs 2 0;
+      rate = getD vs 3 0;
+      cap = getD vs 4 0;
+      step = getD vs 5 0;
+      game = getD vs 6 0;
+      deck = getD vs 7 0;
+      drop = getD vs 8 0;
+    }
 
 -- request No. 5: "A seventh sheet line `game` is 2 or 4", the number of hole cards
 abbrev pub isGame : ℕ → Bool
 isGame x = either (eqb x 2) (eqb x 4)
 
--- seats (2 to 10), small, big (1 ≤ small ≤ big ≤ 10,000), rate (0 to 100, thousandths), cap (0 to 1,000,000); request No. 3: "a sixth sheet line `step` (1 to 1,000)".
--- All that is asked of a sheet's numbers, one by one and of some together, stands here
+-- request No. 6: "An eighth sheet line `deck` is 52 or 32; 32 with `game` 4 is a bad sheet"
+abbrev pub isDeck : ℕ → Bool
+isDeck x = either (eqb x 52) (eqb x 32)
+
+abbrev pub dealtFrom : ℕ → ℕ → Bool
+dealtFrom game deck = allOf (isGame game ∷ isDeck deck ∷ not (both (eqb deck 32) (eqb game 4)) ∷ [])
+
+-- what the house takes of a hand: rate (0 to 100, thousandths), cap (0 to 1,000,000); request No. 3: "a sixth sheet line `step` (1 to 1,000)";
+-- request No. 7: "`drop` units (ninth sheet line, 0 to 1,000)"
+abbrev pub isCharge : ℕ → ℕ → ℕ → ℕ → Bool
+isCharge rate cap step drop = allOf (leb rate 100 ∷ leb cap 1000000 ∷ between 1 1000 step ∷ leb drop 1000 ∷ [])
+
+-- seats (2 to 10), small, big (1 ≤ small ≤ big ≤ 10,000). All that is asked of a sheet's numbers, one by one and of some together, stands here
 unfoldable pub isSheet : Sheet → Bool
 isSheet s =
     allOf
@@ -44,15 +66,13 @@ isSheet s =
     ∷ leb 1 (s .small)
     ∷ leb (s .small) (s .big)
     ∷ leb (s .big) 10000
-    ∷ leb (s .rate) 100
-    ∷ leb (s .cap) 1000000
-    ∷ between 1 1000 (s .step)
-    ∷ isGame (s .game)
+    ∷ isCharge (s .rate) (s .cap) (s .step) (s .drop)
+    ∷ dealtFrom (s .game) (s .deck)
     ∷ [])
 
 -- a sheet that stands in where none is read yet
 abbrev pub standIn : Sheet
-standIn = sheetBy (2 ∷ 1 ∷ 1 ∷ 0 ∷ 0 ∷ 1 ∷ 2 ∷ [])
+standIn = sheetBy (2 ∷ 1 ∷ 1 ∷ 0 ∷ 0 ∷ 1 ∷ 2 ∷ 52 ∷ 0 ∷ [])
 
 -- ---- the numbers of an entry
 
@@ -60,9 +80,12 @@ standIn = sheetBy (2 ∷ 1 ∷ 1 ∷ 0 ∷ 0 ∷ 1 ∷ 2 ∷ [])
 unfoldable pub isSeat : Sheet → ℕ → Bool
 isSeat sheet s = between 1 (sheet .seats) s
 
--- a card is 0 to 51
-abbrev pub isCard : ℕ → Bool
-isCard k = between 0 51 k
+-- a card is 0 to 51; request No. 6: with `deck` 32 "cards seven to ace only (20 to 51; others get code 2)"
+abbrev pub leastCard : ℕ → ℕ
+leastCard deck = pick (eqb deck 32) 20 0
+
+abbrev pub isCard : ℕ → ℕ → Bool
+isCard deck k = between (leastCard deck) 51 k
 
 -- ---- the table of the twelve kinds
 
@@ -83,15 +106,15 @@ kindNames =
     ∷ (118 ∷ 111 ∷ 105 ∷ 100 ∷ [])
     ∷ []
 
--- the column `uses`: for a and b whether the number is used, and its least and greatest; for the seat whether it is used
+-- the column `uses`: for a and b whether the number is used, and its least and greatest (of a card the deck's); for the seat whether it is used
 abbrev none : Span
-none = record { used = false; least = 0; most = 0 }
+none = record { used = false; card = false; least = 0; most = 0 }
 
 abbrev fromTo : ℕ → ℕ → Span
-fromTo lo hi = record { used = true; least = lo; most = hi }
+fromTo lo hi = record { used = true; card = false; least = lo; most = hi }
 
 abbrev card : Span
-card = fromTo 0 51
+card = record { used = true; card = true; least = 0; most = 51 }
 
 abbrev uses : Bool → Span → Span → Row
 uses seat a b = record { seat = seat; a = a; b = b }
@@ -157,15 +180,18 @@ ifUsed true t ts = t ∷ ts
 ifUsed false t ts = ts
 
 -- each number that is used is in its range
-abbrev pub inSpan : Span → ℕ → Bool
-inSpan s x = between (s .least) (s .most) x
+abbrev pub leastIn : ℕ → Span → ℕ
+leastIn deck s = pick (s .card) (leastCard deck) (s .least)
+
+abbrev pub inSpan : ℕ → Span → ℕ → Bool
+inSpan deck s x = between (leastIn deck s) (s .most) x
 
 abbrev pub ranged : Sheet → Row → Numbers → Bool
 ranged sheet row x =
     allOf
     (ifUsed (row .seat) (isSeat sheet (x .seat))
-    (ifUsed (row .a .used) (inSpan (row .a) (x .a))
-    (ifUsed (row .b .used) (inSpan (row .b) (x .b)) [])))
+    (ifUsed (row .a .used) (inSpan (sheet .deck) (row .a) (x .a))
+    (ifUsed (row .b .used) (inSpan (sheet .deck) (row .b) (x .b)) [])))
 
 -- a known kind, the unused numbers 0: these numbers make an entry
 abbrev pub makesEntry : Numbers → Bool

@@ -143,7 +143,7 @@ fn number_for(code: u32, cards: &[u8]) -> u32 {
     if code != 0 {
         return code;
     }
-    ladder::place(cards::best_hand(cards))
+    ladder::place(cards::best_hand(52, cards))
 }
 
 // The answer to the line, in a line of its own.

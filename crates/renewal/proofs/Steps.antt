@@ -22,10 +22,20 @@ use Rattle.renewal.specs.Parts.{Gave, goesOn}
 -- ---- the constants
 
 abbrev pub meantBytes : List ℕ
-meantBytes = 115 ∷ 116 ∷ 101 ∷ 112 ∷ 61 ∷ 49 ∷ 10 ∷ 103 ∷ 97 ∷ 109 ∷ 101 ∷ 61 ∷ 50 ∷ 10 ∷ []
+meantBytes =
+    115 ∷ 116 ∷ 101 ∷ 112 ∷ 61 ∷ 49 ∷ 10
+    ∷ 103 ∷ 97 ∷ 109 ∷ 101 ∷ 61 ∷ 50 ∷ 10
+    ∷ 100 ∷ 101 ∷ 99 ∷ 107 ∷ 61 ∷ 53 ∷ 50 ∷ 10
+    ∷ 100 ∷ 114 ∷ 111 ∷ 112 ∷ 61 ∷ 48 ∷ 10
+    ∷ []
 
 abbrev pub addedBytes : List ℕ
-addedBytes = 97 ∷ 100 ∷ 100 ∷ 101 ∷ 100 ∷ 32 ∷ 115 ∷ 116 ∷ 101 ∷ 112 ∷ 61 ∷ 49 ∷ 10 ∷ 97 ∷ 100 ∷ 100 ∷ 101 ∷ 100 ∷ 32 ∷ 103 ∷ 97 ∷ 109 ∷ 101 ∷ 61 ∷ 50 ∷ 10 ∷ []
+addedBytes =
+    97 ∷ 100 ∷ 100 ∷ 101 ∷ 100 ∷ 32 ∷ 115 ∷ 116 ∷ 101 ∷ 112 ∷ 61 ∷ 49 ∷ 10
+    ∷ 97 ∷ 100 ∷ 100 ∷ 101 ∷ 100 ∷ 32 ∷ 103 ∷ 97 ∷ 109 ∷ 101 ∷ 61 ∷ 50 ∷ 10
+    ∷ 97 ∷ 100 ∷ 100 ∷ 101 ∷ 100 ∷ 32 ∷ 100 ∷ 101 ∷ 99 ∷ 107 ∷ 61 ∷ 53 ∷ 50 ∷ 10
+    ∷ 97 ∷ 100 ∷ 100 ∷ 101 ∷ 100 ∷ 32 ∷ 100 ∷ 114 ∷ 111 ∷ 112 ∷ 61 ∷ 48 ∷ 10
+    ∷ []
 
 pub meant-bytes : meant ≡ meantBytes
 unfolding meant numberLine digits
@@ -35,7 +45,7 @@ pub added-bytes : addedLines ≡ addedBytes
 unfolding addedLines numberLine digits
 added-bytes = refl
 
-pub most-is : givenMost ≡ 16
+pub most-is : givenMost ≡ 31
 most-is = ap (λ (l : List ℕ). length l + 2) meant-bytes
 
 -- ---- lines behind the first k - 5 of some
@@ -56,7 +66,7 @@ lines-put k {more} all {out} {out2} {r} m w = (subst (λ (l : List ℕ). Wrote l
 
 -- ---- the tests
 
-pub goes-is : {b done : Bool} (used size room : ℕ) → done ≡ false → b ≡ both (ltb used size) (leb 16 room) → b ≡ goesOn done used size room
+pub goes-is : {b done : Bool} (used size room : ℕ) → done ≡ false → b ≡ both (ltb used size) (leb 31 room) → b ≡ goesOn done used size room
 goes-is {b} {done} used size room d e =
     e
     ∙ ap (λ (n : ℕ). both (ltb used size) (leb n room)) (sym most-is)

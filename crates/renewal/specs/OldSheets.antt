@@ -1,5 +1,6 @@
 -- Request No. 5, what rooms need of it: "Rooms have old logs: from here on `fair_copy` takes a good sheet that ends after its fifth or sixth line (a block begins there, or the input ends), writes today's
--- lines with `step=1`, `game=2` for what was missing, and says so on standard error; each later sheet line adds its row." Assumes nothing.
+-- lines with `step=1`, `game=2` for what was missing, and says so on standard error; each later sheet line adds its row."
+-- Requests No. 6 and No. 7: `deck=52`, `drop=0` likewise. Assumes nothing.
 use Prim.Native.Nat.{ℕ, _-_}
 use mathlib.Core.List.{List, [], _∷_, _++_}
 use lib.ListN.{drop}
@@ -12,7 +13,7 @@ abbrev pub firstLines : ℕ
 firstLines = 5
 
 abbrev pub later : List ℕ
-later = 1 ∷ 2 ∷ []
+later = 1 ∷ 2 ∷ 52 ∷ 0 ∷ []
 
 -- the later lines as they are meant
 unfoldable pub meant : List ℕ

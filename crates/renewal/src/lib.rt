@@ -18,14 +18,14 @@ ghost use Rattle.renewal.specs.Parts.{Gave, GivenOn, goesOn};
 const FIRST: usize = 5;
 
 // What the lines say that came later, where a sheet lacks them.
-const MEANT_ROOM: usize = 14;
+const MEANT_ROOM: usize = 29;
 
-const MEANT: [u8; MEANT_ROOM] = *b"step=1\ngame=2\n";
+const MEANT: [u8; MEANT_ROOM] = *b"step=1\ngame=2\ndeck=52\ndrop=0\n";
 
 // A note about each of them.
-pub const ADDED_ROOM: usize = 26;
+pub const ADDED_ROOM: usize = 53;
 
-const ADDED: [u8; ADDED_ROOM] = *b"added step=1\nadded game=2\n";
+const ADDED: [u8; ADDED_ROOM] = *b"added step=1\nadded game=2\nadded deck=52\nadded drop=0\n";
 
 // No byte gives more bytes than this, nor does the close.
 pub const MOST: usize = MEANT_ROOM + 2;

@@ -8,10 +8,10 @@ use desk::answer_room;
 use libc::STDIN_FILENO;
 use libc::STDOUT_FILENO;
 use table::table::Table;
+use desk::log::read_opening;
 use table::take::new_table;
 use text::sheet::Opening;
 use text::sheet::after_sheet;
-use text::sheet::read_sheet;
 ghost use mathlib.Core.Path.{_≡_};
 ghost use Prim.Native.Nat.{_≤_};
 ghost use lib.ListN.{length};
@@ -162,7 +162,7 @@ fn main() {
     let mut space = io::large_buffer();
     let n = io::read_full(STDIN_FILENO, &mut space);
     let log = &space[0..n];
-    match read_sheet(log) {
+    match read_opening(log) {
         Opening::Bad => say(b"bad sheet ", 11),
         Opening::Read(s) => tell(try_log(new_table(s), after_sheet(log))),
     }

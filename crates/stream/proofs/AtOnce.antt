@@ -1,5 +1,6 @@
 -- Request No. 9: bytes one by one, and then the close, lead where the whole log leads that is read at once: the same codes, the same bytes, the same state. For any
 -- log, good sheet or bad, and any room for each answer. Assumes nothing.
+use Rattle.desk.specs.Log.{loneOpening, openedOf}
 use mathlib.Core.Path.{_≡_, refl, sym, ap, subst, _∙_}
 use mathlib.Core.List.{List, [], _∷_, _++_}
 use mathlib.Core.Bool.{Bool, true, false}
@@ -118,7 +119,7 @@ opened-onward room Bad log = ap (λ (x : Given). closed room (andThen (openOf ro
         (then-assoc (openOf room Bad) (still Shut nothing) (still Shut nothing) ∙ then-nothing (openOf room Bad))
 
 sheet-whole : (room : ℕ) (log : List ℕ) → sheetLines ≤ lfs log → closed room (onward room Unread nothing log) ≡ atOnce room log
-unfolding atOnce sheetEnd
+unfolding atOnce sheetEnd openedOf
 sheet-whole room log h =
     let g : Gathered = gatherOf sheetLines nothing log in
     let front : List ℕ = take (g .used) log in
@@ -129,14 +130,14 @@ sheet-whole room log h =
     ∙ cut-sheet front
     ∙ sym (front-sheet front (drop (g .used) log) all)
     ∙ ap sheetOf (take-append-drop (g .used) log) in
-    let one : onward room Unread nothing front ≡ openOf room (sheetOf log) =
-    ends-onward room Unread refl nothing log (omega arith) (omega (arith, whole-kept (sheetLines - 1) log h .0)) ∙ ap (openOf room) reads in
+    let one : onward room Unread nothing front ≡ openOf room (openedOf log) =
+    ends-onward room Unread refl nothing log (omega arith) (omega (arith, whole-kept (sheetLines - 1) log h .0)) ∙ ap (λ (o : Opening). openOf room (loneOpening o)) reads in
     ap (closed room)
     (ap (onward room Unread nothing) (sym (take-append-drop (g .used) log))
     ∙ onward-append room Unread nothing front (drop (g .used) log)
     ∙ ap (λ (x : Given). andThen x (onward room (x .state) (x .kept) (drop (g .used) log))) one
-    ∙ ap (λ (l : List ℕ). andThen (openOf room (sheetOf log)) (onward room (openOf room (sheetOf log) .state) (openOf room (sheetOf log) .kept) l)) (whole-kept (sheetLines - 1) log h .1))
-    ∙ opened-onward room (sheetOf log) log
+    ∙ ap (λ (l : List ℕ). andThen (openOf room (openedOf log)) (onward room (openOf room (openedOf log) .state) (openOf room (openedOf log) .kept) l)) (whole-kept (sheetLines - 1) log h .1))
+    ∙ opened-onward room (openedOf log) log
 
 pub heard-at-once : (room : ℕ) (log : List ℕ) → closed room (onward room Unread nothing log) ≡ atOnce room log
 unfolding atOnce

@@ -1,5 +1,7 @@
 -- With room for the longest answer every answer fits: more room changes nothing, and no code is 12. A table stays sound over any bytes. For any state and any
 -- bytes. Assumes nothing.
+use Rattle.desk.specs.Log.{openedOf}
+use Rattle.desk.proofs.Opened.{opened-is}
 use Prim.Native.Nat.{ℕ, _≤_}
 use mathlib.Core.Bool.{Bool, true, false, true≢false}
 use mathlib.Core.Path.{_≡_, refl, sym, ap, subst, _∙_}
@@ -15,14 +17,12 @@ use Rattle.paper.specs.declared.Entry.{Entry}
 use Rattle.paper.specs.declared.Sheet.{Sheet}
 use Rattle.blocks.specs.Block.{blockOf}
 use Rattle.blocks.specs.Entry.{parsedOf}
-use Rattle.text.specs.TableSheet.{sheetOf}
 use Rattle.blocks.specs.declared.Block.{Block}
 use Rattle.blocks.specs.declared.Block.the-variants.{Raw, Malformed, Nothing}
 use Rattle.blocks.specs.declared.Parsed.{Parsed}
 use Rattle.blocks.specs.declared.Parsed.the-variants as parsed
 use Rattle.text.specs.declared.sheet.Opening.{Opening}
 use Rattle.text.specs.declared.sheet.Opening.the-variants.{Read, Bad}
-use Rattle.text.proofs.SheetLaws.{sheet-is}
 use Rattle.lines.specs.Kept.{Kept, keepOf}
 use Rattle.table.specs.declared.table.Table.{Table}
 use Rattle.table.specs.Take.{Sound, codeOf, nextOf, freshTable}
@@ -73,10 +73,10 @@ in-sound room t log h = go (leb (length (blockBytes t log)) room)
 pub done-sound : (room : ℕ) (s : State) (lines : List ℕ) → soundIn s → soundIn (linesDone room s lines .state)
 done-sound room (Open t) lines h = in-sound room t lines h
 done-sound room Shut lines h = h
-done-sound room Unread lines h = go (sheetOf lines) refl
+done-sound room Unread lines h = go (openedOf lines) refl
   where
-    go : (o : Opening) → sheetOf lines ≡ o → soundIn (openOf room o .state)
-    go (Read s) e = sound-fresh s (sheet-is lines s e)
+    go : (o : Opening) → openedOf lines ≡ o → soundIn (openOf room o .state)
+    go (Read s) e = sound-fresh s (opened-is lines s e)
     go Bad e = tt
 
 pub byte-sound : (room : ℕ) (s : State) (k : Kept) (b : ℕ) → soundIn s → soundIn (byteOf room s k b .state)
@@ -109,7 +109,7 @@ module _ (room : ℕ) (enough : longestAnswer ≤ room) where
   open-enough Bad = ap (λ (b : Bool). record { state = Shut; kept = record { bytes = []; lines = 0; width = 0; bad = false }; codes = 11 ∷ []; bytes = pick b eleven [] }) (le-leb 8 room (omega arith))
 
   done-enough : (s : State) (lines : List ℕ) → soundIn s → linesDone room s lines ≡ linesDone longestAnswer s lines
-  done-enough Unread lines h = open-enough (sheetOf lines)
+  done-enough Unread lines h = open-enough (openedOf lines)
   done-enough (Open t) lines h = answer-enough t lines h
   done-enough Shut lines h = refl
 
@@ -145,7 +145,7 @@ done-told Shut lines h = refl
 done-told (Open t) lines h =
     ap (λ (x : Given). anyShort (x .codes)) (answer-fits longestAnswer t lines (longest t lines h))
     ∙ ap (λ (b : Bool). pick b true false) (ne-eqb (judgedOf t lines .code) 12 (λ q. omega (arith, judged-most t lines)))
-done-told Unread lines h = go (sheetOf lines)
+done-told Unread lines h = go (openedOf lines)
   where
     go : (o : Opening) → anyShort (openOf longestAnswer o .codes) ≡ false
     go (Read s) = refl

@@ -1,4 +1,5 @@
 -- A call of `feed`: shut, in place, or by way of the buffer, it does with the bytes that it uses up what they do one by one. For the proofs of the functions.
+use Rattle.desk.specs.Log.{openedOf}
 use mathlib.Core.Path.{_≡_, refl, sym, ap, subst, _∙_}
 use mathlib.Core.List.{List, []}
 use mathlib.Core.Bool.{Bool, true, false, true≢false}
@@ -13,7 +14,6 @@ use Rattle.laws.specs.Tests.{pick, both}
 use Rattle.laws.proofs.Tests.{test, both-true}
 use Rattle.laws.proofs.Conjunction.{both-none}
 use Rattle.writing.specs.Sheet.{over, Wrote}
-use Rattle.text.specs.TableSheet.{sheetOf}
 use Rattle.text.specs.declared.sheet.Opening.{Opening}
 use Rattle.text.specs.declared.sheet.Opening.the-variants.{Read, Bad}
 use Rattle.lines.specs.declared.Mark.{Mark}
@@ -49,7 +49,7 @@ ends-heard room false t k part l h = ends-onward room Unread refl k part l h
 pub done-nothing : (room : ℕ) (s : State) (lines : List ℕ) → linesDone room s lines .kept ≡ nothing
 done-nothing room (Open t) lines = refl
 done-nothing room Shut lines = refl
-done-nothing room Unread lines = go (sheetOf lines)
+done-nothing room Unread lines = go (openedOf lines)
   where
     go : (o : Opening) → openOf room o .kept ≡ nothing
     go (Read s) = refl

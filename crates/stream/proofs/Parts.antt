@@ -21,7 +21,8 @@ use Rattle.lines.proofs.Gathers.{gather-some, keep-room, gather-room}
 use Rattle.table.specs.declared.table.Table.{Table}
 use Rattle.table.specs.Take.{Sound, freshTable}
 use Rattle.table.proofs.Standing.{sound-fresh}
-use Rattle.paper.specs.Paper.{isSheet}
+use Rattle.paper.specs.Paper.{standIn}
+use Rattle.paper.proofs.Sheets.{stand-in-good}
 use Rattle.stream.specs.declared.Clerk.{Clerk}
 use Rattle.stream.specs.declared.Fed.{Fed}
 use Rattle.stream.specs.declared.Step.{Step}
@@ -331,8 +332,7 @@ unfolding stateOf
 start-state = refl
 
 start-held : Held startOf
-unfolding isSheet
-start-held = record { sound = sound-fresh (record { seats = 2; small = 1; big = 1; rate = 0; cap = 0; step = 1; game = 2 }) refl; room = empty-room; lines = omega arith; shut = λ q. absurd (true≢false (sym q)) }
+start-held = record { sound = sound-fresh standIn stand-in-good; room = empty-room; lines = omega arith; shut = λ q. absurd (true≢false (sym q)) }
 
 pub parts-whole : (room : ℕ) (buf : List ℕ) (parts : List (List ℕ)) → keptMost ≤ length buf → servedOf room buf parts ≡ atOnce room (whole parts)
 unfolding servedOf

@@ -1,4 +1,6 @@
 -- With room for the longest answer what the whole log gives at once is the log's output. For any log. Assumes nothing.
+use Rattle.desk.specs.Log.{openedOf}
+use Rattle.desk.proofs.Opened.{opened-is}
 use Prim.Native.Nat.{ℕ, zero, suc, _≤_}
 use mathlib.Core.Bool.{Bool, true, false}
 use mathlib.Core.Path.{_≡_, refl, sym, ap, _∙_}
@@ -9,10 +11,9 @@ use lib.Dec.{eqb, leb}
 use borrow.Author.Tests.{le-leb}
 use Rattle.laws.specs.Tests.{pick}
 use Rattle.blocks.specs.Block.{restOf}
-use Rattle.text.specs.TableSheet.{sheetOf, sheetEnd}
+use Rattle.text.specs.TableSheet.{sheetEnd}
 use Rattle.text.specs.declared.sheet.Opening.{Opening}
 use Rattle.text.specs.declared.sheet.Opening.the-variants.{Read, Bad}
-use Rattle.text.proofs.SheetLaws.{sheet-is}
 use Rattle.table.specs.declared.table.Table.{Table}
 use Rattle.table.specs.Take.{Sound, freshTable}
 use Rattle.table.proofs.Standing.{sound-fresh}
@@ -41,10 +42,10 @@ each-plenty (suc k) room t log h e =
 
 pub plenty : (room : ℕ) (log : List ℕ) → longestAnswer ≤ room → atOnce room log .bytes ≡ outputOf log
 unfolding atOnce outputOf
-plenty room log e = go (sheetOf log) refl
+plenty room log e = go (openedOf log) refl
   where
-    go : (o : Opening) → sheetOf log ≡ o → atOnceFrom room o log .bytes ≡ outputFrom o log
-    go (Read s) q = each-plenty (length log) room (freshTable s) (sheetEnd log) (sound-fresh s (sheet-is log s q)) e
+    go : (o : Opening) → openedOf log ≡ o → atOnceFrom room o log .bytes ≡ outputFrom o log
+    go (Read s) q = each-plenty (length log) room (freshTable s) (sheetEnd log) (sound-fresh s (opened-is log s q)) e
     go Bad q = ap (λ (z : Bool). pick z eleven []) (le-leb 8 room (omega arith))
 
 -- so what is written for the parts of a log is the output of the whole

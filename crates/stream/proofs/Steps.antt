@@ -1,4 +1,5 @@
 -- Whole lines, the sheet or a block, and the close: what the calls say and write is what is given. For the proofs of the functions.
+use Rattle.desk.specs.Log.{openedOf}
 use mathlib.Core.Path.{_≡_, refl, sym, ap, subst, _∙_}
 use mathlib.Core.List.{List, [], _∷_}
 use mathlib.Core.Bool.{Bool, true, false, true≢false}
@@ -12,7 +13,6 @@ use Rattle.laws.specs.Tests.{pick}
 use Rattle.laws.proofs.Tests.{test}
 use Rattle.paper.specs.declared.Sheet.{Sheet}
 use Rattle.writing.specs.Sheet.{Wrote, over, fits, sheetAfter}
-use Rattle.text.specs.TableSheet.{sheetOf}
 use Rattle.text.specs.declared.sheet.Opening.{Opening}
 use Rattle.text.specs.declared.sheet.Opening.the-variants.{Read, Bad}
 use Rattle.writing.specs.declared.Written.the-variants.{Bytes, NoRoom}
@@ -85,20 +85,20 @@ module _ (t : Table) (block out : List ℕ) where
           → _≡_ {A = Clerk} (record { opened = true; shut = false; table = u; mark = x }) (record { opened = true; shut = false; table = v; mark = y })
       same p q = cc
 
-  pub bad-gave : {o : Opening} {new : List ℕ} {m : Mark} {r : ℕ} → o ≡ sheetOf block → o ≡ Bad → Wrote (fitting eleven (length out)) out new r → m ≡ markOf nothing → Sound t
+  pub bad-gave : {o : Opening} {new : List ℕ} {m : Mark} {r : ℕ} → o ≡ openedOf block → o ≡ Bad → Wrote (fitting eleven (length out)) out new r → m ≡ markOf nothing → Sound t
       → Gave t (linesDone (length out) (stateAt false t) block) out new (record { opened = false; shut = true; table = t; mark = m }) r false
       × (Held (record { opened = false; shut = true; table = t; mark = m }) × (r ≤ length out))
   bad-gave {o} {new} {m} {r} e q w g h =
-      let z : openOf (length out) Bad ≡ openOf (length out) (sheetOf block) = ap (openOf (length out)) (sym q ∙ e) in (
+      let z : openOf (length out) Bad ≡ openOf (length out) (openedOf block) = ap (openOf (length out)) (sym q ∙ e) in (
         subst (λ (x : Given). Gave t x out new (record { opened = false; shut = true; table = t; mark = m }) r false) z (record { clerk = ap (clerkIn t Shut) g; wrote = w; short = refl }),
         (shut-held t m h g, omega (arith, w .count, fitting-within eleven (length out))),
       )
 
-  pub read-gave : {o : Opening} {s : Sheet} {u : Table} {m : Mark} → o ≡ sheetOf block → o ≡ Read s → (u ≡ freshTable s) × Sound u → m ≡ markOf nothing
+  pub read-gave : {o : Opening} {s : Sheet} {u : Table} {m : Mark} → o ≡ openedOf block → o ≡ Read s → (u ≡ freshTable s) × Sound u → m ≡ markOf nothing
       → Gave t (linesDone (length out) (stateAt false t) block) out out (record { opened = true; shut = false; table = u; mark = m }) 0 false
       × (Held (record { opened = true; shut = false; table = u; mark = m }) × (0 ≤ length out))
   read-gave {o} {s} {u} {m} e q f g =
-      let z : openOf (length out) (Read s) ≡ openOf (length out) (sheetOf block) = ap (openOf (length out)) (sym q ∙ e) in (
+      let z : openOf (length out) (Read s) ≡ openOf (length out) (openedOf block) = ap (openOf (length out)) (sym q ∙ e) in (
         subst (λ (x : Given). Gave t x out out (record { opened = true; shut = false; table = u; mark = m }) 0 false) z
             (record { clerk = same (f .0) g; wrote = record { count = refl; sheet = refl }; short = refl }),
         (open-held u m (f .1) g, omega arith),

@@ -1,6 +1,7 @@
 -- Request No. 9: "takes the log however the line chops it, with nothing arriving at times, and keeps the unfinished block. Its answers and last state equal those
 -- of the whole log read at once with equal room for each answer; an unfinished block gets its code 1 only at the close."
 -- The log byte by byte, and the whole log at once, each with `room` bytes for each answer. Assumes nothing.
+use Rattle.desk.specs.Log.{openedOf}
 use Prim.Native.Nat.{ℕ, zero, suc}
 use mathlib.Core.List.{List, [], _∷_, _++_}
 use mathlib.Core.Bool.{Bool, true, false}
@@ -9,7 +10,7 @@ use lib.Dec.{eqb, leb}
 use Rattle.laws.specs.Tests.{pick}
 use Rattle.paper.specs.RefusalNumbers.{badSheet, noRoom}
 use Rattle.blocks.specs.Block.{restOf}
-use Rattle.text.specs.TableSheet.{sheetOf, sheetEnd}
+use Rattle.text.specs.TableSheet.{sheetEnd}
 use Rattle.text.specs.declared.sheet.Opening.{Opening}
 use Rattle.text.specs.declared.sheet.Opening.the-variants.{Read, Bad}
 use Rattle.lines.specs.Kept.{Kept, nothing, keepOf}
@@ -59,7 +60,7 @@ openOf room (Read s) = still (Open (freshTable s)) nothing
 openOf room Bad = record { state = Shut; kept = nothing; codes = badSheet ∷ []; bytes = fitting eleven room }
 
 abbrev pub linesDone : ℕ → State → List ℕ → Given
-linesDone room Unread lines = openOf room (sheetOf lines)
+linesDone room Unread lines = openOf room (openedOf lines)
 linesDone room (Open t) lines = answerOf room t lines
 linesDone room Shut lines = still Shut nothing
 
@@ -108,7 +109,7 @@ atOnceFrom room (Read s) log = eachFrom (length log) room (freshTable s) (sheetE
 atOnceFrom room Bad log = openOf room Bad
 
 unfoldable pub atOnce : ℕ → List ℕ → Given
-atOnce room log = atOnceFrom room (sheetOf log) log
+atOnce room log = atOnceFrom room (openedOf log) log
 
 -- a code that says that there was no room
 abbrev pub anyShort : List ℕ → Bool

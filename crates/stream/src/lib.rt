@@ -4,6 +4,7 @@ use blocks::front_rest;
 use blocks::read_front;
 use desk::answer;
 use desk::answer_block;
+use desk::log::read_opening;
 use desk::log::refuse_sheet;
 use lines::Mark;
 use lines::empty;
@@ -14,7 +15,6 @@ use paper::STAND_IN;
 use table::table::Table;
 use table::take::new_table;
 use text::sheet::Opening;
-use text::sheet::read_sheet;
 ghost use mathlib.Core.Path.{_≡_};
 ghost use mathlib.Core.Bool.{true, false};
 ghost use Prim.Native.Nat.{ℕ, _+_, _-_, _*_, _≤_, _<_};
@@ -78,7 +78,7 @@ fn whole_sheet(t: Table, block: &[u8], out: &mut [u8]) -> Step
     ensures held { λ r. ⌜ Held (r .clerk) × (r .written ≤ length (now (out .entry))) ⌝ }
 {
     let z = empty();
-    match read_sheet(block) {
+    match read_opening(block) {
         Opening::Bad => Step {
             clerk: Clerk {
                 opened: false,

@@ -71,7 +71,7 @@ chips-close (c ∷ cs) (p ∷ ps) l = omega (arith, chips-close cs ps (omega ari
 pub settle-all : (t : Table) → Payable t → sumOf (payoutNow t .paid) + payoutNow t .fee + payoutNow t .drop + payoutNow t .unclaimed ≡ sumOf (totalsOf t)
 unfolding payoutNow
 settle-all t h =
-    let l = map-length (scoreOf (t .sheet .game) (t .board)) (t .chairs) ∙ sym (map-length (columnOf what.Total) (t .chairs)) in
+    let l = map-length (scoreOf (t .sheet .deck) (t .sheet .game) (t .board)) (t .chairs) ∙ sym (map-length (columnOf what.Total) (t .chairs)) in
     drop-lost (totalsOf t) (livesOf t) (scoresOf t) (commissionOf t) (t .play .puck) (hereOf t) l (omega (arith, sheet-rate (t .sheet) (h .sheet)))
 
 -- ---- entries

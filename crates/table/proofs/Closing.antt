@@ -75,7 +75,7 @@ ok-place cs i a = ok-at cs (suc i) a
 pub due-reach : (t : Table) (i : ℕ) → length (t .chairs) ≡ 10 → t .play .puck ≤ 10 → i < 10 → getD (dueNow t) i 0 ≤ reach (totalsOf t) (getD (totalsOf t) i 0)
 due-reach t i n k l =
     let lt = map-length (columnOf what.Total) (t .chairs) in
-    let ls = map-length (scoreOf (t .sheet .game) (t .board)) (t .chairs) in
+    let ls = map-length (scoreOf (t .sheet .deck) (t .sheet .game) (t .board)) (t .chairs) in
     due-at-most (totalsOf t) (livesOf t) (scoresOf t) (commissionOf t) (t .play .puck) i (ls ∙ sym lt) (omega arith) (omega arith)
 
 -- nothing is due to a seat where nobody was dealt in, and nothing paid where the sitting dealt in has left
@@ -118,7 +118,7 @@ paid-length t =
     live-length (dueNow t) (hereOf t)
     ∙ plus-length _ (map (returnedOf (totalsOf t) (livesOf t)) (totalsOf t))
     ∙ won-length (scoresOf t) (commissionOf t) (t .play .puck) (t .sheet .cap) (dropOfHand (totalsOf t) (livesOf t) (commissionOf t)) (potsOf (totalsOf t) (livesOf t))
-    ∙ map-length (scoreOf (t .sheet .game) (t .board)) (t .chairs)
+    ∙ map-length (scoreOf (t .sheet .deck) (t .sheet .game) (t .board)) (t .chairs)
 
 -- nothing is paid above the seats
 pub paid-above : (t : Table) → Standing t → (i : ℕ) → t .sheet .seats ≤ i → getD (payoutNow t .paid) i 0 ≡ 0

@@ -18,7 +18,7 @@ use Rattle.laws.specs.Lists.{sumOf}
 use Rattle.pots.specs.declared.Commission.{Commission}
 use Rattle.pots.specs.Hand.{feeOfHand, dropOfHand, dueOf, paidOf, unclaimedOf}
 use Rattle.pots.proofs.Hands.{none-lost, map-length, paid-and-unclaimed, at-most-sum}
-use Rattle.cards.specs.Order.{ranking52, bestAmong, bestOf, strengthBy}
+use Rattle.cards.specs.Order.{rankingOf, bestAmong, bestOf, strengthBy}
 use Rattle.cards.specs.Omaha.{fromBoth, allowed}
 use Rattle.cards.specs.declared.Hand.{Hand}
 use Rattle.laws.proofs.Five.{five-list}
@@ -97,30 +97,30 @@ pub sheet-game : (s : Sheet) → isSheet s ≡ true → isGame (s .game) ≡ tru
 sheet-game s h = good-ranged s h .game
 
 -- ---- what a settle pays
-score-small : (game : ℕ) (b : Board) (c : Chair) → scoreOf game b c ≤ 100000000
+score-small : (deck game : ℕ) (b : Board) (c : Chair) → scoreOf deck game b c ≤ 100000000
 unfolding scoreOf handScore
-score-small game b c = go (isShown game c)
+score-small deck game b c = go (isShown game c)
   where
-    go : (s : Bool) → pick s (handScore game (holeOf c) (b .cards)) 0 ≤ 100000000
-    go true = omega (arith, strength-small ranking52 (bestAmong ranking52 (allowed game (holeOf c) (b .cards))))
+    go : (s : Bool) → pick s (handScore deck game (holeOf c) (b .cards)) 0 ≤ 100000000
+    go true = omega (arith, strength-small (rankingOf deck) (bestAmong (rankingOf deck) (allowed game (holeOf c) (b .cards))))
     go false = omega arith
 
-score-at : (game : ℕ) (b : Board) (cs : List Chair) (i : ℕ) → getD (map (scoreOf game b) cs) i 0 ≤ 100000000
-score-at game b [] i = omega arith
-score-at game b (c ∷ cs) zero = score-small game b c
-score-at game b (c ∷ cs) (suc i) = score-at game b cs i
+score-at : (deck game : ℕ) (b : Board) (cs : List Chair) (i : ℕ) → getD (map (scoreOf deck game b) cs) i 0 ≤ 100000000
+score-at deck game b [] i = omega arith
+score-at deck game b (c ∷ cs) zero = score-small deck game b c
+score-at deck game b (c ∷ cs) (suc i) = score-at deck game b cs i
 
-pub scores-within : (game : ℕ) (b : Board) (cs : List Chair) (xs : List ℕ) → xs ≡ map (scoreOf game b) cs → (i : ℕ) → getD xs i 0 ≤ 100000000
-scores-within game b cs xs e i = rw e (score-at game b cs i)
+pub scores-within : (deck game : ℕ) (b : Board) (cs : List Chair) (xs : List ℕ) → xs ≡ map (scoreOf deck game b) cs → (i : ℕ) → getD xs i 0 ≤ 100000000
+scores-within deck game b cs xs e i = rw e (score-at deck game b cs i)
 
 -- the best of the seven cards, for two hole cards
-pub seven-score : (n : ℕ) (d k : List ℕ) {h : Hand} → n ≡ 2 → length d ≡ 4 → length k ≡ 5
-    → h ≡ bestOf ranking52 (getD d 0 0 ∷ getD d 1 0 ∷ getD k 0 0 ∷ getD k 1 0 ∷ getD k 2 0 ∷ getD k 3 0 ∷ getD k 4 0 ∷ []) → strengthBy ranking52 h ≡ handScore 2 (take n d) k
+pub seven-score : (deck n : ℕ) (d k : List ℕ) {h : Hand} → n ≡ 2 → length d ≡ 4 → length k ≡ 5
+    → h ≡ bestOf (rankingOf deck) (getD d 0 0 ∷ getD d 1 0 ∷ getD k 0 0 ∷ getD k 1 0 ∷ getD k 2 0 ∷ getD k 3 0 ∷ getD k 4 0 ∷ []) → strengthBy (rankingOf deck) h ≡ handScore deck 2 (take n d) k
 unfolding handScore allowed bestOf
-seven-score n d k e ld lk q =
+seven-score deck n d k e ld lk q =
     let l : _≡_ {A = List ℕ} (getD d 0 0 ∷ getD d 1 0 ∷ getD k 0 0 ∷ getD k 1 0 ∷ getD k 2 0 ∷ getD k 3 0 ∷ getD k 4 0 ∷ []) (take n d ++ k) =
     ap (λ (m : List ℕ). getD d 0 0 ∷ getD d 1 0 ∷ m) (sym (five-list 0 k lk)) ∙ ap (λ (m : List ℕ). m ++ k) (two d ld) ∙ ap (λ (i : ℕ). take i d ++ k) (sym e) in
-    ap (strengthBy ranking52) (q ∙ ap (bestOf ranking52) l)
+    ap (strengthBy (rankingOf deck)) (q ∙ ap (bestOf (rankingOf deck)) l)
   where
     two : (d : List ℕ) → length d ≡ 4 → getD d 0 0 ∷ getD d 1 0 ∷ [] ≡ take 2 d
     two [] e = absurd (omega arith)
@@ -128,9 +128,10 @@ seven-score n d k e ld lk q =
     two (a ∷ b ∷ d) e = refl
 
 -- the best of two and three, for four hole cards
-pub both-score : (n : ℕ) (d k : List ℕ) {h : Hand} → n ≡ 4 → length d ≡ 4 → h ≡ bestAmong ranking52 (fromBoth 2 3 d k) → strengthBy ranking52 h ≡ handScore 4 (take n d) k
+pub both-score : (deck n : ℕ) (d k : List ℕ) {h : Hand} → n ≡ 4 → length d ≡ 4 → h ≡ bestAmong (rankingOf deck) (fromBoth 2 3 d k)
+    → strengthBy (rankingOf deck) h ≡ handScore deck 4 (take n d) k
 unfolding handScore allowed
-both-score n d k e ld q = ap (strengthBy ranking52) (q ∙ ap (λ (l : List ℕ). bestAmong ranking52 (fromBoth 2 3 l k)) (sym (take-all n d (omega arith))))
+both-score deck n d k e ld q = ap (strengthBy (rankingOf deck)) (q ∙ ap (λ (l : List ℕ). bestAmong (rankingOf deck) (fromBoth 2 3 l k)) (sym (take-all n d (omega arith))))
 
 due-within : (ts : List ℕ) (live : ℕ) (scores : List ℕ) (rule : Commission) (puck : ℕ) → length scores ≡ length ts → rule .rate ≤ 1000 → sumOf (dueOf ts live scores rule puck) ≤ sumOf ts
 due-within ts live scores rule puck l r = omega (arith, none-lost ts live scores rule puck l r)
@@ -139,7 +140,7 @@ due-within ts live scores rule puck l r = omega (arith, none-lost ts live scores
 pub due-totals : (t : Table) → Payable t → sumOf (dueNow t) ≤ sumOf (totalsOf t)
 due-totals t h =
     due-within (totalsOf t) (livesOf t) (scoresOf t) (commissionOf t) (t .play .puck)
-    (map-length (scoreOf (t .sheet .game) (t .board)) (t .chairs) ∙ sym (map-length (columnOf what.Total) (t .chairs)))
+    (map-length (scoreOf (t .sheet .deck) (t .sheet .game) (t .board)) (t .chairs) ∙ sym (map-length (columnOf what.Total) (t .chairs)))
     (omega (arith, sheet-rate (t .sheet) (h .sheet)))
 
 pub due-small : (t : Table) → Payable t → sumOf (dueNow t) ≤ 100000000

@@ -6,7 +6,7 @@ use mathlib.Core.List.{List, [], _∷_, map}
 use native.Mathlib.Omega.{arith}
 use borrow.Author.Tests.{ltb-false, eqb-true, not-false}
 use lib.Dec.{eqb, leb, ltb}
-use Rattle.paper.specs.Paper.{when, orElse, between, isSeat, isCard, inKind, inRange}
+use Rattle.paper.specs.Paper.{when, orElse, between, isSeat, leastCard, isCard, inKind, inRange}
 use Rattle.laws.specs.Tests.{both, pick}
 use Rattle.paper.proofs.Codes.{or-zero, when-zero, between-in}
 use Rattle.laws.proofs.Tests.{both-true}
@@ -208,9 +208,10 @@ passed t n e h =
 -- the ranges of cards
 pub hole-cards : (sheet : Sheet) (s a b : ℕ) → inKind sheet (Hole s a b) ≡ true → (a ≤ 51) × (b ≤ 51)
 hole-cards sheet s a b h =
-    let p = both-true (isSeat sheet s) (both (isCard a) (isCard b)) h in
-    let q = both-true (isCard a) (isCard b) (p .1) in
-    (between-in 0 51 a (q .0) .1, between-in 0 51 b (q .1) .1)
+    let deck = sheet .deck in
+    let p = both-true (isSeat sheet s) (both (isCard deck a) (isCard deck b)) h in
+    let q = both-true (isCard deck a) (isCard deck b) (p .1) in
+    (between-in (leastCard deck) 51 a (q .0) .1, between-in (leastCard deck) 51 b (q .1) .1)
 
 pub board-card : (sheet : Sheet) (k : ℕ) → inKind sheet (Board k) ≡ true → k ≤ 51
-board-card sheet k h = between-in 0 51 k h .1
+board-card sheet k h = between-in (leastCard (sheet .deck)) 51 k h .1

@@ -131,7 +131,7 @@ above-applied t (Leave x) w h r = above-put (t .sheet .seats) (t .chairs) x _ (s
 above-applied t (Hand p) w h r =
     let l = seat-within (t .sheet) p r in
     above-put (t .sheet .seats) _ (nextDealtIn t p) _ (next-within t p l) (above-put (t .sheet .seats) _ p _ l (above-map dealtOf refl (t .sheet .seats) (t .chairs) (h .seated .above)))
-above-applied t (Hole x a b) w h r = above-put (t .sheet .seats) (t .chairs) x _ (seat-within (t .sheet) x (both-true (isSeat (t .sheet) x) (both (isCard a) (isCard b)) r .0)) (h .seated .above)
+above-applied t (Hole x a b) w h r = above-put (t .sheet .seats) (t .chairs) x _ (seat-within (t .sheet) x (both-true (isSeat (t .sheet) x) (both (isCard (t .sheet .deck) a) (isCard (t .sheet .deck) b)) r .0)) (h .seated .above)
 above-applied t (Fold x) w h r = above-put (t .sheet .seats) (t .chairs) x _ (seat-within (t .sheet) x r) (h .seated .above)
 above-applied t (Check x) w h r = above-put (t .sheet .seats) (t .chairs) x _ (seat-within (t .sheet) x r) (h .seated .above)
 above-applied t (Call x) w h r = above-put (t .sheet .seats) (t .chairs) x _ (seat-within (t .sheet) x r) (h .seated .above)

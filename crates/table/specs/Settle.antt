@@ -8,11 +8,11 @@ use lib.Dec.{ltb, leb, eqb}
 use lib.ListN.{replicate}
 use Rattle.paper.specs.Paper.{wrongMoment, cardsMissing, when, orElse, isSheet}
 use Rattle.laws.specs.Tests.{both, either, pick}
-use Rattle.cards.specs.Order.{ranking52, bestAmong, strengthBy}
+use Rattle.cards.specs.Order.{rankingOf, bestAmong, strengthBy}
 use Rattle.cards.specs.Omaha.{allowed}
 use Rattle.pots.specs.Heights.{maskAt, backOf}
 use Rattle.pots.specs.Runs.{potsOf}
-use Rattle.pots.specs.Hand.{lone, feeOfHand, dropOfHand, dueOf, paidOf, unclaimedOf}
+use Rattle.pots.specs.Hand.{feeOfHand, dropOfHand, dueOf, paidOf, unclaimedOf}
 use Rattle.pots.specs.declared.Pot.{Pot}
 use Rattle.pots.specs.declared.Commission.{Commission}
 use Rattle.chairs.specs.Chairs.{countOf, wantOf, holeOf, isFull, columnOf, chipsOf, closeAll}
@@ -54,20 +54,21 @@ backNow t = backOf (totalsOf t) (livesOf t)
 abbrev pub isShown : ℕ → Chair → Bool
 isShown game c = both (c .dealt .live) (isFull game c)
 
--- the number of the best of the choices of five that the game allows of hole and board cards
-unfoldable pub handScore : ℕ → List ℕ → List ℕ → ℕ
-handScore game hole board = strengthBy ranking52 (bestAmong ranking52 (allowed game hole board))
+-- the number of the best, by the ranking of the deck, of the choices of five that the game allows of hole and board cards
+unfoldable pub handScore : ℕ → ℕ → List ℕ → List ℕ → ℕ
+handScore deck game hole board = strengthBy (rankingOf deck) (bestAmong (rankingOf deck) (allowed game hole board))
 
 -- what a seat's hand counts in a contest; 0 where there is none to compare ("A sole contender needs no cards")
-unfoldable pub scoreOf : ℕ → Board → Chair → ℕ
-scoreOf game b c = pick (isShown game c) (handScore game (holeOf c) (b .cards)) 0
+unfoldable pub scoreOf : ℕ → ℕ → Board → Chair → ℕ
+scoreOf deck game b c = pick (isShown game c) (handScore deck game (holeOf c) (b .cards)) 0
 
 abbrev pub scoresOf : Table → List ℕ
-scoresOf t = map (scoreOf (t .sheet .game) (t .board)) (t .chairs)
+scoresOf t = map (scoreOf (t .sheet .deck) (t .sheet .game) (t .board)) (t .chairs)
 
--- what the commission of the open hand goes by: the sheet's lines, and "the count of board cards"; the table is a lone one
+-- what the commission of the open hand goes by: the sheet's lines, and "the count of board cards". Of a table that shares no pool the drop is 0
+-- (desk/specs/Log, `lone`)
 abbrev pub commissionOf : Table → Commission
-commissionOf t = record { rate = t .sheet .rate; cap = t .sheet .cap; step = t .sheet .step; board = t .board .count; drop = lone }
+commissionOf t = record { rate = t .sheet .rate; cap = t .sheet .cap; step = t .sheet .step; board = t .board .count; drop = t .sheet .drop }
 
 -- what the sitting dealt in at each seat is due: its part of the pots less commission, and its returned chips
 abbrev pub dueNow : Table → List ℕ

@@ -72,73 +72,73 @@ fn here_seats(t: Table) -> u16
     pots::mask_at(chairs::seats::column(cs, t.sheet.seats, What::Here), 1)
 }
 
-// The number of the best hand of two hole cards and the board, any mixture.
-fn two_score(b: Board, h: Hole) -> u32
+// The number of the deck's best hand of two hole cards and the board, any mixture.
+fn two_score(deck: u32, b: Board, h: Hole) -> u32
     requires { ⌜ h .count ≡ 2 ⌝ }
-    ensures { λ r. ⌜ r ≡ handScore 2 (take (h .count) (h .cards)) (b .cards) ⌝ }
+    ensures { λ r. ⌜ r ≡ handScore deck 2 (take (h .count) (h .cards)) (b .cards) ⌝ }
 {
     let d = h.cards;
     let k = b.cards;
     let seven = [d[0], d[1], k[0], k[1], k[2], k[3], k[4]];
-    cards::strength(cards::best_hand(&seven))
+    cards::strength(deck, cards::best_hand(deck, &seven))
 }
 
-// The number of the best hand of two of four hole cards with three of the board.
-fn four_score(b: Board, h: Hole) -> u32
+// The number of the deck's best hand of two of four hole cards with three of the board.
+fn four_score(deck: u32, b: Board, h: Hole) -> u32
     requires { ⌜ h .count ≡ 4 ⌝ }
-    ensures { λ r. ⌜ r ≡ handScore 4 (take (h .count) (h .cards)) (b .cards) ⌝ }
+    ensures { λ r. ⌜ r ≡ handScore deck 4 (take (h .count) (h .cards)) (b .cards) ⌝ }
 {
     let d = h.cards;
     let k = b.cards;
-    cards::strength(cards::best_omaha(d, &k))
+    cards::strength(deck, cards::best_omaha(deck, d, &k))
 }
 
 // The number of the best hand that a seat's cards make, where all of them were entered.
-fn hand_score(game: u32, b: Board, h: Hole) -> u32
+fn hand_score(deck: u32, game: u32, b: Board, h: Hole) -> u32
     requires { ⌜ (isGame game ≡ true) × (h .count ≡ game) ⌝ }
-    ensures { λ r. ⌜ r ≡ handScore game (take (h .count) (h .cards)) (b .cards) ⌝ }
+    ensures { λ r. ⌜ r ≡ handScore deck game (take (h .count) (h .cards)) (b .cards) ⌝ }
 {
     if game == 4 {
-        return four_score(b, h);
+        return four_score(deck, b, h);
     }
-    two_score(b, h)
+    two_score(deck, b, h)
 }
 
 // What a seat's hand counts in a contest: a hand that is not live, or has not all its cards, is not looked at.
-fn score(game: u32, b: Board, c: Chair) -> u32
+fn score(deck: u32, game: u32, b: Board, c: Chair) -> u32
     requires { ⌜ isGame game ≡ true ⌝ }
-    ensures { λ r. ⌜ r ≡ scoreOf game b c ⌝ }
+    ensures { λ r. ⌜ r ≡ scoreOf deck game b c ⌝ }
 {
     let h = c.hole;
     if both(c.dealt.live, h.count as u32 == game) {
-        return hand_score(game, b, h);
+        return hand_score(deck, game, b, h);
     }
     0
 }
 
-fn scores(game: u32, b: Board, cs: [Chair; 10]) -> [u32; 10]
+fn scores(deck: u32, game: u32, b: Board, cs: [Chair; 10]) -> [u32; 10]
     requires { ⌜ isGame game ≡ true ⌝ }
-    ensures { λ r. ⌜ r ≡ map (scoreOf game b) cs ⌝ }
+    ensures { λ r. ⌜ r ≡ map (scoreOf deck game b) cs ⌝ }
 {
     let mut a = [0u32; 10];
     let mut i: usize = 0;
     while i < 10 {
         let c = cs[i];
-        a[i] = score(game, b, c);
+        a[i] = score(deck, game, b, c);
         i += 1;
     }
     a
 }
 
 // The scores that a settle goes by: where one hand alone is live it needs no cards, and no hand is looked at.
-fn scores_needed(game: u32, b: Board, cs: [Chair; 10], live: u16) -> [u32; 10]
+fn scores_needed(deck: u32, game: u32, b: Board, cs: [Chair; 10], live: u16) -> [u32; 10]
     requires { ⌜ isGame game ≡ true ⌝ }
-    ensures { λ r. ⌜ r ≡ pick (sole 10 live) (replicate 10 0) (map (scoreOf game b) cs) ⌝ }
+    ensures { λ r. ⌜ r ≡ pick (sole 10 live) (replicate 10 0) (map (scoreOf deck game b) cs) ⌝ }
 {
     if pots::hand::sole(live) {
         return [0u32; 10];
     }
-    scores(game, b, cs)
+    scores(deck, game, b, cs)
 }
 
 // What the commission of the open hand goes by.
@@ -150,7 +150,7 @@ fn commission(t: Table) -> Commission
         cap: t.sheet.cap,
         step: t.sheet.step,
         board: t.board.count as u32,
-        drop: 0, // a lone table: no pool is shared
+        drop: t.sheet.drop,
     }
 }
 
@@ -162,7 +162,7 @@ fn payout(t: Table) -> Payout
     let cs = t.chairs;
     let b = t.board;
     let put = put_in(t);
-    let sc = scores_needed(t.sheet.game, b, cs, put.live);
+    let sc = scores_needed(t.sheet.deck, t.sheet.game, b, cs, put.live);
     let puck = t.play.puck as usize;
     let totals = put.totals;
     let s = pots::hand::settle_hand(totals, put.live, sc, commission(t), puck);

@@ -1,5 +1,6 @@
 -- Document 01, "The table sheet and the entries": "The sheet comes first: seats (2 to 10), small, big (1 ≤ small ≤ big ≤ 10,000), rate (0 to 100, thousandths), cap (0 to 1,000,000)."
 -- Request No. 3: "the room's smallest chip, a sixth sheet line step (1 to 1,000)". Request No. 5: "A seventh sheet line game is 2 or 4."
+-- Request No. 6: "An eighth sheet line deck is 52 or 32". Request No. 7: "drop units (ninth sheet line, 0 to 1,000)".
 -- Refusal 11: "a sheet line is missing, malformed or out of its range".
 use Prim.Native.Nat.{ℕ, zero, suc, _+_, _*_}
 use mathlib.Core.List.{List, [], _∷_}
@@ -31,6 +32,10 @@ sheetKeys =
     ∷ (115 ∷ 116 ∷ 101 ∷ 112 ∷ [])
     -- game
     ∷ (103 ∷ 97 ∷ 109 ∷ 101 ∷ [])
+    -- deck
+    ∷ (100 ∷ 101 ∷ 99 ∷ 107 ∷ [])
+    -- drop
+    ∷ (100 ∷ 114 ∷ 111 ∷ 112 ∷ [])
     ∷ []
 
 -- how many lines a sheet has

@@ -15,7 +15,7 @@ pub enum Opening {
 }
 
 // How many lines a sheet has.
-pub const LINES: usize = 7;
+pub const LINES: usize = 9;
 
 // The most bytes that are kept of a sheet or of a block: a line is kept up to its 33rd byte, and its LF.
 pub const ROOM: usize = LINES * 34;
@@ -53,6 +53,14 @@ pub const KEYS: [Key; LINES] = [
     },
     Key {
         bytes: *b"game ",
+        letters: 4,
+    },
+    Key {
+        bytes: *b"deck ",
+        letters: 4,
+    },
+    Key {
+        bytes: *b"drop ",
         letters: 4,
     },
 ];
@@ -120,6 +128,8 @@ fn sheet_with(log: &[u8]) -> Sheet
         cap: value_at(log, 4),
         step: value_at(log, 5),
         game: value_at(log, 6),
+        deck: value_at(log, 7),
+        drop: value_at(log, 8),
     }
 }
 

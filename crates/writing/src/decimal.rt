@@ -1,9 +1,11 @@
-// Numbers: their decimal digits, with no leading zero save `0`.
+// Numbers: their decimal digits, with no leading zero save `0`; and in nine digits, with zeros in front.
+use crate::writer::put_bytes;
 ghost use mathlib.Core.Path.{_≡_};
 ghost use Prim.Native.Nat.{_≤_, _<_, _^_};
 ghost use lib.ListN.{length};
 ghost use Rattle.text.specs.Number.{digits};
 ghost use Rattle.writing.specs.Sheet.{Wrote};
+ghost use Rattle.writing.specs.Nine.{nineDigits};
 
 // The decimal digits of n at the front of the sheet, from the highest place down. Where n is below what a one is worth
 // at a place, that place is above its first digit and is left out; the last place always has a digit. Most numbers of an
@@ -39,4 +41,17 @@ pub fn digit_count(n: u32) -> usize
         k += 1;
     }
     k
+}
+
+const ZEROS: [u8; 9] = *b"000000000";
+
+// The nine decimal digits of n at the front of the sheet, zeros in front.
+pub(crate) fn put_nine(sheet: &mut [u8], n: u32) -> usize
+    requires { ⌜ (n < 10 ^ 9) × (9 ≤ length (now sheet)) ⌝ }
+    ensures { λ r. ⌜ Wrote (nineDigits n) (now (sheet .entry)) (now (sheet .exit)) r ⌝ }
+{
+    let zeros = ZEROS;
+    let k = 9 - digit_count(n);
+    let a = put_bytes(sheet, &zeros[0..k]);
+    a + put_digits(&mut sheet[a..], n)
 }

@@ -7,6 +7,7 @@ pub use decimal::digit_count;
 pub use decimal::put_digits;
 pub use writer::put_bytes;
 pub use writer::write_line;
+pub use writer::write_nine_line;
 pub use writer::write_number_line;
 
 // How many bytes were written, or that the sheet is too short: code 12.

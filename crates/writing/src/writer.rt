@@ -2,12 +2,14 @@
 use crate::Written;
 use crate::decimal::digit_count;
 use crate::decimal::put_digits;
+use crate::decimal::put_nine;
 ghost use mathlib.Core.Path.{_≡_};
 ghost use mathlib.Core.List.{[], _∷_};
 ghost use Prim.Native.Nat.{_≤_, _<_, _^_};
 ghost use lib.ListN.{length};
 ghost use Rattle.text.specs.Line.{numberLine};
 ghost use Rattle.writing.specs.Sheet.{Wrote, sheetAfter, writtenOf};
+ghost use Rattle.writing.specs.Nine.{nineLine};
 
 // One byte at the front of the sheet.
 fn put_byte(sheet: &mut [u8], b: u8) -> usize
@@ -39,6 +41,17 @@ pub fn write_number_line(sheet: &mut [u8], key: &[u8], n: u32) -> usize
     let a = put_bytes(sheet, key);
     let b = a + put_byte(&mut sheet[a..], 61);
     let c = b + put_digits(&mut sheet[b..], n);
+    c + put_byte(&mut sheet[c..], 10)
+}
+
+// The line `key=n` with n in nine digits, zeros in front, and its LF at the front of the sheet.
+pub fn write_nine_line(sheet: &mut [u8], key: &[u8], n: u32) -> usize
+    requires { ⌜ (n < 10 ^ 9) × (length (nineLine (now key) n) ≤ length (now sheet)) ⌝ }
+    ensures { λ r. ⌜ Wrote (nineLine (now (key .entry)) n) (now (sheet .entry)) (now (sheet .exit)) r ⌝ }
+{
+    let a = put_bytes(sheet, key);
+    let b = a + put_byte(&mut sheet[a..], 61);
+    let c = b + put_nine(&mut sheet[b..], n);
     c + put_byte(&mut sheet[c..], 10)
 }
 

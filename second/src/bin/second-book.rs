@@ -24,15 +24,19 @@ fn main() {
     if option == "--count" {
         let mut often: BTreeMap<(bool, u8), u64> = BTreeMap::new();
         done.codes.iter().for_each(|code| *often.entry(*code).or_default() += 1);
-        often.iter().for_each(|((right, code), n)| println!("{} {code} {n}", if *right { "right" } else { "entry" }));
+        often
+            .iter()
+            .for_each(|((right, code), n)| println!("{} {code} {n}", if *right { "right" } else { "entry" }));
         return;
     }
     // A reader that has gone away ends the program quietly.
     let _ = std::io::stdout().write_all(&done.out).and_then(|()| std::io::stderr().write_all(&done.said));
 }
 
-const WORDS: [&str; 14] =
-    ["sit", "leave", "hand", "hole", "fold", "check", "call", "wager", "board", "dead", "settle", "void", "raise", "foldx"];
+const WORDS: [&str; 14] = [
+    "sit", "leave", "hand", "hole", "fold", "check", "call", "wager", "board", "dead", "settle", "void",
+    "raise", "foldx",
+];
 const SIX: [&str; 6] = ["hole", "fold", "check", "call", "wager", "board"];
 
 /// Makes a log block by block, with a table of its own at hand.
@@ -107,7 +111,8 @@ impl Maker {
 
     fn wager_to(&mut self, book: &Book, seat: u64) -> u64 {
         let (mark, lift) = book.table.hand.as_ref().map_or((0, 0), |hand| (hand.mark, hand.lift));
-        let whole = book.table.stack(seat as usize) + book.table.dealt(seat as usize).map_or(0, |dealt| dealt.round_total);
+        let whole = book.table.stack(seat as usize)
+            + book.table.dealt(seat as usize).map_or(0, |dealt| dealt.round_total);
         let more = self.random.between(0, 30);
         self.random.pick(&[mark + lift, mark + lift + more, whole, whole, mark + 1]).max(1)
     }
@@ -118,17 +123,19 @@ impl Maker {
         let mut last = String::new();
         for _ in 0..300 {
             let word = self.random.pick(&[
-                "sit", "leave", "hand", "hand", "hole", "hole", "hole", "fold", "check", "check", "call", "call", "call", "wager", "board",
-                "board", "dead", "settle",
+                "sit", "leave", "hand", "hand", "hole", "hole", "hole", "fold", "check", "check", "call",
+                "call", "call", "wager", "board", "board", "dead", "settle",
             ]);
             // Few leave, few die: else no hand would come far.
-            if matches!(word, "leave" | "dead" | "fold") && !self.random.chance(8) || word == "sit" && book.table.taken > 3 && !self.random.chance(30) {
+            if matches!(word, "leave" | "dead" | "fold") && !self.random.chance(8)
+                || word == "sit" && book.table.taken > 3 && !self.random.chance(30)
+            {
                 continue;
             }
             let (seat, a, b) = self.numbers(word, book);
             last = Stored { word: word.to_string(), seat, a, b }.text(n as usize);
             let written = Written { n, word, seat, a, b };
-            if written.entry(self.seats as usize).is_some_and(|entry| book.table.refusal(n, &entry) == 0) {
+            if written.entry(&book.sheet).is_some_and(|entry| book.table.refusal(n, &entry) == 0) {
                 break;
             }
         }
@@ -141,7 +148,11 @@ impl Maker {
         let (seat, a, b) = self.numbers(word, book);
         let n = book.table.taken + if self.random.chance(80) { 1 } else { self.random.between(0, 2) };
         let wrong = Stored { word: word.to_string(), seat, a, b }.text(n as usize);
-        if self.random.chance(30) { self.damaged(wrong) } else { wrong }
+        if self.random.chance(30) {
+            self.damaged(wrong)
+        } else {
+            wrong
+        }
     }
 
     /// A correction: of a hole, board or wager entry of the open hand, of one two hands back, or of any; by another of the six as a rule.
@@ -162,7 +173,10 @@ impl Maker {
                 (_, new.a, new.b) = self.numbers(&new.word.clone(), book);
             }
             8 => new.word = self.random.pick(&WORDS).to_string(),
-            9 => (new.seat, new.a, new.b) = (self.random.between(0, 11), self.random.between(0, 60), self.random.between(0, 60)),
+            9 => {
+                (new.seat, new.a, new.b) =
+                    (self.random.between(0, 11), self.random.between(0, 60), self.random.between(0, 60))
+            }
             _ => (),
         }
         self.renamed(new, place)
@@ -195,7 +209,11 @@ impl Maker {
 
     fn renamed(&mut self, new: Stored, place: usize) -> String {
         let text = new.text(place).replacen("n=", "right=", 1);
-        if self.random.chance(10) { self.damaged(text) } else { text }
+        if self.random.chance(10) {
+            self.damaged(text)
+        } else {
+            text
+        }
     }
 
     /// Something of a block is changed: a byte, a line, or nothing.

@@ -3,7 +3,7 @@
 //! the paper refuses. All 2,598,960 fives are sorted and the classes numbered:
 //! no closed form. `--all` writes every five as a line in place of reading.
 
-use second::hands::{of_five, Strength};
+use second::hands::{five_value, Strength};
 use std::io::{self, BufRead, BufWriter, Write};
 
 fn main() -> io::Result<()> {
@@ -38,7 +38,7 @@ fn fives() -> Vec<[u8; 5]> {
 
 /// What the fives are worth, from low to high; equal hands once.
 fn classes() -> Vec<Strength> {
-    let mut all: Vec<Strength> = fives().into_iter().map(of_five).collect();
+    let mut all: Vec<Strength> = fives().into_iter().map(|cards| five_value(52, cards)).collect();
     all.sort_unstable();
     all.dedup();
     all
@@ -62,6 +62,6 @@ fn place(classes: &[Strength], cards: &[u64]) -> Result<usize, u8> {
     if (1..5).any(|place| five[..place].contains(&five[place])) {
         return Err(8);
     }
-    let hand = of_five(five.map(|card| card as u8));
+    let hand = five_value(52, five.map(|card| card as u8));
     Ok(classes.binary_search(&hand).expect("every hand is of a class") + 1)
 }

@@ -51,7 +51,8 @@ fn case(line: &str) -> Option<Case> {
 impl Case {
     fn answer(&self) -> String {
         let pots = literally(&self.stakes);
-        let Shares { fee, drop, due, .. } = pots.share_and_drop(self.commission, self.drop, self.puck, &self.strengths);
+        let Shares { fee, drop, due, .. } =
+            pots.share_and_drop(self.commission, self.drop, self.puck, &self.strengths);
         let paid = due.iter().zip(&self.present).map(|(due, there)| due * u64::from(*there));
         let paid: Vec<u64> = paid.collect();
         let unclaimed = due.iter().sum::<u64>() - paid.iter().sum::<u64>();
@@ -60,7 +61,9 @@ impl Case {
         let pots = joined(pots.iter().map(|pot| pot.amount));
         let due = joined(due.into_iter().skip(1));
         let paid = joined(paid.into_iter().skip(1));
-        format!("pots:{pots} back: {back} fee: {fee} drop: {drop} due:{due} paid:{paid} unclaimed: {unclaimed}")
+        format!(
+            "pots:{pots} back: {back} fee: {fee} drop: {drop} due:{due} paid:{paid} unclaimed: {unclaimed}"
+        )
     }
 }
 

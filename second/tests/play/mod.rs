@@ -6,11 +6,12 @@ use second::table::Table;
 use second::text::sheet;
 
 pub fn sheet_text(numbers: [u64; 6]) -> String {
-    sheet_of(numbers, 2)
+    sheet_of(numbers, 2, 52)
 }
 
-pub fn sheet_of([seats, small, big, rate, cap, step]: [u64; 6], game: u64) -> String {
-    format!("seats={seats}\nsmall={small}\nbig={big}\nrate={rate}\ncap={cap}\nstep={step}\ngame={game}\n")
+pub fn sheet_of([seats, small, big, rate, cap, step]: [u64; 6], game: u64, deck: u64) -> String {
+    let first = format!("seats={seats}\nsmall={small}\nbig={big}\nrate={rate}\ncap={cap}\nstep={step}\n");
+    first + &format!("game={game}\ndeck={deck}\ndrop=0\n")
 }
 
 pub fn block(n: u64, entry: &str) -> String {

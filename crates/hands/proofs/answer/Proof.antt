@@ -33,7 +33,7 @@ same-length-2 : tie.Need-same-length-2
 same-length-2 c = search needs
 
 returns : tie.Need-returns
-returns c = (answer-is _ _ (c .before .before .before .before .before .before .before .before .before .before .before .before .before .end-word .result) _ _ (c .before .before .before .before .before .before .before .before .read-cards .result) (c .before .before .before .before .before .before .before .before .before .before .before .before .before .end-word .ensures .0 .0) (c .before .before .before .before .before .before .before .before .before .before .before .before .before .end-word .ensures .0 .1) (c .before .before .before .before .before .before .before .before .read-cards .ensures) (c .before .before .before .before .before .before .put-reading .ensures .0) (c .before .before .put .ensures .0), omega (arith, c .before .before .before .before .before .before .put-reading .ensures .1, c .before .before .put .ensures .1))
+returns c = (answer-is _ _ _ (c .before .before .before .before .before .before .before .before .before .before .before .before .before .end-word .result) _ _ (c .before .before .before .before .before .before .before .before .read-cards .result) (c .before .before .before .before .before .before .before .before .before .before .before .before .before .end-word .ensures .0 .0) (c .before .before .before .before .before .before .before .before .before .before .before .before .before .end-word .ensures .0 .1) (c .before .before .before .before .before .before .before .before .read-cards .ensures) (c .before .before .before .before .before .before .put-reading .ensures .0) (c .before .before .put .ensures .0), omega (arith, c .before .before .before .before .before .before .put-reading .ensures .1, c .before .before .put .ensures .1))
 
 pub answer-spec : {M : Type 1} → statement M
 answer-spec =

@@ -11,14 +11,14 @@ between-requires c κs = search needs
 unless-requires : tie.Need-unless-requires
 unless-requires c κs = search needs
 
-between-requires-2 : tie.Need-between-requires-2
-between-requires-2 c κs = search needs
+in-span-requires : tie.Need-in-span-requires
+in-span-requires c κs = search needs
 
 unless-requires-2 : tie.Need-unless-requires-2
 unless-requires-2 c κs = search needs
 
-between-requires-3 : tie.Need-between-requires-3
-between-requires-3 c κs = search needs
+in-span-requires-2 : tie.Need-in-span-requires-2
+in-span-requires-2 c κs = search needs
 
 unless-requires-3 : tie.Need-unless-requires-3
 unless-requires-3 c κs = search needs
@@ -31,7 +31,12 @@ both-requires-2 c κs = search needs
 
 returns : tie.Need-returns
 unfolding isSeat
-returns c = cc (used-tests ((c .before .before .before .before .before .before .before .before .before .before .before) .args .row .seat) ((c .before .before .before .before .before .before .before .before .before .before .before) .args .row .a .used) ((c .before .before .before .before .before .before .before .before .before .before .before) .args .row .b .used) (isSeat ((c .before .before .before .before .before .before .before .before .before .before .before) .args .sheet) ((c .before .before .before .before .before .before .before .before .before .before .before) .args .x .seat)) (inSpan ((c .before .before .before .before .before .before .before .before .before .before .before) .args .row .a) ((c .before .before .before .before .before .before .before .before .before .before .before) .args .x .a)) (inSpan ((c .before .before .before .before .before .before .before .before .before .before .before) .args .row .b) ((c .before .before .before .before .before .before .before .before .before .before .before) .args .x .b)))
+returns c =
+    let s = c .before .before .before .before .before .before .before .before .before .before .before in
+    cc
+    (used-tests (s .args .row .seat) (s .args .row .a .used) (s .args .row .b .used) (isSeat (s .args .sheet) (s .args .x .seat))
+    (inSpan (s .args .sheet .deck) (s .args .row .a) (s .args .x .a))
+    (inSpan (s .args .sheet .deck) (s .args .row .b) (s .args .x .b)))
 
 pub ranged-spec : {M : Type 1} → statement M
 ranged-spec =
@@ -39,9 +44,9 @@ ranged-spec =
     (tie.spec
     between-requires
     unless-requires
-    between-requires-2
+    in-span-requires
     unless-requires-2
-    between-requires-3
+    in-span-requires-2
     unless-requires-3
     both-requires
     both-requires-2

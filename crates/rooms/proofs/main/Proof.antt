@@ -1,4 +1,4 @@
-use Rattle.text.proofs.SheetLaws.{sheet-is}
+use Rattle.desk.proofs.Opened.{opened-is}
 use mathlib.Core.Path.{sym, _∙_}
 use borrow.Author.Needs.{needs}
 use Rattle.rooms.proofs.main.Statement.{statement}
@@ -22,8 +22,8 @@ part-log-start c = search needs
 part-log-end : tie.Need-part-log-end
 part-log-end c = search needs
 
-read-sheet-requires : tie.Need-read-sheet-requires
-read-sheet-requires c κs = search needs
+read-opening-requires : tie.Need-read-opening-requires
+read-opening-requires c κs = search needs
 
 enum-told : tie.Need-enum-told
 enum-told c = search needs
@@ -38,7 +38,7 @@ enum-known-s : tie.Need-enum-known-s
 enum-known-s c = search needs
 
 new-table-requires : tie.Need-new-table-requires
-new-table-requires c κs = sheet-is _ _ (sym (c .before .before .before .read-sheet .ensures) ∙ c .before .s .given .1)
+new-table-requires c κs = opened-is _ _ (sym (c .before .before .before .read-opening .ensures) ∙ c .before .s .given .1)
 
 after-sheet-requires : tie.Need-after-sheet-requires
 after-sheet-requires c κs = search needs
@@ -65,7 +65,7 @@ main-spec =
     sub-log
     part-log-start
     part-log-end
-    read-sheet-requires
+    read-opening-requires
     enum-told
     slice-aggregate-say
     say-requires

@@ -5,6 +5,7 @@
 mod bounds;
 mod four;
 mod lifts;
+mod short;
 
 use second::answer::{answer_block, Answer};
 use second::entries::{read_block, Entry};
@@ -18,7 +19,7 @@ use std::collections::BTreeMap;
 pub struct Counts(BTreeMap<String, u64>);
 
 /// What a run of all profiles must contain, besides the codes 0 to 11.
-const DEMANDED: [&str; 28] = [
+const DEMANDED: [&str; 33] = [
     "pots 9",
     "unclaimed chips",
     "seat changed hands inside a hand",
@@ -47,6 +48,11 @@ const DEMANDED: [&str; 28] = [
     "four: third hole with a repeat",
     "four: settle with one pair",
     "four: showdown",
+    "short: hole with a card below seven",
+    "short: board with a card below seven",
+    "short: showdown",
+    "short: flush against full house",
+    "short: lowest straight",
 ];
 
 impl Counts {
@@ -99,10 +105,15 @@ fn count_log(log: &[u8], counts: &mut Counts) {
         let before = table.clone();
         let answer = answer_block(&mut table, block);
         count_answer(&answer, counts);
-        let entry = read_block(block).and_then(|written| written.entry(sheet.seats));
+        let written = read_block(block);
+        if let Some(written) = &written {
+            short::count_refused(&sheet, written, counts);
+        }
+        let entry = written.and_then(|written| written.entry(&sheet));
         if let Some(entry) = entry {
             lifts::count(&before, &entry, answer.code, counts);
             four::count(&before, &entry, answer.code, counts);
+            short::count(&before, &entry, answer.code, counts);
             if answer.code == 0 {
                 count_taken(&before, &entry, &answer, counts);
                 turns.count(&entry, &table, counts);

@@ -2,7 +2,7 @@
 
 use crate::play::{Player, MOST_CHIPS};
 use crate::Fields;
-use second::entries::{Card, Entry};
+use second::entries::{cards_of, Card, Entry};
 use second::table::{Hand, Table};
 
 /// How often another random entry is tried until one meets its code.
@@ -12,6 +12,7 @@ impl Player {
     pub fn fault(&mut self, table: &Table) -> Fields {
         let n = table.taken + 1;
         match self.random.between(2, 10) as u8 {
+            2 if table.sheet.deck == 32 && self.random.chance(30) => self.below_seven(table),
             2 => self.out_of_range(table),
             3 => Fields { n: self.wrong_n(n), ..self.legal(table) },
             code => Fields::of(n, &self.refused_with(code, table)),
@@ -27,6 +28,18 @@ impl Player {
         self.random.pick(&[n + 1, n.max(2) - 1, n + 2, 1, 1_000_000, any])
     }
 
+    /// A card that the deck of 32 has not, all else in range.
+    fn below_seven(&mut self, table: &Table) -> Fields {
+        let some = self.random.between(0, 19) as Card;
+        let low = self.random.pick(&[19, some]);
+        let (good, n) = (self.wild_card(table), table.taken + 1);
+        let n = if self.random.chance(20) { self.wrong_n(n) } else { n };
+        let cards = self.random.pick(&[[low, good], [good, low]]);
+        let seat = self.random.between(1, table.sheet.seats as u64) as usize;
+        let entries = [Entry::Hole { seat, cards }, Entry::Board { card: low }];
+        Fields::of(n, &self.random.pick(&entries))
+    }
+
     fn out_of_range(&mut self, table: &Table) -> Fields {
         let legal = if self.random.chance(50) {
             self.legal(table)
@@ -37,8 +50,8 @@ impl Player {
         let word = self.random.pick(&["raise", "bet", "a", "sits", "si", "voidvoid", "allin", "zzzzzzzz"]);
         let n = self.random.pick(&[0, 1_000_001, 999_999_999]);
         let seat = self.random.pick(&[0, seats + 1, 11, 999_999_999, 256 + legal.seat]);
-        let a = self.random.pick(&[0, 1, 52, 255, 256, 1_000_001, 100_000_001, 999_999_999]);
-        let b = self.random.pick(&[1, 52, 999_999_999]);
+        let a = self.random.pick(&[0, 1, 19, 52, 255, 256, 1_000_001, 100_000_001, 999_999_999]);
+        let b = self.random.pick(&[1, 19, 52, 999_999_999]);
         match self.random.between(0, 5) {
             0 => Fields { word: word.to_string(), ..legal },
             1 => Fields { n, ..legal },
@@ -89,7 +102,8 @@ impl Player {
     fn wild_card(&mut self, table: &Table) -> Card {
         let lies = |card: &Card| table.hand.as_ref().is_some_and(|hand: &Hand| hand.has_card(*card));
         let used: Vec<Card> = (0..52).filter(lies).collect();
-        let any = self.random.between(0, 51) as Card;
+        let deck: Vec<Card> = cards_of(table.sheet.deck).collect();
+        let any = self.random.pick(&deck);
         let used = self.random.one_of(&used).unwrap_or(any);
         self.random.pick(&[used, any])
     }

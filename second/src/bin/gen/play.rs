@@ -1,13 +1,15 @@
 //! A player of all seats at once: chooses what happens next, legally.
 
 use crate::profile::Profile;
-use second::entries::{Card, Entry};
+use second::entries::{cards_of, Card, Entry};
 use second::random::Random;
 use second::seats::Seat;
 use second::table::{Hand, Table};
 
 pub const MOST_CHIPS: u64 = 100_000_000;
 const GREAT_STACK: u64 = 2_000_000;
+/// How many hands of a hundred have that board, with the deck of 32.
+const CLASH: u64 = 30;
 
 pub struct Player {
     pub random: Random,
@@ -20,6 +22,8 @@ pub struct Player {
 struct Mood {
     /// The board makes the best hand for everyone.
     tie: bool,
+    /// The board of the deck of 32 has three of a suit and a pair.
+    clash: bool,
     /// Hole cards are entered at once, and not only before `settle`.
     cards_early: bool,
     /// Nobody raises, short raises aside.
@@ -28,6 +32,11 @@ struct Mood {
 
 /// Ten to ace, and a full house: boards that few hole cards can better.
 const TIE_BOARDS: [[Card; 5]; 2] = [[32, 37, 42, 47, 48], [48, 49, 50, 44, 45]];
+const TIE_BOARDS_FROM: Card = 32;
+
+/// Seven, eight and ten of a suit, another ten and a king: some make a flush
+/// with it and some a full house.
+const CLASH_BOARD: [Card; 5] = [20, 24, 32, 33, 45];
 
 /// Might leave. Who has won much stays, or no table would ever be full.
 fn is_restless(table: &Table, seat: Seat) -> bool {
@@ -76,6 +85,7 @@ impl Player {
         self.mood = Mood {
             // Four hole cards for each seat are more than the cards kept off the boards that make ties.
             tie: self.random.chance(self.profile.tie) && table.sheet.game == 2,
+            clash: self.random.chance(CLASH) && table.sheet.deck == 32,
             cards_early: self.random.chance(50),
             quiet: self.random.chance(10),
         };
@@ -93,7 +103,7 @@ impl Player {
             (_, _, Some(entry)) if early => entry,
             _ if table.someone_owes() => self.act(table, hand),
             _ if table.live_count() == 1 => Entry::Settle,
-            _ if hand.board.len() < 5 => Entry::Board { card: self.board_card(hand) },
+            _ if hand.board.len() < 5 => Entry::Board { card: self.board_card(table, hand) },
             // Sometimes too early: 10.
             (_, _, Some(entry)) if !self.random.chance(15) => entry,
             _ => Entry::Settle,
@@ -129,31 +139,27 @@ impl Player {
         let lacking = |seat| table.dealt(seat).is_some_and(|dealt| dealt.live && table.lacks_cards(dealt));
         let lacking = self.seats(table, lacking);
         let seat = self.random.one_of(&lacking)?;
-        let first = self.fresh_card(hand);
-        let mut second = first;
-        while second == first {
-            second = self.fresh_card(hand);
-        }
+        let first = self.fresh_card(table, hand, None);
+        let second = self.fresh_card(table, hand, Some(first));
         Some(Entry::Hole { seat, cards: [first, second] })
     }
 
-    /// A card not in the hand; kept off the boards that make ties.
-    pub fn fresh_card(&mut self, hand: &Hand) -> Card {
-        loop {
-            let card = self.random.between(0, if self.mood.tie { 31 } else { 51 }) as Card;
-            if !hand.has_card(card) {
-                return card;
-            }
-        }
+    /// A card of the deck that is not in the hand, nor this one; kept off the
+    /// boards that make ties, as long as there are others.
+    fn fresh_card(&mut self, table: &Table, hand: &Hand, but: Option<Card>) -> Card {
+        let free = |card: &Card| !hand.has_card(*card) && but != Some(*card);
+        let free: Vec<Card> = cards_of(table.sheet.deck).filter(free).collect();
+        let low: Vec<Card> = free.iter().copied().filter(|card| *card < TIE_BOARDS_FROM).collect();
+        self.random.pick(if self.mood.tie && !low.is_empty() { &low } else { &free })
     }
 
-    fn board_card(&mut self, hand: &Hand) -> Card {
-        let board = TIE_BOARDS[hand.puck % TIE_BOARDS.len()];
+    fn board_card(&mut self, table: &Table, hand: &Hand) -> Card {
+        let board = if self.mood.clash { CLASH_BOARD } else { TIE_BOARDS[hand.puck % TIE_BOARDS.len()] };
         let free: Vec<Card> = board.into_iter().filter(|card| !hand.has_card(*card)).collect();
-        if self.mood.tie && !free.is_empty() {
+        if (self.mood.tie || self.mood.clash) && !free.is_empty() {
             return self.random.pick(&free);
         }
-        self.fresh_card(hand)
+        self.fresh_card(table, hand, None)
     }
 
     /// The seat in turn folds, checks, calls or wagers.

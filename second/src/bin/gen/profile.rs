@@ -46,6 +46,8 @@ pub struct Profile {
     pub cut_end: u64,
     /// Four hole cards.
     pub four: u64,
+    /// The deck of 32, where there are two hole cards.
+    pub deck32: u64,
 }
 
 const CASH: Profile = Profile {
@@ -65,9 +67,10 @@ const CASH: Profile = Profile {
     bad_sheet: 0,
     cut_end: 20,
     four: 0,
+    deck32: 0,
 };
 
-pub static PROFILES: [Profile; 10] = [
+pub static PROFILES: [Profile; 11] = [
     CASH,
     Profile { name: "tiny", stacks: Stacks::Tiny, all_in: 20, fold: 5, churn: 30, ..CASH },
     Profile {
@@ -94,10 +97,11 @@ pub static PROFILES: [Profile; 10] = [
         ..CASH
     },
     Profile { name: "deserters", least_seats: 3, raise: 45, dead: 15, churn: 80, fold: 35, ..CASH },
-    Profile { name: "refusals", stacks: Stacks::Any, fault: 60, damage: 5, four: 30, ..CASH },
+    Profile { name: "refusals", stacks: Stacks::Any, fault: 60, damage: 5, four: 30, deck32: 40, ..CASH },
     Profile { name: "damage", fault: 5, damage: 60, cut_end: 100, ..CASH },
-    Profile { name: "sheets", bad_sheet: 80, damage: 10, four: 30, ..CASH },
+    Profile { name: "sheets", bad_sheet: 80, damage: 10, four: 30, deck32: 40, ..CASH },
     Profile { name: "four", fault: 10, fold: 6, raise: 10, four: 100, ..CASH },
+    Profile { name: "short", fault: 10, fold: 6, raise: 10, deck32: 100, ..CASH },
 ];
 
 impl Profile {
@@ -123,14 +127,17 @@ impl Profile {
         let some_step = random.of_any_size(1_000);
         let step = random.pick(&[1, 1_000, 5, some_step, some_step]);
         let game = if random.chance(self.four) { 4 } else { 2 };
+        let deck = if game == 2 && random.chance(self.deck32) { 32 } else { 52 };
+        let some_drop = random.of_any_size(1_000);
+        let drop = random.pick(&[0, 1_000, 1, some_drop, some_drop]);
         // A high commission would keep a table from ever reaching the limit.
         if self.stacks == Stacks::Million {
-            return [seats, small, big, random.between(0, 4), 1_000, step, game];
+            return [seats, small, big, random.between(0, 4), 1_000, step, game, deck, drop];
         }
         let (some_rate, some_cap) = (random.between(1, 99), random.of_any_size(1_000_000));
         let rate = random.pick(&[0, 100, 50, some_rate, some_rate]);
         let cap = random.pick(&[0, 1_000_000, 15, some_cap, some_cap]);
-        [seats, small, big, rate, cap, step, game]
+        [seats, small, big, rate, cap, step, game, deck, drop]
     }
 
     fn blinds(&self, random: &mut Random) -> (u64, u64) {
@@ -168,21 +175,26 @@ impl Profile {
     }
 }
 
-/// One number put just outside its range.
+/// One number put just outside its range, or a game that the deck has not.
 fn out_of_range(good: SheetNumbers, random: &mut Random) -> SheetNumbers {
-    let [seats, small, big, rate, cap, step, game] = good;
-    random.pick(&[
-        [1, small, big, rate, cap, step, game],
-        [11, small, big, rate, cap, step, game],
-        [seats, 0, big, rate, cap, step, game],
-        [seats, big + 1, big, rate, cap, step, game],
-        [seats, small, 10_001, rate, cap, step, game],
-        [seats, small, big, 101, cap, step, game],
-        [seats, small, big, rate, 1_000_001, step, game],
-        [seats, small, big, rate, cap, 0, game],
-        [seats, small, big, rate, cap, 1_001, game],
-        [seats, small, big, rate, cap, step, 0],
-        [seats, small, big, rate, cap, step, 3],
-        [seats, small, big, rate, cap, step, 5],
-    ])
+    let [_, _, big, ..] = good;
+    let places: [(usize, &[u64]); SHEET_KEYS.len()] = [
+        (0, &[1, 11]),
+        (1, &[0, big + 1]),
+        (2, &[10_001]),
+        (3, &[101]),
+        (4, &[1_000_001]),
+        (5, &[0, 1_001]),
+        (6, &[0, 3, 5]),
+        (7, &[0, 31, 33, 51, 53]),
+        (8, &[1_001]),
+    ];
+    let mut numbers = good;
+    if random.chance(10) {
+        (numbers[6], numbers[7]) = (4, 32);
+        return numbers;
+    }
+    let (place, bad) = random.pick(&places);
+    numbers[place] = random.pick(bad);
+    numbers
 }

@@ -1,5 +1,6 @@
 -- `banked::hands::hand_of` meets its contract. Assumes nothing.
 use Rattle.banked.specs.Hands.{handOf}
+use Rattle.cards.specs.Order.{rankingOf}
 use borrow.Author.Needs.{needs}
 use Rattle.banked.proofs.hands.hand_of.Statement.{statement}
 use Rattle.banked.proofs.hands.hand_of.Tie as tie
@@ -11,7 +12,7 @@ best-hand-requires : tie.Need-best-hand-requires
 best-hand-requires c κs = search needs
 
 returns : tie.Need-returns
-unfolding handOf
+unfolding handOf rankingOf
 returns c = c .best-hand .ensures
 
 pub hand-of-spec : {M : Type 1} → statement M

@@ -20,7 +20,7 @@ returns c =
     let s = c .before .before .before .before .before in
     let d = s .args .h .cards in
     let ld : length d ≡ 4 = search needs in
-    c .strength .ensures ∙ both-score (s .args .h .count) d (s .args .b .cards) (s .pre) ld (c .before .best-omaha .ensures)
+    c .strength .ensures ∙ both-score (s .args .deck) (s .args .h .count) d (s .args .b .cards) (s .pre) ld (c .before .best-omaha .ensures)
 
 pub four-score-spec : {M : Type 1} → statement M
 four-score-spec =

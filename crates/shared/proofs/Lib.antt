@@ -1,0 +1,2 @@
+-- Laws of a block at a table that shares a pool.
+pub mod Laws
