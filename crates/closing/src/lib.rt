@@ -28,7 +28,7 @@ pub fn put_start(out: &mut [u8], p: Pen, s: Sheet) -> Pen {
 
 fn put_start_on(out: &mut [u8], p: Pen, s: Sheet) -> Pen {
     let a = say2(out, p, b"", s.cap as u64, b" a hand, in steps of ", s.step as u64, b"; ");
-    let b = say(out, a, b"", s.game as u64, b" hole cards.</p>\n");
+    let b = say2(out, a, b"", s.game as u64, b" hole cards of a deck of ", s.deck as u64, b".</p>\n");
     put(out, b, b"<div class=\"row top\"><span>sitting</span><span>seat</span><span>brought</span><span>put in</span><span>paid</span><span>taken home or has</span><span></span></div>\n")
 }
 
@@ -150,8 +150,7 @@ fn put_table_on(out: &mut [u8], p: Pen, m: Notes) -> Pen {
 // The end of the page.
 pub fn put_evening(out: &mut [u8], p: Pen, m: Notes, t: Table) -> Pen {
     let cs = t.chairs;
-    let a = story::put_folded(out, p, m.refusing);
-    let l = put_all_there(out, a, m, cs);
+    let l = put_all_there(out, p, m, cs);
     let s = l.sums;
     let b = l.pen;
     put_close(out, b, s, m, lies_in(cs))

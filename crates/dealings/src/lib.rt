@@ -53,24 +53,24 @@ fn not_shown() -> Best {
     }
 }
 
-fn shown(h: cards::Hand) -> Best {
+fn shown(deck: u32, h: cards::Hand) -> Best {
     Best {
         shown: true,
         class: h.class,
         ranks: [h.r1, h.r2, h.r3, h.r4, h.r5],
-        score: cards::strength(h),
+        score: cards::strength(deck, h),
     }
 }
 
 // The best hand of a seat's cards with the board.
-fn best_of(game: u32, b: Board, h: Hole) -> Best {
+fn best_of(deck: u32, game: u32, b: Board, h: Hole) -> Best {
     let d = h.cards;
     let k = b.cards;
     if game == 4 {
-        return shown(cards::best_omaha(d, &k));
+        return shown(deck, cards::best_omaha(deck, d, &k));
     }
     let seven = [d[0], d[1], k[0], k[1], k[2], k[3], k[4]];
-    shown(cards::best_hand(&seven))
+    shown(deck, cards::best_hand(deck, &seven))
 }
 
 // A hand is looked at where it is live with all its cards, and more than one is live.
@@ -79,7 +79,7 @@ fn best_at(t: Table, c: Chair, alone: bool) -> Best {
     let h = c.hole;
     let full = laws::both(h.count as u32 == t.sheet.game, b.count == 5);
     if laws::both(laws::both(c.dealt.live, !alone), full) {
-        return best_of(t.sheet.game, b, h);
+        return best_of(t.sheet.deck, t.sheet.game, b, h);
     }
     not_shown()
 }

@@ -4,6 +4,7 @@ use accounts::Charges;
 use accounts::Sums;
 use chairs::Chair;
 use table::table::Table;
+ghost use Prim.Native.Nat.{_<_};
 
 // What is kept between two blocks: how many hands were opened; whether refused blocks are being folded away; of the open hand each seat's stack before, what it put in by
 // round (four times ten), and how its hand ended; the blocks by code, what hands were charged, the sums over the sittings that left, and each seat's account.
@@ -95,7 +96,9 @@ pub fn stacks_of(cs: [Chair; 10]) -> [u32; 10] {
 }
 
 // Where the rounds of a place are kept while so many board cards lie: before the flop, flop, turn, river.
-fn round_place(count: u8, i: usize) -> usize {
+fn round_place(count: u8, i: usize) -> usize
+    ensures { λ r. ⌜ r < 40 ⌝ }
+{
     if 9 < i {
         return 0;
     }
@@ -160,10 +163,13 @@ pub fn accounts_settled(m: Notes, cs: [Chair; 10], paid: [u32; 10]) -> Notes {
 
 // The notes of a hand that opens.
 pub fn opened(m: Notes, cs: [Chair; 10], hands: u64) -> Notes {
+    let before = stacks_of(cs);
+    let rounds = [0u32; 40];
+    let how = [0u8; 10];
     let mut notes = m;
     notes.hands = hands;
-    notes.before = stacks_of(cs);
-    notes.rounds = [0u32; 40];
-    notes.how = [0u8; 10];
+    notes.before = before;
+    notes.rounds = rounds;
+    notes.how = how;
     notes
 }

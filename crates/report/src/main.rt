@@ -1,4 +1,5 @@
 // The supervisor's page: a log on standard input, one HTML page on standard output, in constant memory.
+use desk::log::read_opening;
 use libc::STDIN_FILENO;
 use lines::Mark;
 use lines::gather;
@@ -14,7 +15,6 @@ use reporter::tell;
 use table::table::Table;
 use table::take::new_table;
 use text::sheet::Opening;
-use text::sheet::read_sheet;
 ghost use mathlib.Core.Path.{_≡_};
 ghost use Prim.Native.Nat.{_+_, _≤_, _<_};
 ghost use lib.ListN.{length};
@@ -38,7 +38,7 @@ fn take_sheet(g: Page, block: &[u8], out: &mut [u8]) -> Page
     let p = g.pen;
     let notes = g.notes;
     let t = g.table;
-    match read_sheet(block) {
+    match read_opening(block) {
         Opening::Bad => Page {
             opened: false,
             shut: true,
@@ -246,9 +246,10 @@ fn end(g: Page, m: Mark, buf: &[u8])
         written_out(&out, p);
         return;
     }
-    let a = dealings::put_unsettled(&mut out, p, notes, t);
-    let b = closing::put_evening(&mut out, a, notes, t);
-    written_out(&out, b);
+    let a = story::put_folded(&mut out, p, notes.refusing);
+    let b = dealings::put_unsettled(&mut out, a, notes, t);
+    let c = closing::put_evening(&mut out, b, notes, t);
+    written_out(&out, c);
 }
 
 fn main() {
