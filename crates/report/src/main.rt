@@ -18,7 +18,7 @@ use text::sheet::Opening;
 ghost use mathlib.Core.Path.{_≡_};
 ghost use Prim.Native.Nat.{_+_, _≤_, _<_};
 ghost use lib.ListN.{length};
-ghost use Rattle.lines.specs.Kept.{linesOf, keptMost, Room};
+ghost use Rattle.lines.specs.Kept.{keptMost, Room};
 ghost use Rattle.table.specs.Take.{Sound};
 
 // Between two blocks: whether the sheet was read, whether it was bad, the table, and what is noted.
@@ -91,6 +91,17 @@ fn take_lines(g: Page, block: &[u8], out: &mut [u8]) -> Page
     take_sheet(g, block, out)
 }
 
+// What is kept of unfinished lines: always fewer than are read together.
+fn unfinished(m: Mark, want: usize) -> Mark
+    requires { ⌜ Room m × (0 < want) ⌝ }
+    ensures { λ r. ⌜ Room r × (r .lines < want) ⌝ }
+{
+    if m.lines < want {
+        return m;
+    }
+    lines::empty()
+}
+
 // The page, what is kept of unfinished lines, and how far the part is read.
 struct Going {
     page: Page,
@@ -100,11 +111,12 @@ struct Going {
 
 // The bytes of a part up to the end of the sheet or of a block, which is told, or what is left of the part, which is kept.
 fn take_one(g: Page, m: Mark, buf: &mut [u8], part: &[u8], from: usize, out: &mut [u8]) -> Going
-    requires { ⌜ Sound (g .table) × Room m × (m .lines < linesOf (g .opened)) × (keptMost ≤ length (now buf)) × (from < length (now part)) ⌝ }
-    ensures { λ r. ⌜ Sound (r .page .table) × Room (r .mark) × (r .mark .lines < linesOf (r .page .opened)) × (from < r .from) × (r .from ≤ length (now (part .entry))) ⌝ }
+    requires { ⌜ Sound (g .table) × Room m × (keptMost ≤ length (now buf)) × (from < length (now part)) ⌝ }
+    ensures { λ r. ⌜ Sound (r .page .table) × Room (r .mark) × (from < r .from) × (r .from ≤ length (now (part .entry))) ⌝ }
 {
     let want = lines_of(g.opened);
-    let k = gather(buf, m, &part[from..], want);
+    let old = unfinished(m, want);
+    let k = gather(buf, old, &part[from..], want);
     let next = ahead(from, k.used, part);
     let mark = k.mark;
     if mark.lines < want {
@@ -133,8 +145,8 @@ struct Turn {
 
 // Tells every block that ends in this part of the input; what is written goes out at its end, and before where the buffer is full.
 fn take_part(g: Page, m: Mark, buf: &mut [u8], part: &[u8]) -> Turn
-    requires { ⌜ Sound (g .table) × Room m × (m .lines < linesOf (g .opened)) × (keptMost ≤ length (now buf)) ⌝ }
-    ensures { λ r. ⌜ Sound (r .page .table) × Room (r .mark) × (r .mark .lines < linesOf (r .page .opened)) ⌝ }
+    requires { ⌜ Sound (g .table) × Room m × (keptMost ≤ length (now buf)) ⌝ }
+    ensures { λ r. ⌜ Sound (r .page .table) × Room (r .mark) ⌝ }
 {
     let mut out = io::large_buffer();
     let mut page = g;
@@ -160,8 +172,8 @@ fn take_part(g: Page, m: Mark, buf: &mut [u8], part: &[u8]) -> Turn
 
 // One read, and what it says. A read that fails is taken for the end of the input.
 fn read_some(g: Page, m: Mark, buf: &mut [u8]) -> Turn
-    requires { ⌜ Sound (g .table) × Room m × (m .lines < linesOf (g .opened)) × (keptMost ≤ length (now buf)) ⌝ }
-    ensures { λ r. ⌜ Sound (r .page .table) × Room (r .mark) × (r .mark .lines < linesOf (r .page .opened)) ⌝ }
+    requires { ⌜ Sound (g .table) × Room m × (keptMost ≤ length (now buf)) ⌝ }
+    ensures { λ r. ⌜ Sound (r .page .table) × Room (r .mark) ⌝ }
 {
     let mut input = io::large_buffer();
     let got = libc::read(STDIN_FILENO, &mut input);
@@ -198,7 +210,7 @@ fn start() -> Page
 // Reads to the end of the input. A proved loop has to end, so it counts its turns down from a number that no run uses up.
 fn read_all(buf: &mut [u8]) -> Turn
     requires { ⌜ keptMost ≤ length (now buf) ⌝ }
-    ensures { λ r. ⌜ Sound (r .page .table) × Room (r .mark) × (r .mark .lines < linesOf (r .page .opened)) ⌝ }
+    ensures { λ r. ⌜ Sound (r .page .table) × Room (r .mark) ⌝ }
 {
     let mut page = start();
     let mut mark = lines::empty();
