@@ -2,4 +2,5 @@
 
 pub mod Tables
 pub mod Codes
+pub mod Folds
 pub mod ZeroSum

@@ -1,6 +1,7 @@
 -- "Player's gain plus house's gain is always zero", wager by wager, for any list of wagers, and round upon round: the player's gain is the chips that come back
 -- less the chips put in, the house's is its own books, stakes taken less prizes paid. What a fold loses. That a refused round changes nothing and pays nothing.
 -- Assumes nothing.
+-- two gains sum to zero: what comes to both is what goes from both
 use mathlib.Core.Path.{_≡_, refl}
 use mathlib.Core.Bool.{Bool, true, false}
 use mathlib.Core.List.{List, [], _∷_}
@@ -14,6 +15,7 @@ use Rattle.banked.specs.Fates.{anteFate, playFate, jackpotFate, extraFat
 use Rattle.banked.specs.Hands.{playersHand, dealersHand, dealersFlopHand, standingOf}
 use Rattle.banked.specs.Books.{Wager, Gain, andGain, back, backOf, takenOf, paidOf, playersGain, housesGain, playersGains, housesGains, netOf}
 use Rattle.banked.specs.Rounds.{isFold, stakesOf, backsOf, totalOf, settledOf, wagersOf, wagersWith, roundCode, Books, booksAfter, booksOf}
+use Rattle.banked.proofs.Folds.{none-staked}
 use Rattle.banked.specs.declared.Round.{Round}
 use Rattle.banked.specs.declared.Deal.{Deal}
 use Rattle.banked.specs.declared.Choice.the-variants.{Fold}
@@ -21,7 +23,6 @@ use Rattle.banked.specs.declared.judged.Seven.{Seven}
 use Rattle.banked.specs.declared.fates.Fate.{Fate}
 use Rattle.banked.specs.declared.fates.Fate.the-variants.{Lost, Returned, Odds, Times}
 
--- two gains sum to zero: what comes to both is what goes from both
 abbrev pub ZeroSum : Gain → Gain → Type 0
 ZeroSum g h = g .up + h .up ≡ g .down + h .down
 
@@ -80,13 +81,6 @@ pub record FoldLoses (r : Round) : Type 0 where
   pub dealer : settledOf r .backs .dealer ≡ backOf (dealerExtraFate (dealersFlopHand (r .deal))) (r .dealer)
   pub back : settledOf r .back ≡ backOf (dealerExtraFate (dealersFlopHand (r .deal))) (r .dealer)
   pub staked : settledOf r .staked ≡ r .ante + (r .jackpot + (r .extra + r .dealer))
-
-none-staked : (f : Fate) → backOf f 0 ≡ 0
-unfolding backOf
-none-staked Lost = refl
-none-staked Returned = refl
-none-staked (Odds n) = omega arith
-none-staked (Times n) = omega arith
 
 pub fold-loses : (r : Round) → r .choice ≡ Fold → FoldLoses r
 unfolding settledOf stakesOf backsOf totalOf anteFate jackpotFate extraFate backOf

@@ -16,6 +16,7 @@ use laws::chosen;
 use laws::either;
 use laws::short_of;
 ghost use mathlib.Core.Path.{_≡_};
+ghost use mathlib.Core.Bool.{true};
 ghost use Prim.Native.Nat.{_≤_};
 ghost use Rattle.banked.specs.Rounds.{isFold, stakesOf, backsOf, totalOf, settledOf, wrongNumber, roundCode, outcomeOf, codeOfOutcome, Most, Small, SmallOutcome, Bounded};
 
@@ -116,6 +117,37 @@ fn backs_of(s: Seven, folded: bool, d: Deal) -> Seven
     }
 }
 
+// What comes back after a fold: the ante, the jackpot wager and the player's extra are lost, nothing else was placed, and only the dealer's flop hand is
+// looked at.
+fn folded_backs(s: Seven, d: Deal) -> Seven
+    requires { ⌜ Most 100000 s × (s .flop ≡ 0) × (s .turn ≡ 0) × (s .river ≡ 0) ⌝ }
+    ensures { λ r. ⌜ (r ≡ backsOf s true d) × Most 100100000 r ⌝ }
+{
+    let flop = flop_hand_of(d.d1, d.d2, d);
+    Seven {
+        ante: 0,
+        flop: 0,
+        turn: 0,
+        river: 0,
+        jackpot: 0,
+        extra: 0,
+        dealer: back_of(extra_fate(false, flop), s.dealer),
+    }
+}
+
+// What comes back of each wager of a round.
+fn round_backs(r: Round, s: Seven) -> Seven
+    requires { ⌜ (s ≡ stakesOf r) × Most 100000 s ⌝ }
+    ensures { λ b. ⌜ (b ≡ backsOf (stakesOf r) (isFold (r .choice)) (r .deal)) × Most 100100000 b ⌝ }
+{
+    let d = r.deal;
+    let c = r.choice;
+    if is_fold(c) {
+        return folded_backs(s, d);
+    }
+    backs_of(s, false, d)
+}
+
 fn total(s: Seven) -> u32
     requires { ⌜ Most 100100000 s ⌝ }
     ensures { λ r. ⌜ (r ≡ totalOf s) × (r ≤ 800800000) ⌝ }
@@ -140,10 +172,8 @@ fn settled_of(r: Round) -> Settled
     requires { ⌜ Bounded r ⌝ }
     ensures { λ s. ⌜ (s ≡ settledOf r) × Small s ⌝ }
 {
-    let d = r.deal;
-    let c = r.choice;
     let stakes = stakes_of(r);
-    let backs = backs_of(stakes, is_fold(c), d);
+    let backs = round_backs(r, stakes);
     let staked = total(stakes);
     let back = total(backs);
     Settled {

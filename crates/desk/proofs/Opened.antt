@@ -19,15 +19,15 @@ pub lone-is : (s : Sheet) → isSheet s ≡ true → isSheet (lone s) ≡ true
 unfolding isSheet
 lone-is s e =
     subst (λ (b : Bool).
-        allOf
-        (between 2 10 (s .seats)
-        ∷ leb 1 (s .small)
-        ∷ leb (s .small) (s .big)
-        ∷ leb (s .big) 10000
-        ∷ allOf (leb (s .rate) 100 ∷ leb (s .cap) 1000000 ∷ between 1 1000 (s .step) ∷ b ∷ [])
-        ∷ dealtFrom (s .game) (s .deck)
-        ∷ [])
-        ≡ true)
+    allOf
+    (between 2 10 (s .seats)
+    ∷ leb 1 (s .small)
+    ∷ leb (s .small) (s .big)
+    ∷ leb (s .big) 10000
+    ∷ allOf (leb (s .rate) 100 ∷ leb (s .cap) 1000000 ∷ between 1 1000 (s .step) ∷ b ∷ [])
+    ∷ dealtFrom (s .game) (s .deck)
+    ∷ [])
+    ≡ true)
     (le-leb (s .drop) 1000 (good-ranged s e .drop)) e
 
 -- a good opening is the log's sheet with no drop

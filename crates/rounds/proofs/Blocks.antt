@@ -1,4 +1,5 @@
 -- Laws of reading a block: a line where it lies, and the numbers of the lines one after another. Assumes nothing.
+-- a part from a place on is all that follows
 use mathlib.Core.Path.{_≡_, refl, sym, ap, _∙_}
 use mathlib.Core.Bool.{Bool, true, false}
 use mathlib.Core.List.{List, [], _∷_, _++_, map, append-nil}
@@ -13,12 +14,11 @@ use lib.Seq.{drop-cons, drop-drop, take-all}
 use Rattle.laws.specs.Tests.{both, pick}
 use Rattle.laws.proofs.Places.{store-front}
 use Rattle.laws.proofs.Sums.{le-or-lt}
-use Rattle.text.specs.Line.{lineLen, afterLine, lineNumber}
+use Rattle.text.specs.Line.{lineLen, afterLine, afterLines, lineNumber}
 use Rattle.text.specs.TableSheet.{isValue, valueIn}
 use Rattle.text.specs.declared.Number.{Number}
 use Rattle.rounds.specs.RoundText.{keys, readings, allValues}
 
--- a part from a place on is all that follows
 pub rest-is : (l : List ℕ) (at : ℕ) → take (length l - at) (drop at l) ≡ drop at l
 rest-is l at = take-all (length l - at) (drop at l) (rw (length-drop at l) (le-refl _))
 
@@ -82,6 +82,16 @@ module _ (k : ℕ) (log next : List ℕ) (h : k < 16) (w : next ≡ afterLine lo
   value-turn a {v} {all} l e p =
       store-front a k v (map valueIn (readings (drop (k + 1) keys) next)) l
       ∙ rw (p, w) (ap (λ (xs : List Number). take k a ++ map valueIn xs) (sym (reads-on k log h)) ∙ e)
+
+-- ---- how many bytes the lines use up
+
+pub used-turn : (k : ℕ) (log next : List ℕ) {all : List ℕ} → k < 16 → next ≡ afterLine log → afterLines (16 - k) log ≡ all → afterLines (16 - (k + 1)) next ≡ all
+used-turn k log next h w e =
+    let m : 16 - k ≡ suc (16 - (k + 1)) = omega arith in
+    rw w (ap (λ (j : ℕ). afterLines j log) (sym m) ∙ e)
+
+pub used-done : (k : ℕ) (log : List ℕ) {all : List ℕ} → k ≡ 16 → afterLines (16 - k) log ≡ all → log ≡ all
+used-done k log e p = rw e at p
 
 reads-end : (log : List ℕ) → readings (drop 16 keys) log ≡ []
 unfolding readings

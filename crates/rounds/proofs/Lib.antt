@@ -4,3 +4,4 @@ pub mod Lengths
 pub mod Keeps
 pub mod Heard
 pub mod Whole
+pub mod InPlace

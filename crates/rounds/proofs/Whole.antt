@@ -43,14 +43,14 @@ reads-front (k ∷ ks) xs rest h =
     ∙ ap (λ (n : List Number). lineNumber k xs ∷ n) (reads-front ks (afterLine xs) rest (omega (arith, lfs-after xs (omega arith))))
 
 -- what is kept at the bytes raw is raw, cut
-kept-cut : (raw : List ℕ) → keepAll nothing raw .bytes ≡ cap 0 raw
+pub kept-cut : (raw : List ℕ) → keepAll nothing raw .bytes ≡ cap 0 raw
 kept-cut raw = kept-bytes nothing raw
 
 cut-answer : (l : List ℕ) → answerBytes (cap 0 l) ≡ answerBytes l
 cut-answer l = answer-same (cap 0 l) l (reads-cut keys l)
 
 -- the block that ends with b
-ended-answer : (raw bs : List ℕ) (b : ℕ) → 16 ≤ lfs (raw ++ (b ∷ [])) → answerBytes (cap 0 (raw ++ (b ∷ []))) ≡ answerBytes (raw ++ (b ∷ bs))
+pub ended-answer : (raw bs : List ℕ) (b : ℕ) → 16 ≤ lfs (raw ++ (b ∷ [])) → answerBytes (cap 0 (raw ++ (b ∷ []))) ≡ answerBytes (raw ++ (b ∷ bs))
 ended-answer raw bs b h =
     cut-answer (raw ++ (b ∷ []))
     ∙ answer-same (raw ++ (b ∷ [])) ((raw ++ (b ∷ [])) ++ bs) (sym (reads-front keys (raw ++ (b ∷ [])) bs h))
@@ -87,7 +87,7 @@ some : (raw bs : List ℕ) (b : ℕ) → 0 < length (raw ++ (b ∷ bs))
 some raw bs b = omega (arith, length-append raw (b ∷ bs))
 
 -- only an LF adds one to the LFs
-last-lf : (raw : List ℕ) (b : ℕ) → lfs raw < 16 → 16 ≤ lfs (raw ++ (b ∷ [])) → eqb b 10 ≡ true
+pub last-lf : (raw : List ℕ) (b : ℕ) → lfs raw < 16 → 16 ≤ lfs (raw ++ (b ∷ [])) → eqb b 10 ≡ true
 last-lf raw b h all = ⊎-elim (λ e. e) (λ e. absurd (omega (arith, lfs-append raw (b ∷ []), lfs-on b [] e))) (test (eqb b 10))
 
 -- a byte that ends a block

@@ -53,7 +53,7 @@ fn put_settled(sheet: &mut [u8], s: Settled) -> usize
     a + put_sums(&mut sheet[a..], s)
 }
 
-fn put_outcome(sheet: &mut [u8], o: Outcome) -> usize
+pub fn put_outcome(sheet: &mut [u8], o: Outcome) -> usize
     requires { ⌜ SmallOutcome o × (216 ≤ length (now sheet)) ⌝ }
     ensures { λ r. ⌜ Wrote (outcomeBytes o) (now (sheet .entry)) (now (sheet .exit)) r × (r ≤ 216) ⌝ }
 {
@@ -67,7 +67,7 @@ fn put_outcome(sheet: &mut [u8], o: Outcome) -> usize
 }
 
 // Sixteen numbers judged.
-fn judge(n: [u32; 16]) -> Outcome
+pub fn judge(n: [u32; 16]) -> Outcome
     ensures { λ o. ⌜ (o ≡ judgedOf n) × SmallOutcome o ⌝ }
 {
     if is_choice(n[4], n[5], n[6]) {

@@ -1,8 +1,14 @@
 // Blocks that come in parts: the unfinished block is kept, each line cut after 33 bytes, and answered at its sixteenth LF.
 use crate::answering::answer;
+use crate::answering::judge;
+use crate::answering::put_outcome;
+use crate::reading::read_numbers;
+use laws::both;
 ghost use mathlib.Core.Path.{_≡_};
 ghost use Prim.Native.Nat.{_≤_, _<_};
+ghost use lib.Dec.{eqb};
 ghost use lib.ListN.{length, drop};
+ghost use Rattle.laws.specs.Tests.{both};
 ghost use Rattle.writing.specs.Sheet.{Wrote};
 ghost use Rattle.rounds.specs.RoundParts.{stateOf, keepOf, gatherOf, Room, Held, keptAfter, bytesAfter, closeBytes};
 
@@ -81,8 +87,8 @@ pub struct Fed {
     pub written: usize,
 }
 
-// The bytes of a part up to the end of a block, which is answered, or all of them, which are kept.
-pub fn feed(m: Mark, buf: &mut [u8], part: &[u8], out: &mut [u8]) -> Fed
+// The bytes of a part by way of the buffer: up to the end of a block, which is answered, or all of them, which are kept.
+fn feed_kept(m: Mark, buf: &mut [u8], part: &[u8], out: &mut [u8]) -> Fed
     requires { ⌜ Held m × (544 ≤ length (now buf)) × (216 ≤ length (now out)) ⌝ }
     ensures left { λ r. ⌜ drop (r .used) (now (part .entry)) ≡ gatherOf (stateOf m (now (buf .entry))) (now (part .entry)) .left ⌝ }
     ensures kept { λ r. ⌜ stateOf (r .mark) (now (buf .exit)) ≡ keptAfter (gatherOf (stateOf m (now (buf .entry))) (now (part .entry)) .kept) ⌝ }
@@ -107,6 +113,39 @@ pub fn feed(m: Mark, buf: &mut [u8], part: &[u8], out: &mut [u8]) -> Fed
         used: g.used,
         written,
     }
+}
+
+// Whether nothing is kept.
+fn is_empty(m: Mark) -> bool
+    ensures { λ r. ⌜ r ≡ both (eqb (m .count) 0) (both (eqb (m .lines) 0) (eqb (m .width) 0)) ⌝ }
+{
+    both(m.count == 0, both(m.lines == 0, m.width == 0))
+}
+
+// The bytes of a part up to the end of a block, which is answered, or all of them, which are kept. A well-formed block that lies whole at the front of the
+// part, behind nothing that is kept, is answered where it lies.
+pub fn feed(m: Mark, buf: &mut [u8], part: &[u8], out: &mut [u8]) -> Fed
+    requires { ⌜ Held m × (544 ≤ length (now buf)) × (216 ≤ length (now out)) ⌝ }
+    ensures left { λ r. ⌜ drop (r .used) (now (part .entry)) ≡ gatherOf (stateOf m (now (buf .entry))) (now (part .entry)) .left ⌝ }
+    ensures kept { λ r. ⌜ stateOf (r .mark) (now (buf .exit)) ≡ keptAfter (gatherOf (stateOf m (now (buf .entry))) (now (part .entry)) .kept) ⌝ }
+    ensures wrote { λ r. ⌜ Wrote (bytesAfter (gatherOf (stateOf m (now (buf .entry))) (now (part .entry)) .kept)) (now (out .entry)) (now (out .exit)) (r .written) ⌝ }
+    ensures held { λ r. ⌜ Held (r .mark) × (r .used ≤ length (now (part .entry))) × (0 < length (now (part .entry)) → 0 < r .used) × (r .written ≤ 216) ⌝ }
+{
+    if is_empty(m) {
+        let s = read_numbers(part);
+        if s.good {
+            let n = s.numbers;
+            let used = s.used;
+            let written = put_outcome(out, judge(n));
+            let z = empty();
+            return Fed {
+                mark: z,
+                used,
+                written,
+            };
+        }
+    }
+    feed_kept(m, buf, part, out)
 }
 
 // The end of the input: a block that is not whole is answered too.

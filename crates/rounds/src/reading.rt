@@ -12,7 +12,7 @@ ghost use mathlib.Core.Path.{_≡_};
 ghost use mathlib.Core.List.{[], map};
 ghost use Prim.Native.Nat.{_+_, _≤_, _<_, min};
 ghost use lib.ListN.{length, getD, take, drop};
-ghost use Rattle.text.specs.Line.{afterLine, lineNumber};
+ghost use Rattle.text.specs.Line.{afterLine, afterLines, lineNumber};
 ghost use Rattle.text.specs.TableSheet.{isValue, valueIn};
 ghost use Rattle.rounds.specs.RoundText.{keys, readings, allValues, isChoice, choiceOf, cardIn, dealOf, roundOf};
 
@@ -87,14 +87,15 @@ fn read_line(block: &[u8], at: usize, k: usize) -> Line
     }
 }
 
-// The numbers of a block, and whether the form of every line is good.
+// The numbers of a block, whether the form of every line is good, and how many bytes the lines use up.
 pub struct Sixteen {
     pub good: bool,
     pub numbers: [u32; 16],
+    pub used: usize,
 }
 
 pub fn read_numbers(block: &[u8]) -> Sixteen
-    ensures { λ r. ⌜ (r .good ≡ allValues (readings keys (now (block .entry)))) × (r .numbers ≡ map valueIn (readings keys (now (block .entry)))) ⌝ }
+    ensures { λ r. ⌜ (r .good ≡ allValues (readings keys (now (block .entry)))) × (r .numbers ≡ map valueIn (readings keys (now (block .entry)))) × (drop (r .used) (now (block .entry)) ≡ afterLines 16 (now (block .entry))) × (r .used ≤ length (now (block .entry))) ⌝ }
 {
     let mut numbers = [0u32; 16];
     let mut good = true;
@@ -107,7 +108,11 @@ pub fn read_numbers(block: &[u8]) -> Sixteen
         at = l.next;
         k += 1;
     }
-    Sixteen { good, numbers }
+    Sixteen {
+        good,
+        numbers,
+        used: at,
+    }
 }
 
 // Whether the three numbers are a choice: each 0 or 1, and no turn or river wager behind a fold.

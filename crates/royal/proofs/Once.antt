@@ -25,6 +25,7 @@ use Rattle.chairs.specs.declared.Chair.{Chair}
 use Rattle.table.specs.Settle.{isShown}
 use Rattle.table.specs.declared.table.Board.{Board}
 use Rattle.royal.specs.Royal.{isRoyal, anyRoyal, royalIn, holdsRoyal, royalSeats}
+use Rattle.royal.proofs.Laws.{first-false, lower}
 use Rattle.royal.specs.Apart.{heldTimes, Once}
 
 -- ---- the five ranks of a royal flush
@@ -88,13 +89,11 @@ top-down os l = go (isWheel 2 os)
     go true r t = absurd (omega (arith, t))
     go false r t = five-down os l r t
 
-past-zero : (n : ℕ) → eqb (suc n) 0 ≡ true → ⊥
-past-zero n e = omega (arith, eqb-true (suc n) 0 e)
+first-true : (b : Bool) (l : List Bool) → eqb (first (b ∷ l)) 0 ≡ true → b ≡ true
+first-true b l e = ⊎-elim (λ (p : b ≡ true). p) (λ (p : b ≡ false). absurd (false≢true (sym (first-false b l p) ∙ e))) (test b)
 
 straight-flush : (st fl : Bool) (mo ne : ℕ) → eqb (first (tests st fl mo ne)) 0 ≡ true → (st ≡ true) × (fl ≡ true)
-straight-flush true true mo ne e = (refl, refl)
-straight-flush true false mo ne e = absurd (past-zero _ e)
-straight-flush false fl mo ne e = absurd (past-zero _ e)
+straight-flush st fl mo ne e = both-true st fl (first-true (both st fl) (lower st fl mo ne) e)
 
 pub record Royal (m : List ℕ) : Type 0 where
   pub ranks : ordered (map rank m) ≡ top
@@ -130,8 +129,8 @@ ranked r k s (c ∷ l) e h = omega (arith, ranked r k s l e (h .1), go)
     go =
         ⊎-elim
         (λ (p : eqb r (rank c) ≡ true).
-            let q : k + s ≡ c = omega (arith, eqb-true r (rank c) p, e, h .0, div-add-mod c 4) in
-            omega (arith, ap one p, ap one (eq-eqb (k + s) c q)))
+        let q : k + s ≡ c = omega (arith, eqb-true r (rank c) p, e, h .0, div-add-mod c 4) in
+        omega (arith, ap one p, ap one (eq-eqb (k + s) c q)))
         (λ (p : eqb r (rank c) ≡ false). omega (arith, ap one p))
         (test (eqb r (rank c)))
 
@@ -195,7 +194,7 @@ past-ten : (s c : ℕ) → s < 4 → eqb (32 + s) c ≡ false → ones s c ≤ o
 past-ten s c h z =
     ⊎-elim
     (λ (p : eqb (36 + s) c ≡ true).
-        omega (arith, ap one z, ap one p, miss 40 36 s c p (λ e. omega arith), miss 44 36 s c p (λ e. omega arith), miss 48 36 s c p (λ e. omega arith), hit 9 s c h p))
+    omega (arith, ap one z, ap one p, miss 40 36 s c p (λ e. omega arith), miss 44 36 s c p (λ e. omega arith), miss 48 36 s c p (λ e. omega arith), hit 9 s c h p))
     (λ (p : eqb (36 + s) c ≡ false). omega (arith, ap one z, ap one p, past-jack s c h))
     (test (eqb (36 + s) c))
 
@@ -203,7 +202,7 @@ is-one : (s c : ℕ) → s < 4 → ones s c ≤ one (eqb s (suit c))
 is-one s c h =
     ⊎-elim
     (λ (p : eqb (32 + s) c ≡ true).
-        omega (arith, ap one p, miss 36 32 s c p (λ e. omega arith), miss 40 32 s c p (λ e. omega arith), miss 44 32 s c p (λ e. omega arith), miss 48 32 s c p (λ e. omega arith), hit 8 s c h p))
+    omega (arith, ap one p, miss 36 32 s c p (λ e. omega arith), miss 40 32 s c p (λ e. omega arith), miss 44 32 s c p (λ e. omega arith), miss 48 32 s c p (λ e. omega arith), hit 8 s c h p))
     (λ (p : eqb (32 + s) c ≡ false). past-ten s c h p)
     (test (eqb (32 + s) c))
 
@@ -231,7 +230,7 @@ two-suits s r (c ∷ l) n = omega (arith, two-suits s r l n, go)
         (λ (p : eqb s (suit c) ≡ false). omega (arith, ap one p, one-most (eqb r (suit c))))
         (test (eqb s (suit c)))
 
-count-append : (x : ℕ) (l m : List ℕ) → count x (l ++ m) ≡ count x l + count x m
+pub count-append : (x : ℕ) (l m : List ℕ) → count x (l ++ m) ≡ count x l + count x m
 count-append x [] m = omega arith
 count-append x (c ∷ l) m = omega (arith, count-append x l m)
 

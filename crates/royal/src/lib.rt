@@ -40,18 +40,10 @@ fn is_royal(a: u8, b: u8, c: u8, d: u8, e: u8) -> bool
 }
 
 // Whether two cards are a royal flush with some three of the board.
-fn with_two(x: u8, y: u8, k: [u8; 5]) -> bool
-    ensures { λ r. ⌜ r ≡ anyRoyal (map (λ q. (x ∷ y ∷ []) ++ q) (choices 3 k)) ⌝ }
+fn with_five(x: u8, y: u8, a: u8, b: u8, c: u8, d: u8, e: u8) -> bool
+    ensures { λ r. ⌜ r ≡ anyRoyal (map (λ q. (x ∷ y ∷ []) ++ q) (choices 3 (a ∷ b ∷ c ∷ d ∷ e ∷ []))) ⌝ }
 {
-    let a = k[0];
-    let b = k[1];
-    let c = k[2];
-    let d = k[3];
-    let e = k[4];
-    let with_c = either(
-        is_royal(x, y, b, d, e),
-        is_royal(x, y, c, d, e),
-    );
+    let with_c = either(is_royal(x, y, b, d, e), is_royal(x, y, c, d, e));
     let with_b = either(
         is_royal(x, y, b, c, d),
         either(is_royal(x, y, b, c, e), with_c),
@@ -68,6 +60,12 @@ fn with_two(x: u8, y: u8, k: [u8; 5]) -> bool
             either(is_royal(x, y, a, b, e), with_a),
         ),
     )
+}
+
+fn with_two(x: u8, y: u8, k: [u8; 5]) -> bool
+    ensures { λ r. ⌜ r ≡ anyRoyal (map (λ q. (x ∷ y ∷ []) ++ q) (choices 3 k)) ⌝ }
+{
+    with_five(x, y, k[0], k[1], k[2], k[3], k[4])
 }
 
 // Two hole cards.
@@ -87,15 +85,15 @@ fn four_royal(b: Board, h: Hole) -> bool
 {
     let d = h.cards;
     let k = b.cards;
-    let with_3 = either(
-        with_two(d[1], d[3], k),
-        with_two(d[2], d[3], k),
-    );
+    let with_3 = either(with_two(d[1], d[3], k), with_two(d[2], d[3], k));
     let with_2 = either(
         with_two(d[0], d[3], k),
         either(with_two(d[1], d[2], k), with_3),
     );
-    either(with_two(d[0], d[1], k), either(with_two(d[0], d[2], k), with_2))
+    either(
+        with_two(d[0], d[1], k),
+        either(with_two(d[0], d[2], k), with_2),
+    )
 }
 
 fn royal_in(game: u32, b: Board, h: Hole) -> bool

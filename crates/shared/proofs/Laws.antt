@@ -22,7 +22,13 @@ use Rattle.pool.specs.declared.Pool.{Pool}
 use Rattle.pool.specs.declared.Hand.{Hand}
 use Rattle.pool.specs.declared.Settled.{Settled}
 use Rattle.pool.proofs.Hands.{hand-most}
-use Rattle.amends.specs.Righting.{isRight}
+use Rattle.amends.specs.Righting.{rightKey, isRight}
+use Rattle.amends.proofs.Judging.{right-small}
+use Rattle.paper.specs.Paper.{isGame}
+use Rattle.paper.proofs.Sheets.{good-ranged}
+use Rattle.text.specs.Line.{lineNumber}
+use Rattle.text.specs.TableSheet.{valueIn}
+use Rattle.text.specs.declared.Number.{Number}
 use Rattle.desk.specs.Desk.{shownOf, refusedAt, judgedOf, SmallPaid, Closed}
 use Rattle.desk.specs.declared.Judged.{Judged}
 use Rattle.desk.proofs.Laws.{small-none, writes-none, keeps-all}
@@ -52,8 +58,15 @@ unfolding judgedAt
 judged-any t log p q f =
     (f .0 ∙ sym (ap (λ (z : Bool). pick z (refusedAt t (correctedNumber log) sharesPool) (judgedOf t log)) (sym p ∙ q)), f .1, f .2, f .3, log-closed t log (f .0))
 
+-- the number of a correction has nine digits at most
+pub corrected-is : (log : List ℕ) {n : Number} {r : ℕ} → n ≡ lineNumber rightKey log → r ≡ valueIn n → (r ≡ correctedNumber log) × (r < 10 ^ 9)
+corrected-is log e f = (f ∙ ap valueIn e, omega (arith, f, right-small log e))
+
 -- ---- the hand
-pub hand-settled : (t : Table) (j : Judged) {d : ℕ} {b : Bool} → j .payout .settled ≡ true → b ≡ royalNow t
+pub sound-game : (t : Table) → Sound t → isGame (t .sheet .game) ≡ true
+sound-game t h = good-ranged (t .sheet) (h .payable .sheet) .game
+
+pub hand-settled : (t : Table) (j : Judged) {b : Bool} → j .payout .settled ≡ true → b ≡ royalNow t
     → _≡_ {A = Hand} (record { drop = j .payout .drop; royal = b }) (handOf t j)
 unfolding handOf
 hand-settled t j p e =
@@ -79,11 +92,21 @@ shown-small s amount m l = record {
   payout = record { fee = m .payout .fee; jackpot = l; rows = m .payout .rows; unclaimed = m .payout .unclaimed };
 }
 
+pub shown-is : (j : Judged) (amount : ℕ) {s r : Shown} → s ≡ shownOf (j .n) (j .code) (j .table) (j .payout) → (r ≡ withJackpot amount s) × Small r
+    → (r ≡ shownAt j amount) × Small r
+shown-is j amount e f = (f .0 ∙ ap (withJackpot amount) e, f .1)
+
 pub won-small : (p : Pool) (h : Hand) {s : Settled} → p .held ≤ most → s ≡ settledPool p h → s .jackpot < 10 ^ 9
 won-small p h {s} l e = omega (arith, ap (λ (x : Settled). x .jackpot) e, hand-most p h l .1)
 
 pub pool-small : (p : Pool) (h : Hand) {s : Settled} → p .held ≤ most → s ≡ settledPool p h → s .pool .held ≤ most
 pool-small p h {s} l e = omega (arith, ap (λ (x : Settled). x .pool .held) e, hand-most p h l .0)
+
+pub said-fit : {u t : Table} {q p : Pool} → u ≡ t → q ≡ p → Sound t → p .held ≤ most → Sound u × (q .held ≤ most)
+said-fit e f a b = (subst Sound (sym e) a, subst (λ (x : Pool). x .held ≤ most) (sym f) b)
+
+pub kept-fit : {b : Bool} {t : Table} {p : Pool} {r : SharedAnswer} → r ≡ kept b t p → Sound t → p .held ≤ most → Sound (r .table) × (r .pool .held ≤ most)
+kept-fit {b} {t} {p} {r} e a l = (subst (λ (x : SharedAnswer). Sound (x .table)) (sym e) a, subst (λ (x : SharedAnswer). x .pool .held ≤ most) (sym e) l)
 
 -- ---- answered
 module _ (t : Table) (p : Pool) (log sheet : List ℕ) {j : Judged} {s : Settled} {h : Hand} (ej : j ≡ judgedAt t log) (eh : h ≡ handOf t j) (es : s ≡ settledPool p h) where
@@ -130,10 +153,10 @@ module _ (t : Table) (p : Pool) (log sheet : List ℕ) {j : Judged} {s : Settled
         (sym (keeps-all sheet) ∙ ap (λ (x : List ℕ). sheetAfter x sheet) (sym none), z),
       )
 
-  -- the size said beforehand
-  pub room-some : {v : Shown} {r : ℕ} → j .block ≡ true → v ≡ shownAt j (s .jackpot) → r ≡ length (answerBytes v) → r ≡ roomAt t p log
-  unfolding roomAt
-  room-some b e f = f ∙ ap length (shown-bytes b e)
+pub room-some : (t : Table) (p : Pool) (log : List ℕ) {j : Judged} {s : Settled} {h : Hand} {v : Shown} {r : ℕ} → j ≡ judgedAt t log → h ≡ handOf t j → s ≡ settledPool p h
+    → j .block ≡ true → v ≡ shownAt j (s .jackpot) → r ≡ length (answerBytes v) → r ≡ roomAt t p log
+unfolding roomAt
+room-some t p log ej eh es b e f = f ∙ ap length (shown-bytes t p log [] ej eh es b e)
 
 pub room-none : (t : Table) (p : Pool) (log : List ℕ) {j : Judged} → j ≡ judgedAt t log → j .block ≡ false → 0 ≡ roomAt t p log
 unfolding roomAt bytesAt

@@ -89,8 +89,10 @@ fn with_jackpot(s: Shown, amount: u32) -> Shown
         shared: true,
         amount,
     };
+    let mut p = s.payout;
+    p.jackpot = won;
     let mut u = s;
-    u.payout.jackpot = won;
+    u.payout = p;
     u
 }
 

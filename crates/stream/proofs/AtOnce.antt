@@ -140,11 +140,11 @@ sheet-whole room log h =
     ∙ opened-onward room (openedOf log) log
 
 pub heard-at-once : (room : ℕ) (log : List ℕ) → closed room (onward room Unread nothing log) ≡ atOnce room log
-unfolding atOnce
+unfolding atOnce openedOf
 heard-at-once room log = ⊎-elim
     (λ h. sheet-whole room log h)
     (λ h. ap (closed room) (open-onward room Unread log refl h) ∙ bad-whole h)
     (le-or-lt sheetLines (lfs log))
   where
     bad-whole : lfs log < sheetLines → openOf room Bad ≡ atOnce room log
-    bad-whole h = ap (λ (o : Opening). atOnceFrom room o log) (sym (sheet-open log h))
+    bad-whole h = ap (λ (o : Opening). atOnceFrom room (loneOpening o) log) (sym (sheet-open log h))

@@ -11,6 +11,7 @@ use Rattle.lines.proofs.Cut.{lfs}
 use Rattle.text.specs.TableSheet.{sheetLines, sheetOf}
 use Rattle.text.specs.declared.sheet.Opening.{Opening}
 use Rattle.text.specs.declared.sheet.Opening.the-variants.{Bad}
+use Rattle.desk.specs.Log.{loneOpening, openedOf}
 use Rattle.lines.proofs.Bad.{bad-block, bad-sheet}
 use Rattle.paper.specs.RefusalNumbers.{malformed}
 use Rattle.table.specs.declared.table.Table.{Table}
@@ -32,7 +33,8 @@ open-silent room t raw h = open-onward room (Open t) raw refl h
 -- the sheet's lines likewise: 11, and the box is shut; and before its last LF nothing
 pub bad-is-11 : (room : ℕ) (raw : List ℕ) → keepAll nothing raw .bad ≡ true → lfs raw ≤ sheetLines → afterLines sheetLines raw ≡ []
     → linesDone room Unread raw ≡ openOf room Bad
-bad-is-11 room raw h l e = ap (openOf room) (bad-sheet raw h l e)
+unfolding openedOf
+bad-is-11 room raw h l e = ap (λ (o : Opening). openOf room (loneOpening o)) (bad-sheet raw h l e)
 
 pub sheet-silent : (room : ℕ) (raw : List ℕ) → lfs raw < sheetLines → onward room Unread nothing raw ≡ still Unread (keepAll nothing raw)
 sheet-silent room raw h = open-onward room Unread raw refl h

@@ -1,7 +1,7 @@
 -- `four_royal` meets its contract: the six pairs. Assumes nothing.
-use mathlib.Core.Path.{_≡_}
+use mathlib.Core.Path.{_≡_, sym, _∙_}
 use lib.ListN.{length}
-use Rattle.royal.proofs.Laws.{four-hole}
+use Rattle.royal.proofs.Laws.{four-hole, six-either}
 use borrow.Author.Needs.{needs}
 use Rattle.royal.proofs.four_royal.Statement.{statement}
 use Rattle.royal.proofs.four_royal.Tie as tie
@@ -80,7 +80,8 @@ returns c =
     let s = c .before .before .before .before .before .before .before .before .before .before .before .before .before in
     let d = s .args .h .cards in
     let ld : length d ≡ 4 = search needs in
-    rw (four-hole (s .args .h .count) d (s .args .b .cards) (s .pre) ld) (cc)
+    six-either (c .before .before .before .with-two5 .ensures) (c .before .before .with-two6 .ensures) (c .before .before .before .before .before .before .before .with-two3 .ensures) (c .before .before .before .before .before .before .with-two4 .ensures) (c .before .before .before .before .before .before .before .before .before .before .with-two .ensures) (c .before .before .before .before .before .before .before .before .before .with-two2 .ensures) (c .before .before .before .before .before .before .before .before .either .ensures) (c .before .before .before .before .before .either2 .ensures) (c .before .before .before .before .either3 .ensures) (c .before .either4 .ensures) (c .either5 .ensures)
+    ∙ sym (four-hole (s .args .h .count) d (s .args .b .cards) (s .pre) ld)
 
 pub four-royal-spec : {M : Type 1} → statement M
 four-royal-spec =

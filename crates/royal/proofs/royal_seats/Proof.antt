@@ -1,13 +1,14 @@
 -- The invariant: what is counted so far and what the rest counts make the whole count. Assumes nothing.
+use borrow.Author.Needs.{needs}
 use mathlib.Core.Path.{_≡_, ap, _∙_}
-use mathlib.Core.List.{[]}
 use Prim.Native.Nat.{_+_, _-_, _≤_}
 use native.Mathlib.Omega.{arith}
-use lib.ListN.{length, drop, drop-of-length-le}
+use lib.ListN.{length, drop}
 use Rattle.laws.specs.Tests.{one}
 use Rattle.chairs.specs.Chairs.{countOf}
 use Rattle.chairs.proofs.Laws.{unread, count-step}
 use Rattle.royal.specs.Royal.{holdsRoyal, royalSeats}
+use Rattle.royal.proofs.Laws.{count-done}
 use Rattle.royal.proofs.Once.{one-most}
 use Rattle.royal.proofs.royal_seats.Statement.{statement}
 use Rattle.royal.proofs.royal_seats.Tie as tie
@@ -47,8 +48,8 @@ loop-again c =
     let a = c .before .before .before .before .before .args in
     let p = holdsRoyal (a .game) (a .b) in
     let i = c .before .before .before .before .loop .i in
-    let len : length (a .t1) ≡ 10 = search needs in
-    let st = count-step p (a .t1) i unread (omega arith) in
+    let len : length (a .t3) ≡ 10 = search needs in
+    let st = count-step p (a .t3) i unread (omega arith) in
     let e = c .one .ensures ∙ ap one (c .before .holds-royal .ensures) in
     (omega arith, omega (arith, c .one .ensures, one-most (c .before .holds-royal .result)), omega (arith, e, st))
 
@@ -57,9 +58,8 @@ unfolding royalSeats
 returns c =
     let a = c .before .before .args in
     let p = holdsRoyal (a .game) (a .b) in
-    let len : length (a .t1) ≡ 10 = search needs in
-    let e : drop (c .before .loop .i) (a .t1) ≡ [] = drop-of-length-le _ _ (omega arith) in
-    omega (arith, ap (countOf p) e)
+    let len : length (a .t3) ≡ 10 = search needs in
+    omega (arith, count-done p (a .t3) (c .before .loop .i) (omega arith))
 
 pub royal-seats-spec : {M : Type 1} → statement M
 royal-seats-spec =

@@ -38,6 +38,11 @@ const TIE_BOARDS_FROM: Card = 32;
 /// with it and some a full house.
 const CLASH_BOARD: [Card; 5] = [20, 24, 32, 33, 45];
 
+/// Of that suit, or of a rank that lies there.
+fn joins_clash(card: Card) -> bool {
+    card % 4 == 0 || CLASH_BOARD.iter().any(|lies| lies / 4 == card / 4)
+}
+
 /// Might leave. Who has won much stays, or no table would ever be full.
 fn is_restless(table: &Table, seat: Seat) -> bool {
     table.chairs[seat].is_some() && table.stack(seat) < GREAT_STACK
@@ -150,7 +155,12 @@ impl Player {
         let free = |card: &Card| !hand.has_card(*card) && but != Some(*card);
         let free: Vec<Card> = cards_of(table.sheet.deck).filter(free).collect();
         let low: Vec<Card> = free.iter().copied().filter(|card| *card < TIE_BOARDS_FROM).collect();
-        self.random.pick(if self.mood.tie && !low.is_empty() { &low } else { &free })
+        let hot: Vec<Card> = free.iter().copied().filter(|card| joins_clash(*card)).collect();
+        match self.mood {
+            Mood { clash: true, .. } if !hot.is_empty() && self.random.chance(60) => self.random.pick(&hot),
+            Mood { tie: true, .. } if !low.is_empty() => self.random.pick(&low),
+            _ => self.random.pick(&free),
+        }
     }
 
     fn board_card(&mut self, table: &Table, hand: &Hand) -> Card {

@@ -1,6 +1,5 @@
--- `banked::judged::settled_of` meets its contract. Assumes nothing.
-use Rattle.banked.specs.Rounds.{settledOf}
 use native.Mathlib.Omega.{arith}
+use Rattle.banked.specs.Rounds.{settledOf}
 use borrow.Author.Needs.{needs}
 use Rattle.banked.proofs.judged.settled_of.Statement.{statement}
 use Rattle.banked.proofs.judged.settled_of.Tie as tie
@@ -8,11 +7,8 @@ use Rattle.banked.proofs.judged.settled_of.Tie as tie
 stakes-of-requires : tie.Need-stakes-of-requires
 stakes-of-requires c κs = search needs
 
-is-fold-requires : tie.Need-is-fold-requires
-is-fold-requires c κs = search needs
-
-backs-of-requires : tie.Need-backs-of-requires
-backs-of-requires c κs = search needs
+round-backs-requires : tie.Need-round-backs-requires
+round-backs-requires c κs = search needs
 
 total-requires : tie.Need-total-requires
 total-requires c κs = search needs
@@ -29,9 +25,9 @@ short-of-requires-2 c κs = search needs
 returns : tie.Need-returns
 unfolding settledOf
 returns c = (
-  rw (c .short-of2 .ensures, c .before .short-of .ensures, c .before .before .total2 .ensures .0, c .before .before .before .total .ensures .0, c .before .before .before .before .backs-of .ensures .0, c .before .before .before .before .before .is-fold .ensures, c .before .before .before .before .before .before .stakes-of .ensures .0),
+  rw (c .short-of2 .ensures, c .before .short-of .ensures, c .before .before .total2 .ensures .0, c .before .before .before .total .ensures .0, c .before .before .before .before .round-backs .ensures .0, c .before .before .before .before .before .stakes-of .ensures .0),
   record {
-    backs = c .before .before .before .before .backs-of .ensures .1;
+    backs = c .before .before .before .before .round-backs .ensures .1;
     staked = c .before .before .before .total .ensures .1;
     back = c .before .before .total2 .ensures .1;
     won = omega (arith, c .before .short-of .ensures, c .before .before .total2 .ensures .1);
@@ -44,8 +40,7 @@ settled-of-spec =
     tie.close
     (tie.spec
     stakes-of-requires
-    is-fold-requires
-    backs-of-requires
+    round-backs-requires
     total-requires
     total-requires-2
     short-of-requires
