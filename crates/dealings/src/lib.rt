@@ -3,6 +3,7 @@ use chairs::Chair;
 use chairs::Hole;
 use notes::Notes;
 use page::pen::Pen;
+use page::pen::say2;
 use section::Hand;
 use section::Part;
 use spots::Chips;
@@ -10,6 +11,12 @@ use table::table::Board;
 use table::table::Payout;
 use table::table::Table;
 ghost use Rattle.table.specs.Take.{Sound};
+
+// The heading, which a link can name.
+pub fn put_opening(out: &mut [u8], p: Pen, hand: u64, n: u32, puck: u32) -> Pen {
+    let a = say2(out, p, b"<section>\n<h2 id=\"hand-", hand, b"\">Hand ", hand, b"</h2>\n<p><b>");
+    say2(out, a, b"", n as u64, b"</b> the puck is at seat ", puck as u64, b"; dealt in:</p>\n")
+}
 
 // Who is dealt in at a place.
 fn put_dealt(out: &mut [u8], p: Pen, t: Table, u: Table, i: usize) -> Pen {

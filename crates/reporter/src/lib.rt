@@ -145,7 +145,7 @@ fn take_entry(out: &mut [u8], p: Pen, m: Notes, t: Table, e: Event) -> Noted {
 fn open_hand(out: &mut [u8], p: Pen, m: Notes, t: Table, u: Table, e: Event) -> Noted {
     let cs = t.chairs;
     let hands = accounts::added(m.hands, 1);
-    let a = section::put_opening(out, p, hands, e.n, e.seat);
+    let a = dealings::put_opening(out, p, hands, e.n, e.seat);
     let pen = dealings::put_all_dealt(out, a, t, u);
     let notes = notes::opened(m, cs, hands);
     Noted { notes, pen }

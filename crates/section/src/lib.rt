@@ -42,12 +42,6 @@ pub struct Hand {
     pub unclaimed: u32,
 }
 
-// The heading, which a link can name.
-pub fn put_opening(out: &mut [u8], p: Pen, hand: u64, n: u32, puck: u32) -> Pen {
-    let a = say2(out, p, b"<section>\n<h2 id=\"hand-", hand, b"\">Hand ", hand, b"</h2>\n<p><b>");
-    say2(out, a, b"", n as u64, b"</b> the puck is at seat ", puck as u64, b"; dealt in:</p>\n")
-}
-
 // Who is dealt in, with the stack before, and what was posted.
 pub fn put_dealt(out: &mut [u8], p: Pen, seat: u64, sitting: u32, before: u32, posted: u32) -> Pen {
     let a = say2(out, p, b"<p class=\"dealt\"><b></b> seat ", seat, b": sitting ", sitting as u64, b" with ");

@@ -1,54 +1,45 @@
+use mathlib.Core.Path.{_≡_, refl}
+use Prim.Native.Nat.{_-_, _≤_}
+use lib.ListN.{length}
+use borrow.Author.Needs.{needs}
 use Rattle.closing.proofs.put_codes.Statement.{statement}
 use Rattle.closing.proofs.put_codes.Tie as tie
-use Rattle.closing.proofs.put_codes.Reads as reads
-use Rattle.closing.proofs.put_codes.Lts as lts
-use Rattle.closing.proofs.put_code.Reads as put-code-reads
 
 abbrev Inv-loop : tie.InvT-loop
-Inv-loop out₀ codes pen₀ k₀ out pen k = ?
+Inv-loop out₀ codes pen₀ k₀ out pen k = length out ≡ length out₀
 
 abbrev μ-loop : tie.MeasureT-loop
-μ-loop out₀ codes pen₀ k₀ out pen k = ?
+μ-loop out₀ codes pen₀ k₀ out pen k = 13 - k
 
--- src/lib.rt:127:5
 loop-holds : tie.Need-loop-holds Inv-loop μ-loop
-loop-holds c = ?
+loop-holds c = search needs
 
--- src/lib.rt:128:17
 cast-i : tie.Need-cast-i Inv-loop μ-loop
-cast-i c = ?
+cast-i c = search needs
 
--- src/lib.rt:129:37
 mul-put-code : tie.Need-mul-put-code Inv-loop μ-loop
-mul-put-code c = ?
+mul-put-code c = search needs
 
--- src/lib.rt:129:37
 array-read-put-code : tie.Need-array-read-put-code Inv-loop μ-loop
-array-read-put-code c = ?
+array-read-put-code c = search needs
 
--- src/lib.rt:129:9
 put-code-requires : tie.Need-put-code-requires Inv-loop μ-loop
-put-code-requires c κs = ?
+put-code-requires c κs = search needs
 
--- src/lib.rt:130:9
 add-k : tie.Need-add-k Inv-loop μ-loop
-add-k c = ?
+add-k c = search needs
 
--- src/lib.rt:127:5
 loop-less : tie.Need-loop-less Inv-loop μ-loop
-loop-less c = ?
+loop-less c = search needs
 
--- src/lib.rt:127:5
 loop-again : tie.Need-loop-again Inv-loop μ-loop
-loop-again c = ?
+loop-again c = search needs
 
--- src/lib.rt:124:1
 same-length : tie.Need-same-length Inv-loop μ-loop
-same-length c = ?
+same-length c = search needs
 
--- src/lib.rt:124:1
 returns : tie.Need-returns Inv-loop μ-loop
-returns c = ?
+returns c = search needs
 
 pub put-codes-spec : {M : Type 1} → statement M
 put-codes-spec =
