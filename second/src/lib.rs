@@ -9,6 +9,7 @@ pub mod crown;
 pub mod entries;
 pub mod hands;
 pub mod mend;
+pub mod pair;
 pub mod pay;
 pub mod pots;
 pub mod random;

@@ -57,6 +57,8 @@ pub struct Settlement {
     /// Sitting and paid of each dealt-in seat, in rising order of seats.
     pub rows: Vec<(u64, u64)>,
     pub unclaimed: u64,
+    /// Request No. 7: what the hand pays into the pool; no line shows it.
+    pub drop: u64,
 }
 
 #[derive(Clone, Debug)]
@@ -67,6 +69,8 @@ pub struct Table {
     pub chairs: Vec<Option<Sitter>>,
     pub last_puck: Option<Seat>,
     pub hand: Option<Hand>,
+    /// The drop in force: the sheet's where a pool is shared, else 0.
+    drop: u64,
     pot_rule: PotRule,
 }
 
@@ -109,7 +113,12 @@ fn best_with(hole: &[Card], board: [Card; 5], &Sheet { game, deck, .. }: &Sheet)
 impl Table {
     pub fn new(sheet: Sheet, pot_rule: PotRule) -> Table {
         let chairs = vec![None; sheet.seats + 1];
-        Table { sheet, taken: 0, sittings: 0, chairs, last_puck: None, hand: None, pot_rule }
+        Table { sheet, taken: 0, sittings: 0, chairs, last_puck: None, hand: None, drop: 0, pot_rule }
+    }
+
+    /// A table that shares a pool (request No. 7).
+    pub fn sharing(sheet: Sheet, pot_rule: PotRule) -> Table {
+        Table { drop: sheet.drop, ..Table::new(sheet, pot_rule) }
     }
 
     pub fn seats(&self) -> std::ops::RangeInclusive<Seat> {
@@ -158,7 +167,7 @@ impl Table {
         let hand = self.hand.as_ref()?;
         let Sheet { rate, cap, step, .. } = self.sheet;
         let commission = Commission { rate, cap, step, board_cards: hand.board.len() };
-        Some(self.pots().share(commission, hand.puck, &hand.strengths(&self.sheet)))
+        Some(self.pots().share_and_drop(commission, self.drop, hand.puck, &hand.strengths(&self.sheet)))
     }
 
     /// The first seat clockwise after this one that holds chips.
@@ -198,7 +207,7 @@ impl Table {
     /// still there, and closes the hand.
     fn settle(&mut self) -> Option<Settlement> {
         let shares = self.shares()?;
-        let mut settlement = Settlement { fee: shares.fee, rows: Vec::new(), unclaimed: 0 };
+        let mut settlement = Settlement { fee: shares.fee, rows: Vec::new(), unclaimed: 0, drop: shares.drop };
         for (seat, due) in shares.due.into_iter().enumerate() {
             let Some(sitting) = self.dealt(seat).map(|dealt| dealt.sitting) else { continue };
             let paid = if self.is_still_there(seat) { due } else { 0 };

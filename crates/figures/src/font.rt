@@ -86,7 +86,7 @@ fn dot(row: u32, p: u32) -> u8
 }
 
 // A row of the lamp for a seat: the tens, which are dark below ten, a blank, the units.
-pub(crate) fn cells(seat: u32, row: u32) -> [u8; 11]
+pub fn cells(seat: u32, row: u32) -> [u8; 11]
     requires { ⌜ row < 5 ⌝ }
     ensures { λ r. ⌜ r ≡ cellsOf seat row ⌝ }
 {

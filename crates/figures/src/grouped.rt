@@ -28,7 +28,7 @@ fn units(n: u32) -> u8
 }
 
 // A number of at most nine digits.
-pub(crate) fn grouped(n: u32) -> [u8; 11]
+pub fn grouped(n: u32) -> [u8; 11]
     ensures { λ r. ⌜ r ≡ groupedOf n ⌝ }
 {
     [

@@ -8,10 +8,10 @@ use laws::either;
 ghost use mathlib.Core.Path.{_≡_};
 ghost use mathlib.Core.List.{[]};
 ghost use Prim.Native.Nat.{_+_, _≤_, _<_};
-ghost use lib.ListN.{length};
+ghost use lib.ListN.{length, getD};
 ghost use Rattle.laws.specs.Tests.{pick};
 ghost use Rattle.figures.specs.Sheet.{Put};
-ghost use Rattle.figures.specs.Words.{rule, labels, refusals};
+ghost use Rattle.figures.specs.Words.{rule, labels, words, refusals};
 ghost use Rattle.figures.specs.Row.{halfRow, litOf, cellOf, leftOf, wordsRow, amountOf, lampCell, countedOf};
 
 struct Label {
@@ -171,6 +171,15 @@ pub fn put_left(out: &mut [u8], at: usize, kind: usize, shown: bool, n: u32) -> 
     let a = put(out, at, &text);
     let g = column(shown, n);
     put(out, a, &g)
+}
+
+// A refusal in words.
+pub fn words_of(code: usize) -> [u8; 40]
+    requires { ⌜ code < refusals ⌝ }
+    ensures { λ r. ⌜ r ≡ getD words code [] ⌝ }
+{
+    let row = WORDS[code];
+    row.text
 }
 
 // The row that gives a refusal in words.

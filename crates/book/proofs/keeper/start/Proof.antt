@@ -1,0 +1,25 @@
+-- `start` meets its contract: the stand-in is a good sheet. Assumes nothing.
+use native.Mathlib.Omega.{arith}
+use Rattle.paper.proofs.Sheets.{stand-in-good}
+use borrow.Author.Needs.{needs}
+use Rattle.book.proofs.keeper.start.Statement.{statement}
+use Rattle.book.proofs.keeper.start.Tie as tie
+use Rattle.book.proofs.keeper.start.Reads as reads
+use Rattle.book.proofs.keeper.start.Lts as lts
+use Rattle.ledger.proofs.opened.Reads as opened-reads
+use Rattle.lines.proofs.empty.Reads as empty-reads
+
+-- src/keeper.rt:45:9
+opened-requires : tie.Need-opened-requires
+opened-requires c κs = stand-in-good
+
+-- src/keeper.rt:46:9
+empty-requires : tie.Need-empty-requires
+empty-requires c κs = search needs
+
+-- src/keeper.rt:41:1
+returns : tie.Need-returns
+returns c = record { book = c .before .opened .ensures .1; room = c .empty .ensures .1; lines = rw (c .empty .ensures .0) (omega arith) }
+
+pub start-spec : {M : Type 1} → statement M
+start-spec = tie.close (tie.spec opened-requires empty-requires returns)

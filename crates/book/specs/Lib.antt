@@ -1,0 +1,2 @@
+-- What the program keeps between two bytes.
+pub mod Ready

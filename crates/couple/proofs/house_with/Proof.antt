@@ -1,0 +1,28 @@
+use mathlib.Core.Path.{refl}
+use Rattle.couple.proofs.Tables.{house-is}
+use borrow.Author.Needs.{needs}
+use Rattle.couple.proofs.house_with.Statement.{statement}
+use Rattle.couple.proofs.house_with.Tie as tie
+use Rattle.couple.proofs.house_with.Reads as reads
+use Rattle.couple.proofs.house_with.Lts as lts
+use Rattle.laws.proofs.least.Reads as least-reads
+use Rattle.laws.proofs.short_of.Reads as short-of-reads
+
+-- src/lib.rt:97:25
+short-of-requires : tie.Need-short-of-requires
+short-of-requires c κs = search needs
+
+-- src/lib.rt:97:13
+least-requires : tie.Need-least-requires
+least-requires c κs = search needs
+
+-- src/lib.rt:97:5
+add-result : tie.Need-add-result
+add-result c = search needs
+
+-- src/lib.rt:93:1
+returns : tie.Need-returns
+returns c = house-is ((c .before .before) .args .house) ((c .before .before) .args .part) ((c .before .before) .pre) (c .before .short-of .ensures) (c .least .ensures) refl
+
+pub house-with-spec : {M : Type 1} → statement M
+house-with-spec = tie.close (tie.spec short-of-requires least-requires add-result returns)

@@ -1,0 +1,2 @@
+-- Two tables that share a pool.
+pub mod Couple

@@ -1,0 +1,18 @@
+use Rattle.frames.proofs.Nexts.{started}
+use borrow.Author.Needs.{needs}
+use Rattle.frames.proofs.start.Statement.{statement}
+use Rattle.frames.proofs.start.Tie as tie
+use Rattle.frames.proofs.start.Reads as reads
+use Rattle.frames.proofs.start.Lts as lts
+use Rattle.lines.proofs.empty.Reads as empty-reads
+
+-- src/lib.rt:58:9
+empty-requires : tie.Need-empty-requires
+empty-requires c κs = search needs
+
+-- src/lib.rt:55:1
+returns : tie.Need-returns
+returns c = started (c .empty .ensures .0)
+
+pub start-spec : {M : Type 1} → statement M
+start-spec = tie.close (tie.spec empty-requires returns)

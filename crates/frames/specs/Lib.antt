@@ -1,0 +1,2 @@
+-- What the input of two tables is cut into.
+pub mod Frames

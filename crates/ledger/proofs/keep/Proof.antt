@@ -1,0 +1,48 @@
+use Rattle.ledger.proofs.Telling.{keep-yes, keep-no}
+use borrow.Author.Needs.{needs}
+use Rattle.ledger.proofs.keep.Statement.{statement}
+use Rattle.ledger.proofs.keep.Tie as tie
+use Rattle.ledger.proofs.keep.Reads as reads
+use Rattle.ledger.proofs.keep.Lts as lts
+use Rattle.fresh.proofs.put_row_if.Reads as put-row-if-reads
+use Rattle.records.proofs.put_record.Reads as put-record-reads
+
+-- src/lib.rt:124:9
+put-record-requires : tie.Need-put-record-requires
+put-record-requires c κs = search needs
+
+-- src/lib.rt:125:43
+add-put-row-if : tie.Need-add-put-row-if
+add-put-row-if c = search needs
+
+-- src/lib.rt:125:9
+put-row-if-requires : tie.Need-put-row-if-requires
+put-row-if-requires c κs = search needs
+
+-- src/lib.rt:125:9
+same-length : tie.Need-same-length
+same-length c = search needs
+
+-- src/lib.rt:125:9
+same-length-2 : tie.Need-same-length-2
+same-length-2 c = search needs
+
+-- src/lib.rt:125:9
+returns : tie.Need-returns
+returns c = keep-yes ((c .before .before .before .before .before .before .before .before .before .before .before .before .before .before .before) .args .ok) ((c .before .before .before .before .before .before .before .before .before .before .before .before .before .before .before) .args .b) ((c .before .before .before .before .before .before .before .before .before .before .before .before .before .before .before) .args .x) ((c .before .before .before .before .before .before .before .before .before .before .before .before .before .before .before) .args .log .now) ((c .before .before .before .before .before .before .before .before .before .before .before .before .before .before .before) .args .index .now) (c .before .before .before .before .before .before .before .before .before .before .before .before .if1 .taken) (c .before .before .before .before .before .before .before .before .put-record .ensures) (c .before .before .put-row-if .ensures .0) (c .before .before .put-row-if .ensures .1)
+
+-- src/lib.rt:115:1
+returns-2 : tie.Need-returns-2
+returns-2 c = keep-no ((c .before .before .before) .args .ok) ((c .before .before .before) .args .b) ((c .before .before .before) .args .x) ((c .before .before .before) .args .log .now) ((c .before .before .before) .args .index .now) (c .if1 .left)
+
+pub keep-spec : {M : Type 1} → statement M
+keep-spec =
+    tie.close
+    (tie.spec
+    put-record-requires
+    add-put-row-if
+    put-row-if-requires
+    same-length
+    same-length-2
+    returns
+    returns-2)

@@ -1,0 +1,21 @@
+use Rattle.table.specs.declared.table.Table.{Table}
+use Rattle.paper.specs.Paper.{isSheet}
+use native.Mathlib.Omega.{arith}
+use mathlib.Core.Path.{_≡_, sym, ap, subst, _∙_}
+use borrow.Author.Needs.{needs}
+use Rattle.ledger.proofs.opened.Statement.{statement}
+use Rattle.ledger.proofs.opened.Tie as tie
+use Rattle.ledger.proofs.opened.Reads as reads
+use Rattle.ledger.proofs.opened.Lts as lts
+use Rattle.table.proofs.take.new_table.Reads as new-table-reads
+
+-- src/lib.rt:52:9
+new-table-requires : tie.Need-new-table-requires
+new-table-requires c κs = search needs
+
+-- src/lib.rt:48:1
+returns : tie.Need-returns
+returns c = (ap (λ (u : Table). record { table = u; hands = 0 }) (c .new-table .ensures .0), record { sound = c .new-table .ensures .1; sheet = ap (λ (u : Table). isSheet (u .sheet)) (c .new-table .ensures .0) ∙ (c .before) .pre; hands = omega arith })
+
+pub opened-spec : {M : Type 1} → statement M
+opened-spec = tie.close (tie.spec new-table-requires returns)

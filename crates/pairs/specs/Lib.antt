@@ -1,0 +1,3 @@
+-- The input of two tables and its answers.
+pub mod Pairs
+pub mod Alone

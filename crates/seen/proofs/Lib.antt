@@ -1,0 +1,3 @@
+-- Laws for what is seen.
+pub mod Laws
+pub mod Feeds

@@ -1,0 +1,4 @@
+-- What a screen beside the table knows.
+pub mod Seats
+pub mod Told
+pub mod Seen
