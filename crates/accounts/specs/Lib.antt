@@ -1,0 +1,2 @@
+-- The evening's sums.
+pub mod Sums

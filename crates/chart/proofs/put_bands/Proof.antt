@@ -1,0 +1,48 @@
+use mathlib.Core.Path.{_≡_, refl}
+use Prim.Native.Nat.{_-_}
+use native.Mathlib.Omega.{arith}
+use lib.ListN.{length}
+use borrow.Author.Needs.{needs}
+use Rattle.chart.proofs.put_bands.Statement.{statement}
+use Rattle.chart.proofs.put_bands.Tie as tie
+
+abbrev Inv-loop : tie.InvT-loop
+Inv-loop out₀ c n pen₀ k₀ out pen k = length out ≡ length out₀
+
+abbrev μ-loop : tie.MeasureT-loop
+μ-loop out₀ c n pen₀ k₀ out pen k = n - k
+
+loop-holds : tie.Need-loop-holds Inv-loop μ-loop
+loop-holds c = search needs
+
+put-band-requires : tie.Need-put-band-requires Inv-loop μ-loop
+put-band-requires c κs = search needs
+
+add-k : tie.Need-add-k Inv-loop μ-loop
+add-k c = search needs
+
+loop-less : tie.Need-loop-less Inv-loop μ-loop
+loop-less c = search needs
+
+loop-again : tie.Need-loop-again Inv-loop μ-loop
+loop-again c = search needs
+
+same-length : tie.Need-same-length Inv-loop μ-loop
+same-length c = search needs
+
+returns : tie.Need-returns Inv-loop μ-loop
+returns c = search needs
+
+pub put-bands-spec : {M : Type 1} → statement M
+put-bands-spec =
+    tie.close
+    (tie.spec
+    Inv-loop
+    μ-loop
+    loop-holds
+    put-band-requires
+    add-k
+    loop-less
+    loop-again
+    same-length
+    returns)

@@ -1,0 +1,2 @@
+-- The laws that the loops use.
+pub mod Turns

@@ -1,0 +1,2 @@
+-- The picture of a hand's chips.
+pub mod Columns

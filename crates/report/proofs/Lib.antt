@@ -1,0 +1,2 @@
+-- What is left of a part.
+pub mod Rest

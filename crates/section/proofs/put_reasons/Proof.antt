@@ -1,0 +1,47 @@
+use mathlib.Core.Path.{_≡_, refl}
+use Prim.Native.Nat.{_-_, _≤_}
+use lib.ListN.{length}
+use borrow.Author.Needs.{needs}
+use Rattle.section.proofs.put_reasons.Statement.{statement}
+use Rattle.section.proofs.put_reasons.Tie as tie
+
+abbrev Inv-loop : tie.InvT-loop
+Inv-loop out₀ h i score n pen₀ k₀ out pen k = length out ≡ length out₀
+
+abbrev μ-loop : tie.MeasureT-loop
+μ-loop out₀ h i score n pen₀ k₀ out pen k = n - k
+
+loop-holds : tie.Need-loop-holds Inv-loop μ-loop
+loop-holds c = search needs
+
+put-reason-requires : tie.Need-put-reason-requires Inv-loop μ-loop
+put-reason-requires c κs = search needs
+
+add-k : tie.Need-add-k Inv-loop μ-loop
+add-k c = search needs
+
+loop-less : tie.Need-loop-less Inv-loop μ-loop
+loop-less c = search needs
+
+loop-again : tie.Need-loop-again Inv-loop μ-loop
+loop-again c = search needs
+
+same-length : tie.Need-same-length Inv-loop μ-loop
+same-length c = search needs
+
+returns : tie.Need-returns Inv-loop μ-loop
+returns c = search needs
+
+pub put-reasons-spec : {M : Type 1} → statement M
+put-reasons-spec =
+    tie.close
+    (tie.spec
+    Inv-loop
+    μ-loop
+    loop-holds
+    put-reason-requires
+    add-k
+    loop-less
+    loop-again
+    same-length
+    returns)
