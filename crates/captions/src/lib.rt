@@ -22,9 +22,29 @@ use spots::y_at;
 // The picture's size and its hatching, whose name has the hand's number, since a page has many pictures.
 pub fn put_opening(out: &mut [u8], p: Pen, hand: u64, columns: u32) -> Pen {
     let wide = more(right_of(columns), 2900);
-    let a = say2(out, p, b"<svg xmlns=\"http://www.w3.org/2000/svg\" role=\"img\" width=\"", wide / 10, b"\" height=\"460\" viewBox=\"0 0 ", wide, b" 4600\">\n<title>The chips of hand ");
-    let b = say2(out, a, b"", hand, b"</title>\n<defs><pattern id=\"hatch-", hand, b"\" width=\"80\" height=\"80\" patternUnits=\"userSpaceOnUse\" patternTransform=\"rotate(45)\">");
-    put(out, b, b"<rect width=\"80\" height=\"80\" fill=\"#fff\"/><rect width=\"26\" height=\"80\" fill=\"#555\"/></pattern></defs>\n<g font-family=\"Georgia,'DejaVu Serif',serif\" font-size=\"130\" text-anchor=\"middle\">\n")
+    let a = say2(
+        out,
+        p,
+        b"<svg xmlns=\"http://www.w3.org/2000/svg\" role=\"img\" width=\"",
+        wide / 10,
+        b"\" height=\"460\" viewBox=\"0 0 ",
+        wide,
+        b" 4600\">\n<title>The chips of hand ",
+    );
+    let b = say2(
+        out,
+        a,
+        b"",
+        hand,
+        b"</title>\n<defs><pattern id=\"hatch-",
+        hand,
+        b"\" width=\"80\" height=\"80\" patternUnits=\"userSpaceOnUse\" patternTransform=\"rotate(45)\">",
+    );
+    put(
+        out,
+        b,
+        b"<rect width=\"80\" height=\"80\" fill=\"#fff\"/><rect width=\"26\" height=\"80\" fill=\"#555\"/></pattern></defs>\n<g font-family=\"Georgia,'DejaVu Serif',serif\" font-size=\"130\" text-anchor=\"middle\">\n",
+    )
 }
 
 // A word below a column, where it applies.
@@ -47,8 +67,26 @@ pub fn put_foot(out: &mut [u8], p: Pen, c: Chips, i: usize, j: u32) -> Pen {
     let x = more(column_x(j), 260);
     let total = totals[i] as u64;
     let sitting = sittings[i] as u64;
-    let a = put_counted(out, p, b"<text font-weight=\"bold\"", x, 3660, b"seat ", i as u64 + 1, b"</text>\n");
-    let b = put_counted(out, a, b"<text", x, 3810, b"sitting ", sitting, b"</text>\n");
+    let a = put_counted(
+        out,
+        p,
+        b"<text font-weight=\"bold\"",
+        x,
+        3660,
+        b"seat ",
+        i as u64 + 1,
+        b"</text>\n",
+    );
+    let b = put_counted(
+        out,
+        a,
+        b"<text",
+        x,
+        3810,
+        b"sitting ",
+        sitting,
+        b"</text>\n",
+    );
     let d = put_counted(out, b, b"<text", x, 3960, b"", total, b" in</text>\n");
     put_state(out, d, in_mask(c.live, i), in_mask(c.here, i), x)
 }
@@ -60,14 +98,31 @@ fn put_state(out: &mut [u8], p: Pen, live: bool, here: bool, x: u64) -> Pen {
 }
 
 // A number between two words.
-fn put_counted(out: &mut [u8], p: Pen, what: &[u8], x: u64, y: u64, before: &[u8], n: u64, after: &[u8]) -> Pen {
+fn put_counted(
+    out: &mut [u8],
+    p: Pen,
+    what: &[u8],
+    x: u64,
+    y: u64,
+    before: &[u8],
+    n: u64,
+    after: &[u8],
+) -> Pen {
     let a = put_text_at(out, p, what, x, y);
     say(out, a, before, n, after)
 }
 
 // The line from a band to its label.
 fn put_leader(out: &mut [u8], p: Pen, x: u64, from: u64, to: u64) -> Pen {
-    let a = say2(out, p, b"<path fill=\"none\" stroke=\"#000\" stroke-width=\"8\" d=\"M", x, b" ", from, b" L");
+    let a = say2(
+        out,
+        p,
+        b"<path fill=\"none\" stroke=\"#000\" stroke-width=\"8\" d=\"M",
+        x,
+        b" ",
+        from,
+        b" L",
+    );
     say2(out, a, b"", more(x, 240), b" ", to, b"\"/>\n")
 }
 
@@ -108,14 +163,28 @@ fn put_label(out: &mut [u8], p: Pen, c: Chips, k: usize, labels: u64) -> Pen {
 
 // A pot's number and its chips.
 fn put_pot(out: &mut [u8], p: Pen, x: u64, y: u64, pot: u64, chips: u64) -> Pen {
-    let a = put_text_at(out, p, b"<text text-anchor=\"start\" font-weight=\"bold\"", x, y);
+    let a = put_text_at(
+        out,
+        p,
+        b"<text text-anchor=\"start\" font-weight=\"bold\"",
+        x,
+        y,
+    );
     say2(out, a, b"pot ", pot, b": ", chips, b"</text>\n")
 }
 
 // The heights of a pot and its contenders.
 fn put_contest(out: &mut [u8], p: Pen, x: u64, y: u64, low: u32, high: u32, who: u16) -> Pen {
     let a = put_text_at(out, p, b"<text text-anchor=\"start\"", x, y);
-    let b = say2(out, a, b"heights ", low as u64 + 1, b" to ", high as u64, b", seats");
+    let b = say2(
+        out,
+        a,
+        b"heights ",
+        low as u64 + 1,
+        b" to ",
+        high as u64,
+        b", seats",
+    );
     let c = put_seats(out, b, who);
     put(out, c, b"</text>\n")
 }
@@ -133,13 +202,35 @@ fn put_back(out: &mut [u8], p: Pen, c: Chips, k: usize, labels: u64) -> Pen {
     let x = right_of(c.columns);
     let y = label_y(k as u64, labels);
     let a = put_leader(out, p, x, apart(mid), y);
-    let b = put_counted(out, a, b"<text text-anchor=\"start\" font-weight=\"bold\"", more(x, 280), y, b"back: ", wide(c.back), b"</text>\n");
-    put_counted(out, b, b"<text text-anchor=\"start\"", more(x, 280), more(y, 140), b"above height ", wide(low), b" nobody contests</text>\n")
+    let b = put_counted(
+        out,
+        a,
+        b"<text text-anchor=\"start\" font-weight=\"bold\"",
+        more(x, 280),
+        y,
+        b"back: ",
+        wide(c.back),
+        b"</text>\n",
+    );
+    put_counted(
+        out,
+        b,
+        b"<text text-anchor=\"start\"",
+        more(x, 280),
+        more(y, 140),
+        b"above height ",
+        wide(low),
+        b" nobody contests</text>\n",
+    )
 }
 
 // How many labels there are.
 fn labels_of(pots: usize, back: u32) -> u64 {
-    if back == 0 { pots as u64 } else { more(pots as u64, 1) }
+    if back == 0 {
+        pots as u64
+    } else {
+        more(pots as u64, 1)
+    }
 }
 
 pub fn put_labels(out: &mut [u8], p: Pen, c: Chips) -> Pen {
@@ -158,8 +249,26 @@ pub fn put_labels(out: &mut [u8], p: Pen, c: Chips) -> Pen {
 
 // What the looks mean, and the picture's end.
 fn put_legend(out: &mut [u8], p: Pen, hand: u64) -> Pen {
-    let a = put(out, p, b"<rect fill=\"#456b94\" stroke=\"#000\" stroke-width=\"8\" x=\"200\" y=\"4330\" width=\"160\" height=\"130\"/>\n<text text-anchor=\"start\" x=\"420\" y=\"4440\">contends</text>\n");
-    let c = say(out, a, b"<rect fill=\"url(#hatch-", hand, b")\" stroke=\"#000\" stroke-width=\"8\" x=\"1250\" y=\"4330\" width=\"160\" height=\"130\"/>\n");
-    let d = put(out, c, b"<text text-anchor=\"start\" x=\"1470\" y=\"4440\">out of the hand: stays in the pots</text>\n<rect fill=\"#fff\" stroke=\"#000\" stroke-width=\"12\" stroke-dasharray=\"40 30\"");
-    put(out, d, b" x=\"3900\" y=\"4330\" width=\"160\" height=\"130\"/>\n<text text-anchor=\"start\" x=\"4120\" y=\"4440\">goes back</text>\n</g>\n</svg>\n")
+    let a = put(
+        out,
+        p,
+        b"<rect fill=\"#456b94\" stroke=\"#000\" stroke-width=\"8\" x=\"200\" y=\"4330\" width=\"160\" height=\"130\"/>\n<text text-anchor=\"start\" x=\"420\" y=\"4440\">contends</text>\n",
+    );
+    let c = say(
+        out,
+        a,
+        b"<rect fill=\"url(#hatch-",
+        hand,
+        b")\" stroke=\"#000\" stroke-width=\"8\" x=\"1250\" y=\"4330\" width=\"160\" height=\"130\"/>\n",
+    );
+    let d = put(
+        out,
+        c,
+        b"<text text-anchor=\"start\" x=\"1470\" y=\"4440\">out of the hand: stays in the pots</text>\n<rect fill=\"#fff\" stroke=\"#000\" stroke-width=\"12\" stroke-dasharray=\"40 30\"",
+    );
+    put(
+        out,
+        d,
+        b" x=\"3900\" y=\"4330\" width=\"160\" height=\"130\"/>\n<text text-anchor=\"start\" x=\"4120\" y=\"4440\">goes back</text>\n</g>\n</svg>\n",
+    )
 }

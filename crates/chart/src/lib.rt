@@ -12,7 +12,6 @@ use page::pen::put_if;
 use page::pen::put_text_at;
 use page::pen::say;
 use page::pen::say2;
-
 use spots::BAND;
 use spots::Chips;
 use spots::column_x;
@@ -32,10 +31,28 @@ fn put_band(out: &mut [u8], p: Pen, c: Chips, k: usize) -> Pen {
     let low = height(reach_of_first(totals, ps, k), most);
     let high = height(reach(totals, q.who), most);
     let width = spots::less(right_of(c.columns), BAND);
-    let a = put_if(out, p, k % 2 == 0, b"<rect class=\"band\" fill=\"#f4f4f4\" stroke=\"#666\" stroke-width=\"6\"");
-    let b = put_if(out, a, k % 2 == 1, b"<rect class=\"band\" fill=\"#dedede\" stroke=\"#666\" stroke-width=\"6\"");
+    let a = put_if(
+        out,
+        p,
+        k % 2 == 0,
+        b"<rect class=\"band\" fill=\"#f4f4f4\" stroke=\"#666\" stroke-width=\"6\"",
+    );
+    let b = put_if(
+        out,
+        a,
+        k % 2 == 1,
+        b"<rect class=\"band\" fill=\"#dedede\" stroke=\"#666\" stroke-width=\"6\"",
+    );
     let d = put_box(out, b, b"", BAND, y_at(high), width, spots::less(high, low));
-    say2(out, d, b" data-pot=\"", number_of(k), b"\" data-chips=\"", wide(q.amount), b"\"/>\n")
+    say2(
+        out,
+        d,
+        b" data-pot=\"",
+        number_of(k),
+        b"\" data-chips=\"",
+        wide(q.amount),
+        b"\"/>\n",
+    )
 }
 
 fn put_bands(out: &mut [u8], p: Pen, c: Chips) -> Pen {
@@ -52,9 +69,19 @@ fn put_bands(out: &mut [u8], p: Pen, c: Chips) -> Pen {
 // How a piece of a column looks: a contender's is solid, one of a sitting that does not contend is hatched.
 fn put_look(out: &mut [u8], p: Pen, solid: bool, hand: u64) -> Pen {
     if solid {
-        return put(out, p, b"<rect class=\"chips\" fill=\"#456b94\" stroke=\"#000\" stroke-width=\"8\"");
+        return put(
+            out,
+            p,
+            b"<rect class=\"chips\" fill=\"#456b94\" stroke=\"#000\" stroke-width=\"8\"",
+        );
     }
-    say(out, p, b"<rect class=\"chips\" fill=\"url(#hatch-", hand, b")\" stroke=\"#000\" stroke-width=\"8\"")
+    say(
+        out,
+        p,
+        b"<rect class=\"chips\" fill=\"url(#hatch-",
+        hand,
+        b")\" stroke=\"#000\" stroke-width=\"8\"",
+    )
 }
 
 // The number of chips in a piece, where the piece is high enough for it.
@@ -62,13 +89,27 @@ fn put_inside(out: &mut [u8], p: Pen, x: u64, top: u64, high: u64, chips: u32) -
     if high < 130 {
         return p;
     }
-    let a = put_text_at(out, p, b"<text stroke=\"#fff\" stroke-width=\"36\" paint-order=\"stroke\"", spots::more(x, 260), spots::more(top, high / 2 + 45));
+    let a = put_text_at(
+        out,
+        p,
+        b"<text stroke=\"#fff\" stroke-width=\"36\" paint-order=\"stroke\"",
+        spots::more(x, 260),
+        spots::more(top, high / 2 + 45),
+    );
     say(out, a, b"", chips as u64, b"</text>\n")
 }
 
 // What a piece is: whose it is, and how many chips lie in it.
 fn put_data(out: &mut [u8], p: Pen, seat: u64, sitting: u32, chips: u32) -> Pen {
-    let a = say2(out, p, b" data-seat=\"", seat, b"\" data-sitting=\"", sitting as u64, b"\" data-chips=\"");
+    let a = say2(
+        out,
+        p,
+        b" data-seat=\"",
+        seat,
+        b"\" data-sitting=\"",
+        sitting as u64,
+        b"\" data-chips=\"",
+    );
     say(out, a, b"", chips as u64, b"\"/>\n")
 }
 
@@ -87,7 +128,21 @@ fn put_piece(out: &mut [u8], p: Pen, c: Chips, i: usize, j: u32, k: usize) -> Pe
     if chips == 0 {
         return p;
     }
-    put_piece_of(out, p, Piece { hand: c.hand, most: tallest(totals), low, chips, seat: i as u64 + 1, sitting: sittings[i], pot: number_of(k), solid: in_mask(q.who, i), x: column_x(j) })
+    put_piece_of(
+        out,
+        p,
+        Piece {
+            hand: c.hand,
+            most: tallest(totals),
+            low,
+            chips,
+            seat: i as u64 + 1,
+            sitting: sittings[i],
+            pot: number_of(k),
+            solid: in_mask(q.who, i),
+            x: column_x(j),
+        },
+    )
 }
 
 // A piece of a column: above which height it lies, how many chips it has, whose and which pot's it is, whether its sitting contends, and where its column stands.
@@ -137,7 +192,15 @@ fn put_returned(out: &mut [u8], p: Pen, c: Chips, i: usize, j: u32) -> Pen {
     let tall = spots::less(high, height(low, most));
     let top = spots::apart(high);
     let x = column_x(j);
-    let a = put_box(out, p, b"<rect class=\"back\" fill=\"#fff\" stroke=\"#000\" stroke-width=\"12\" stroke-dasharray=\"40 30\"", x, top, 520, tall);
+    let a = put_box(
+        out,
+        p,
+        b"<rect class=\"back\" fill=\"#fff\" stroke=\"#000\" stroke-width=\"12\" stroke-dasharray=\"40 30\"",
+        x,
+        top,
+        520,
+        tall,
+    );
     let b = put_data(out, a, i as u64 + 1, sittings[i], chips);
     put_inside(out, b, x, top, tall, chips)
 }
@@ -177,7 +240,10 @@ fn put_next(out: &mut [u8], s: Stood, c: Chips, i: usize) -> Stood {
         return s;
     }
     let pen = put_sitting(out, p, c, i, s.columns);
-    Stood { pen, columns: spots::next(s.columns) }
+    Stood {
+        pen,
+        columns: spots::next(s.columns),
+    }
 }
 
 fn put_columns(out: &mut [u8], p: Pen, c: Chips) -> Pen {

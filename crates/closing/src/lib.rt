@@ -14,26 +14,90 @@ use table::table::Table;
 
 // The row of a sitting: brought, put in, paid, and what it takes home or has.
 pub fn put_row(out: &mut [u8], p: Pen, sitting: u32, seat: u32, a: Account, home: u32) -> Pen {
-    let b = say2(out, p, b"<div class=\"row\"><span>", sitting as u64, b"</span><span>", seat as u64, b"</span><span>");
-    let c = say2(out, b, b"", a.brought, b"</span><span>", a.put, b"</span><span>");
-    say2(out, c, b"", a.paid, b"</span><span>", home as u64, b"</span>")
+    let b = say2(
+        out,
+        p,
+        b"<div class=\"row\"><span>",
+        sitting as u64,
+        b"</span><span>",
+        seat as u64,
+        b"</span><span>",
+    );
+    let c = say2(
+        out,
+        b,
+        b"",
+        a.brought,
+        b"</span><span>",
+        a.put,
+        b"</span><span>",
+    );
+    say2(
+        out,
+        c,
+        b"",
+        a.paid,
+        b"</span><span>",
+        home as u64,
+        b"</span>",
+    )
 }
 
 // The head of the sittings' rows and the table's sheet.
 pub fn put_start(out: &mut [u8], p: Pen, s: Sheet) -> Pen {
-    let a = say2(out, p, b"<p class=\"sheet\">A table of ", s.seats as u64, b" seats, blinds ", s.small as u64, b" and ");
-    let b = say2(out, a, b"", s.big as u64, b"; commission ", s.rate as u64, b" thousandths of each pot, at most ");
+    let a = say2(
+        out,
+        p,
+        b"<p class=\"sheet\">A table of ",
+        s.seats as u64,
+        b" seats, blinds ",
+        s.small as u64,
+        b" and ",
+    );
+    let b = say2(
+        out,
+        a,
+        b"",
+        s.big as u64,
+        b"; commission ",
+        s.rate as u64,
+        b" thousandths of each pot, at most ",
+    );
     put_start_on(out, b, s)
 }
 
 fn put_start_on(out: &mut [u8], p: Pen, s: Sheet) -> Pen {
-    let a = say2(out, p, b"", s.cap as u64, b" a hand, in steps of ", s.step as u64, b"; ");
-    let b = say2(out, a, b"", s.game as u64, b" hole cards of a deck of ", s.deck as u64, b".</p>\n");
-    put(out, b, b"<div class=\"row top\"><span>sitting</span><span>seat</span><span>brought</span><span>put in</span><span>paid</span><span>taken home or has</span><span></span></div>\n")
+    let a = say2(
+        out,
+        p,
+        b"",
+        s.cap as u64,
+        b" a hand, in steps of ",
+        s.step as u64,
+        b"; ",
+    );
+    let b = say2(
+        out,
+        a,
+        b"",
+        s.game as u64,
+        b" hole cards of a deck of ",
+        s.deck as u64,
+        b".</p>\n",
+    );
+    put(
+        out,
+        b,
+        b"<div class=\"row top\"><span>sitting</span><span>seat</span><span>brought</span><span>put in</span><span>paid</span><span>taken home or has</span><span></span></div>\n",
+    )
 }
 
 pub fn put_bad_sheet(out: &mut [u8], p: Pen) -> Pen {
-    put(out, p, b"<p class=\"note\">11: the sheet is bad. Nothing of this log is read.</p>\n</body>\n</html>\n")
+    put(
+        out,
+        p,
+        b"<p class=\"note\">11: the sheet is bad. Nothing of this log is read.</p>\n</body>\n</html>\n",
+    )
 }
 
 // What a sitting that is still there has put in: into the open hand too.
@@ -93,22 +157,78 @@ fn lies_in(cs: [Chair; 10]) -> u64 {
 
 // The row of all sittings.
 fn put_sums(out: &mut [u8], p: Pen, s: Sums) -> Pen {
-    let a = say2(out, p, b"<div class=\"row top sums\"><span>", s.sittings, b" sittings</span><span></span><span>", s.brought, b"</span><span>");
-    let b = say2(out, a, b"", s.put, b"</span><span>", s.paid, b"</span><span>");
+    let a = say2(
+        out,
+        p,
+        b"<div class=\"row top sums\"><span>",
+        s.sittings,
+        b" sittings</span><span></span><span>",
+        s.brought,
+        b"</span><span>",
+    );
+    let b = say2(
+        out,
+        a,
+        b"",
+        s.put,
+        b"</span><span>",
+        s.paid,
+        b"</span><span>",
+    );
     say(out, b, b"", s.home, b"</span><span>all</span></div>\n")
 }
 
 // The two sums that come out: what sittings have, and what hands took.
 fn put_proofs(out: &mut [u8], p: Pen, s: Sums, m: Notes, lies: u64) -> Pen {
-    let a = say2(out, p, b"<p class=\"sums\">Brought ", s.brought, b" and paid ", s.paid, b" is put in ");
-    let b = say2(out, a, b"", s.put, b" and taken home or there ", s.home, b".</p>\n");
+    let a = say2(
+        out,
+        p,
+        b"<p class=\"sums\">Brought ",
+        s.brought,
+        b" and paid ",
+        s.paid,
+        b" is put in ",
+    );
+    let b = say2(
+        out,
+        a,
+        b"",
+        s.put,
+        b" and taken home or there ",
+        s.home,
+        b".</p>\n",
+    );
     put_proof_on(out, b, s, m, lies)
 }
 
 fn put_proof_on(out: &mut [u8], p: Pen, s: Sums, m: Notes, lies: u64) -> Pen {
-    let a = say2(out, p, b"<p class=\"sums\">Put in ", s.put, b" is paid ", s.paid, b", fees ");
-    let b = say2(out, a, b"", m.charges.fees, b", drops ", m.charges.drops, b", unclaimed ");
-    say2(out, b, b"", m.charges.unclaimed, b", and in the open hand ", lies, b".</p>\n</body>\n</html>\n")
+    let a = say2(
+        out,
+        p,
+        b"<p class=\"sums\">Put in ",
+        s.put,
+        b" is paid ",
+        s.paid,
+        b", fees ",
+    );
+    let b = say2(
+        out,
+        a,
+        b"",
+        m.charges.fees,
+        b", drops ",
+        m.charges.drops,
+        b", unclaimed ",
+    );
+    say2(
+        out,
+        b,
+        b"",
+        m.charges.unclaimed,
+        b", and in the open hand ",
+        lies,
+        b".</p>\n</body>\n</html>\n",
+    )
 }
 
 // The row of a refusal number, where a block got it.
@@ -116,7 +236,13 @@ fn put_code(out: &mut [u8], p: Pen, code: u8, n: u64) -> Pen {
     if n == 0 {
         return p;
     }
-    let a = say(out, p, b"<tr class=\"code\"><th class=\"why\">refused with ", code as u64, b": ");
+    let a = say(
+        out,
+        p,
+        b"<tr class=\"code\"><th class=\"why\">refused with ",
+        code as u64,
+        b": ",
+    );
     let b = put_refusal(out, a, code);
     say(out, b, b"</th><td>", n, b"</td></tr>\n")
 }
@@ -135,7 +261,15 @@ fn put_codes(out: &mut [u8], p: Pen, codes: [u64; 13]) -> Pen {
 // The evening in a table.
 fn put_table(out: &mut [u8], p: Pen, m: Notes) -> Pen {
     let codes = m.codes;
-    let a = say2(out, p, b"<table id=\"evening\">\n<caption>The evening</caption>\n<tr><th class=\"why\">hands opened</th><td>", m.hands, b"</td></tr>\n<tr><th class=\"why\">hands settled</th><td>", m.charges.hands, b"</td></tr>\n<tr><th class=\"why\">entries taken</th><td>");
+    let a = say2(
+        out,
+        p,
+        b"<table id=\"evening\">\n<caption>The evening</caption>\n<tr><th class=\"why\">hands opened</th><td>",
+        m.hands,
+        b"</td></tr>\n<tr><th class=\"why\">hands settled</th><td>",
+        m.charges.hands,
+        b"</td></tr>\n<tr><th class=\"why\">entries taken</th><td>",
+    );
     let b = say(out, a, b"", codes[0], b"</td></tr>\n");
     put_table_on(out, b, m)
 }
@@ -143,7 +277,15 @@ fn put_table(out: &mut [u8], p: Pen, m: Notes) -> Pen {
 fn put_table_on(out: &mut [u8], p: Pen, m: Notes) -> Pen {
     let codes = m.codes;
     let c = put_codes(out, p, codes);
-    let a = say2(out, c, b"<tr><th class=\"why\">fees</th><td>", m.charges.fees, b"</td></tr>\n<tr><th class=\"why\">drops</th><td>", m.charges.drops, b"</td></tr>\n<tr><th class=\"why\">unclaimed</th><td>");
+    let a = say2(
+        out,
+        c,
+        b"<tr><th class=\"why\">fees</th><td>",
+        m.charges.fees,
+        b"</td></tr>\n<tr><th class=\"why\">drops</th><td>",
+        m.charges.drops,
+        b"</td></tr>\n<tr><th class=\"why\">unclaimed</th><td>",
+    );
     say(out, a, b"", m.charges.unclaimed, b"</td></tr>\n</table>\n")
 }
 

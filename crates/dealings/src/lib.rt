@@ -14,8 +14,24 @@ ghost use Rattle.table.specs.Take.{Sound};
 
 // The heading, which a link can name.
 pub fn put_opening(out: &mut [u8], p: Pen, hand: u64, n: u32, puck: u32) -> Pen {
-    let a = say2(out, p, b"<section>\n<h2 id=\"hand-", hand, b"\">Hand ", hand, b"</h2>\n<p><b>");
-    say2(out, a, b"", n as u64, b"</b> the puck is at seat ", puck as u64, b"; dealt in:</p>\n")
+    let a = say2(
+        out,
+        p,
+        b"<section>\n<h2 id=\"hand-",
+        hand,
+        b"\">Hand ",
+        hand,
+        b"</h2>\n<p><b>",
+    );
+    say2(
+        out,
+        a,
+        b"",
+        n as u64,
+        b"</b> the puck is at seat ",
+        puck as u64,
+        b"; dealt in:</p>\n",
+    )
 }
 
 // Who is dealt in at a place.
@@ -30,7 +46,14 @@ fn put_dealt(out: &mut [u8], p: Pen, t: Table, u: Table, i: usize) -> Pen {
     if d.dealt.sitting == 0 {
         return p;
     }
-    section::put_dealt(out, p, i as u64 + 1, d.dealt.sitting, c.stack, d.dealt.total)
+    section::put_dealt(
+        out,
+        p,
+        i as u64 + 1,
+        d.dealt.sitting,
+        c.stack,
+        d.dealt.total,
+    )
 }
 
 pub fn put_all_dealt(out: &mut [u8], p: Pen, t: Table, u: Table) -> Pen {

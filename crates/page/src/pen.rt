@@ -79,7 +79,15 @@ pub fn say(out: &mut [u8], p: Pen, before: &[u8], n: u64, after: &[u8]) -> Pen {
 }
 
 // Two numbers between three texts.
-pub fn say2(out: &mut [u8], p: Pen, before: &[u8], n: u64, between: &[u8], m: u64, after: &[u8]) -> Pen {
+pub fn say2(
+    out: &mut [u8],
+    p: Pen,
+    before: &[u8],
+    n: u64,
+    between: &[u8],
+    m: u64,
+    after: &[u8],
+) -> Pen {
     let a = say(out, p, before, n, between);
     say(out, a, b"", m, after)
 }

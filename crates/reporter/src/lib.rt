@@ -182,7 +182,16 @@ fn take(out: &mut [u8], p: Pen, m: Notes, t: Table, u: Table, e: Event, paid: Pa
 }
 
 // A block that was judged.
-fn note(out: &mut [u8], p: Pen, m: Notes, t: Table, u: Table, e: Event, code: u8, paid: Payout) -> Noted
+fn note(
+    out: &mut [u8],
+    p: Pen,
+    m: Notes,
+    t: Table,
+    u: Table,
+    e: Event,
+    code: u8,
+    paid: Payout,
+) -> Noted
     requires { ⌜ Sound t ⌝ }
 {
     let codes = m.codes;

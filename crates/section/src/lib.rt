@@ -44,11 +44,27 @@ pub struct Hand {
 
 // Who is dealt in, with the stack before, and what was posted.
 pub fn put_dealt(out: &mut [u8], p: Pen, seat: u64, sitting: u32, before: u32, posted: u32) -> Pen {
-    let a = say2(out, p, b"<p class=\"dealt\"><b></b> seat ", seat, b": sitting ", sitting as u64, b" with ");
+    let a = say2(
+        out,
+        p,
+        b"<p class=\"dealt\"><b></b> seat ",
+        seat,
+        b": sitting ",
+        sitting as u64,
+        b" with ",
+    );
     if posted == 0 {
         return say(out, a, b"", before as u64, b"</p>\n");
     }
-    say2(out, a, b"", before as u64, b", posts ", posted as u64, b"</p>\n")
+    say2(
+        out,
+        a,
+        b"",
+        before as u64,
+        b", posts ",
+        posted as u64,
+        b"</p>\n",
+    )
 }
 
 // How a sitting's hand stands.
@@ -78,8 +94,24 @@ fn put_gone(out: &mut [u8], p: Pen, here: bool, now: u32) -> Pen {
 
 // What a sitting put in, by round and together.
 fn put_rounds(out: &mut [u8], p: Pen, r: [u32; 4], total: u32) -> Pen {
-    let a = say2(out, p, b"<td>", r[0] as u64, b"</td><td>", r[1] as u64, b"</td>");
-    let b = say2(out, a, b"<td>", r[2] as u64, b"</td><td>", r[3] as u64, b"</td>");
+    let a = say2(
+        out,
+        p,
+        b"<td>",
+        r[0] as u64,
+        b"</td><td>",
+        r[1] as u64,
+        b"</td>",
+    );
+    let b = say2(
+        out,
+        a,
+        b"<td>",
+        r[2] as u64,
+        b"</td><td>",
+        r[3] as u64,
+        b"</td>",
+    );
     put_cell(out, b, total as u64)
 }
 
@@ -152,15 +184,35 @@ fn put_back(out: &mut [u8], p: Pen, back: u32, here: bool) -> Pen {
     if here {
         return say(out, p, b"", back as u64, b" go back</td></tr>\n");
     }
-    say(out, p, b"", back as u64, b" go back and are unclaimed</td></tr>\n")
+    say(
+        out,
+        p,
+        b"",
+        back as u64,
+        b" go back and are unclaimed</td></tr>\n",
+    )
 }
 
 // What a sitting is paid, and why.
 fn put_paid(out: &mut [u8], p: Pen, h: Hand, i: usize, q: Part) -> Pen {
     if !h.settled {
-        return say(out, p, b"</td><td>", q.back as u64, b"</td><td></td><td></td></tr>\n");
+        return say(
+            out,
+            p,
+            b"</td><td>",
+            q.back as u64,
+            b"</td><td></td><td></td></tr>\n",
+        );
     }
-    let a = say2(out, p, b"</td><td>", q.back as u64, b"</td><td class=\"paid\">", q.paid as u64, b"</td><td class=\"why\">");
+    let a = say2(
+        out,
+        p,
+        b"</td><td>",
+        q.back as u64,
+        b"</td><td class=\"paid\">",
+        q.paid as u64,
+        b"</td><td class=\"why\">",
+    );
     let b = put_reasons(out, a, h, i, q.score);
     put_back(out, b, q.back, q.here)
 }
@@ -171,7 +223,15 @@ fn put_part(out: &mut [u8], p: Pen, h: Hand, i: usize, q: Part) -> Pen {
     if 10 <= i {
         return p;
     }
-    let a = say2(out, p, b"<tr class=\"part\"><td>", i as u64 + 1, b"</td><td>", q.sitting as u64, b"</td>");
+    let a = say2(
+        out,
+        p,
+        b"<tr class=\"part\"><td>",
+        i as u64 + 1,
+        b"</td><td>",
+        q.sitting as u64,
+        b"</td>",
+    );
     let b = put_cell(out, a, q.before as u64);
     put_part_on(out, b, h, i, q, totals[i])
 }
@@ -224,8 +284,24 @@ fn put_pot(out: &mut [u8], p: Pen, c: Chips, k: usize) -> Pen {
     let q = list[k];
     let low = spots::reach_of_first(totals, ps, k);
     let high = columns::reach(totals, q.who);
-    let a = say2(out, p, b"<tr class=\"pot\"><td>", k as u64 + 1, b"</td><td>", low as u64 + 1, b" to ");
-    let b = say2(out, a, b"", high as u64, b"</td><td>", q.amount as u64, b"</td>");
+    let a = say2(
+        out,
+        p,
+        b"<tr class=\"pot\"><td>",
+        k as u64 + 1,
+        b"</td><td>",
+        low as u64 + 1,
+        b" to ",
+    );
+    let b = say2(
+        out,
+        a,
+        b"",
+        high as u64,
+        b"</td><td>",
+        q.amount as u64,
+        b"</td>",
+    );
     put_contenders(out, b, q.who)
 }
 
@@ -238,25 +314,53 @@ fn put_contenders(out: &mut [u8], p: Pen, who: u16) -> Pen {
 fn put_pots(out: &mut [u8], p: Pen, c: Chips) -> Pen {
     let ps = c.pots;
     let n = ps.n;
-    let mut pen = put(out, p, b"</figure>\n<table class=\"pots\">\n<caption>Pots</caption>\n<tr><th>pot</th><th>heights</th><th>chips</th><th>contended by</th></tr>\n");
+    let mut pen = put(
+        out,
+        p,
+        b"</figure>\n<table class=\"pots\">\n<caption>Pots</caption>\n<tr><th>pot</th><th>heights</th><th>chips</th><th>contended by</th></tr>\n",
+    );
     let mut k: usize = 0;
     while k < n {
         pen = put_pot(out, pen, c, k);
         k += 1;
     }
-    say(out, pen, b"<tr><td colspan=\"2\">back</td><td class=\"back\">", c.back as u64, b"</td><td></td></tr>\n</table>\n")
+    say(
+        out,
+        pen,
+        b"<tr><td colspan=\"2\">back</td><td class=\"back\">",
+        c.back as u64,
+        b"</td><td></td></tr>\n</table>\n",
+    )
 }
 
 // Fee, drop and what nobody claims.
 fn put_charges(out: &mut [u8], p: Pen, h: Hand) -> Pen {
     if !h.settled {
-        return put(out, p, b"</table>\n<p class=\"open\"><strong>The log ends inside this hand: nothing of it is paid.</strong></p>\n</section>\n");
+        return put(
+            out,
+            p,
+            b"</table>\n<p class=\"open\"><strong>The log ends inside this hand: nothing of it is paid.</strong></p>\n</section>\n",
+        );
     }
-    let a = say2(out, p, b"</table>\n<p class=\"charges\">fee <span class=\"fee\">", h.fee as u64, b"</span>, unclaimed <span class=\"unclaimed\">", h.unclaimed as u64, b"</span>");
+    let a = say2(
+        out,
+        p,
+        b"</table>\n<p class=\"charges\">fee <span class=\"fee\">",
+        h.fee as u64,
+        b"</span>, unclaimed <span class=\"unclaimed\">",
+        h.unclaimed as u64,
+        b"</span>",
+    );
     if h.drop == 0 {
         return put(out, a, b"</p>\n</section>\n");
     }
-    say(out, a, b", drop <span class=\"drop\">", h.drop as u64, b"</span></p>\n</section>\n")
+    say(
+        out,
+        a,
+        b", drop <span class=\"drop\">",
+        h.drop as u64,
+        b"</span></p>\n</section>\n",
+    )
 }
 
 // The end of a section: the picture and the tables.
@@ -269,8 +373,16 @@ pub fn put_end(out: &mut [u8], p: Pen, h: Hand) -> Pen {
 
 // The head of the sittings' table.
 fn put_parts_head(out: &mut [u8], p: Pen) -> Pen {
-    let a = put(out, p, b"<table class=\"parts\">\n<caption>Who was dealt in</caption>\n<tr><th>seat</th><th>sitting</th><th>stack before</th><th>before the flop</th><th>flop</th><th>turn</th><th>river</th><th>put in</th>");
-    put(out, a, b"<th>hand</th><th>cards</th><th>best five</th><th>goes back</th><th>paid</th><th class=\"why\">why</th></tr>\n")
+    let a = put(
+        out,
+        p,
+        b"<table class=\"parts\">\n<caption>Who was dealt in</caption>\n<tr><th>seat</th><th>sitting</th><th>stack before</th><th>before the flop</th><th>flop</th><th>turn</th><th>river</th><th>put in</th>",
+    );
+    put(
+        out,
+        a,
+        b"<th>hand</th><th>cards</th><th>best five</th><th>goes back</th><th>paid</th><th class=\"why\">why</th></tr>\n",
+    )
 }
 
 fn put_end_on(out: &mut [u8], p: Pen, h: Hand) -> Pen {

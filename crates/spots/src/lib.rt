@@ -88,8 +88,7 @@ pub fn column_x(j: u32) -> u64 {
 }
 
 // The right side of the bands across so many columns.
-pub fn right_of(columns: u32) -> u64
-{
+pub fn right_of(columns: u32) -> u64 {
     if columns < 10 {
         return 200 + 800 * columns as u64;
     }

@@ -26,13 +26,37 @@ pub struct Event {
 
 // The entry's number and its seat.
 fn put_who(out: &mut [u8], p: Pen, e: Event) -> Pen {
-    let a = say2(out, p, b"<p><b>", e.n as u64, b"</b> seat ", e.seat as u64, b" (sitting ");
+    let a = say2(
+        out,
+        p,
+        b"<p><b>",
+        e.n as u64,
+        b"</b> seat ",
+        e.seat as u64,
+        b" (sitting ",
+    );
     say(out, a, b"", e.sitting as u64, b") ")
 }
 
 fn put_sat(out: &mut [u8], p: Pen, e: Event) -> Pen {
-    let a = say2(out, p, b"<p><b>", e.n as u64, b"</b> seat ", e.seat as u64, b": sitting ");
-    say2(out, a, b"", e.after as u64, b" sits down with ", e.left as u64, b"</p>\n")
+    let a = say2(
+        out,
+        p,
+        b"<p><b>",
+        e.n as u64,
+        b"</b> seat ",
+        e.seat as u64,
+        b": sitting ",
+    );
+    say2(
+        out,
+        a,
+        b"",
+        e.after as u64,
+        b" sits down with ",
+        e.left as u64,
+        b"</p>\n",
+    )
 }
 
 // A sitting leaves: with what it has, and of the open hand it leaves what it put in.
@@ -68,7 +92,15 @@ fn put_all_in(out: &mut [u8], p: Pen, all: bool) -> Pen {
 fn put_wager(out: &mut [u8], p: Pen, e: Event) -> Pen {
     let paid = laws::short_of(e.stack, e.left);
     let a = put_who(out, p, e);
-    let b = say2(out, a, b"wagers to ", e.a as u64, b": puts in ", paid as u64, b"");
+    let b = say2(
+        out,
+        a,
+        b"wagers to ",
+        e.a as u64,
+        b": puts in ",
+        paid as u64,
+        b"",
+    );
     put_all_in(out, b, e.left == 0)
 }
 
@@ -120,7 +152,15 @@ pub fn put_event(out: &mut [u8], p: Pen, e: Event) -> Pen {
 
 // The numbers of a refused block, as they were read.
 fn put_numbers(out: &mut [u8], p: Pen, e: Event) -> Pen {
-    let a = say2(out, p, b" seat ", e.seat as u64, b", a ", e.a as u64, b", b ");
+    let a = say2(
+        out,
+        p,
+        b" seat ",
+        e.seat as u64,
+        b", a ",
+        e.a as u64,
+        b", b ",
+    );
     say(out, a, b"", e.b as u64, b"")
 }
 

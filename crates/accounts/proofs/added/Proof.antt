@@ -1,3 +1,4 @@
+-- `added` meets its contract.
 use borrow.Author.Tests.{lt-ltb, le-ltb}
 use Rattle.accounts.specs.Sums.{addedTo}
 use borrow.Author.Needs.{needs}

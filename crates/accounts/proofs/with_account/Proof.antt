@@ -1,3 +1,4 @@
+-- `with_account` meets its contract.
 use borrow.Author.Needs.{needs}
 use Rattle.accounts.proofs.with_account.Statement.{statement}
 use Rattle.accounts.proofs.with_account.Tie as tie

@@ -1,3 +1,4 @@
+-- `with_charges` meets its contract.
 use borrow.Author.Needs.{needs}
 use Rattle.accounts.proofs.with_charges.Statement.{statement}
 use Rattle.accounts.proofs.with_charges.Tie as tie

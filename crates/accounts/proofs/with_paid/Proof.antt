@@ -1,3 +1,4 @@
+-- `with_paid` meets its contract.
 use borrow.Author.Needs.{needs}
 use Rattle.accounts.proofs.with_paid.Statement.{statement}
 use Rattle.accounts.proofs.with_paid.Tie as tie

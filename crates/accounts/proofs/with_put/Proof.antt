@@ -1,3 +1,4 @@
+-- `with_put` meets its contract.
 use borrow.Author.Needs.{needs}
 use Rattle.accounts.proofs.with_put.Statement.{statement}
 use Rattle.accounts.proofs.with_put.Tie as tie

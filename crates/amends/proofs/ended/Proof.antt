@@ -1,3 +1,4 @@
+-- `ended` meets its contract.
 use Rattle.amends.proofs.Judging.{ended-is}
 use borrow.Author.Needs.{needs}
 use Rattle.amends.proofs.ended.Statement.{statement}

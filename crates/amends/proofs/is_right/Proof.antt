@@ -1,3 +1,4 @@
+-- `is_right` meets its contract.
 use Rattle.amends.proofs.Judging.{right-yes, right-no}
 use borrow.Author.Needs.{needs}
 use Rattle.amends.proofs.is_right.Statement.{statement}

@@ -1,3 +1,4 @@
+-- `judge_right` meets its contract.
 use Rattle.amends.proofs.Judging.{code-is, judged-no, judged-yes, judged-small, refused-right}
 use Rattle.amends.specs.Righting.{codeBefore}
 use mathlib.Core.Path.{_≡_}

@@ -1,3 +1,4 @@
+-- `outside` meets its contract.
 use Rattle.amends.proofs.Judging.{outside-value}
 use borrow.Author.Needs.{needs}
 use Rattle.amends.proofs.outside.Statement.{statement}

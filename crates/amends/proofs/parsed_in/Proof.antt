@@ -1,3 +1,4 @@
+-- `parsed_in` meets its contract.
 use Rattle.amends.proofs.Judging.{parsed-raw}
 use borrow.Author.Needs.{needs}
 use Rattle.amends.proofs.parsed_in.Statement.{statement}

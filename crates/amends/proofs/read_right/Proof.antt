@@ -1,3 +1,4 @@
+-- `read_right` meets its contract.
 use Rattle.amends.proofs.Judging.{right-five, right-small}
 use borrow.Author.Needs.{needs}
 use Rattle.amends.proofs.read_right.Statement.{statement}

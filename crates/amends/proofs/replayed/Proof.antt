@@ -1,3 +1,4 @@
+-- `replayed` meets its contract.
 use Rattle.amends.proofs.Judging.{refused-right, replayed-none, replayed-read}
 use borrow.Author.Needs.{needs}
 use Rattle.amends.proofs.replayed.Statement.{statement}

@@ -1,3 +1,4 @@
+-- `right_code` meets its contract.
 use borrow.Author.Needs.{needs}
 use Rattle.amends.proofs.right_code.Statement.{statement}
 use Rattle.amends.proofs.right_code.Tie as tie

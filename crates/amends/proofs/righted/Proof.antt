@@ -1,3 +1,4 @@
+-- `righted` meets its contract.
 use Rattle.amends.proofs.Judging.{righted-yes, righted-no, refused-right}
 use borrow.Author.Needs.{needs}
 use Rattle.amends.proofs.righted.Statement.{statement}

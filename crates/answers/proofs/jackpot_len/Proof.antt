@@ -1,3 +1,4 @@
+-- `jackpot_len` meets its contract.
 use native.Mathlib.Omega.{arith}
 use Rattle.answers.proofs.Blocks.{jackpot-count}
 use Rattle.laws.specs.Tests.{pick}

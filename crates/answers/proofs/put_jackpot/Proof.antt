@@ -1,3 +1,4 @@
+-- `put_jackpot` meets its contract.
 use native.Mathlib.Omega.{arith}
 use Rattle.answers.proofs.Blocks.{jackpot-shared, jackpot-lone}
 use lib.ListN.{length}

@@ -1,3 +1,4 @@
+-- `again` meets its contract.
 use borrow.Author.Needs.{needs}
 use Rattle.chairs.proofs.again.Statement.{statement}
 use Rattle.chairs.proofs.again.Tie as tie

@@ -1,3 +1,4 @@
+-- `live_with_chips` meets its contract.
 use borrow.Author.Needs.{needs}
 use Rattle.chairs.proofs.live_with_chips.Statement.{statement}
 use Rattle.chairs.proofs.live_with_chips.Tie as tie

@@ -1,3 +1,4 @@
+-- `try_rooms` meets its contract.
 use lib.ListN.{length}
 use native.Mathlib.Omega.{arith}
 use Prim.Native.Nat.{_+_, _-_}

@@ -1,3 +1,4 @@
+-- `try_seconds` meets its contract.
 use lib.ListN.{length}
 use native.Mathlib.Omega.{arith}
 use Prim.Native.Nat.{_+_, _-_, _≤_}

@@ -1,3 +1,4 @@
+-- `height` meets its contract.
 use Rattle.columns.specs.Columns.{drawnOf}
 use borrow.Author.Needs.{needs}
 use Rattle.columns.proofs.height.Statement.{statement}

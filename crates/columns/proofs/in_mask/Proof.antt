@@ -1,3 +1,4 @@
+-- `in_mask` meets its contract.
 use Prim.Native.Nat.{_≤_, _-_, _+_, _/_}
 use mathlib.Core.Path.{_≡_, sym, ap, _∙_}
 use native.Mathlib.Omega.{arith}

@@ -1,3 +1,4 @@
+-- `least_if` meets its contract.
 use borrow.Author.Tests.{eq-eqb, ne-eqb}
 use borrow.Author.Needs.{needs}
 use Rattle.columns.proofs.least_if.Statement.{statement}

@@ -1,3 +1,4 @@
+-- `reach` meets its contract.
 use mathlib.Core.Path.{_∙_, ap}
 use Rattle.columns.specs.Columns.{reachOf, leastAmong}
 use borrow.Author.Needs.{needs}

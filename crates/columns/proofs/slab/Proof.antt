@@ -1,3 +1,4 @@
+-- `slab` meets its contract.
 use mathlib.Core.Path.{_∙_, ap₂}
 use Prim.Native.Nat.{_-_}
 use Rattle.columns.specs.Columns.{slabOf}

@@ -1,3 +1,4 @@
+-- `wins` meets its contract.
 use Rattle.columns.specs.Columns.{winsOf}
 use borrow.Author.Needs.{needs}
 use Rattle.columns.proofs.wins.Statement.{statement}

@@ -1,3 +1,4 @@
+-- `house_with` meets its contract.
 use mathlib.Core.Path.{refl}
 use Rattle.couple.proofs.Tables.{house-is}
 use borrow.Author.Needs.{needs}

@@ -1,3 +1,4 @@
+-- `last_lines` meets its contract.
 use native.Mathlib.Omega.{arith}
 use Rattle.couple.specs.Couple.{poolKey, houseKey}
 use Rattle.writing.proofs.Sheets.{then}

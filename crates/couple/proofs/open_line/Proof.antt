@@ -1,3 +1,4 @@
+-- `open_line` meets its contract.
 use Rattle.pool.specs.declared.Opening as opens
 use mathlib.Core.Path.{ap, sym, _∙_, subst}
 use Rattle.couple.proofs.Tables.{opened-held, pool-gave, pool-over, pool-bad}

@@ -1,3 +1,4 @@
+-- `open_sheet` meets its contract.
 use Rattle.text.proofs.SheetLaws.{sheet-is}
 use mathlib.Core.Path.{refl, sym, _∙_}
 use Rattle.couple.proofs.Tables.{sheet-bad, sheet-gave}

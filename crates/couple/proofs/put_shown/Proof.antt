@@ -1,3 +1,4 @@
+-- `put_shown` meets its contract.
 use native.Mathlib.Omega.{arith}
 use Prim.Native.Nat.{ℕ}
 use mathlib.Core.List.{List, _++_}

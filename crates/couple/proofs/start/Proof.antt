@@ -1,3 +1,4 @@
+-- `start` meets its contract.
 use Rattle.paper.proofs.Sheets.{stand-in-good}
 use Rattle.couple.proofs.Tables.{started}
 use Rattle.couple.proofs.start.Statement.{statement}

@@ -1,3 +1,4 @@
+-- `table_at` meets its contract.
 use mathlib.Core.Path.{_≡_}
 use lib.ListN.{length}
 use Rattle.couple.proofs.Tables.{at-second, at-first}

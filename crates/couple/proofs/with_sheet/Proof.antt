@@ -1,3 +1,4 @@
+-- `with_sheet` meets its contract.
 use Rattle.couple.proofs.Tables.{sheet-with}
 use borrow.Author.Needs.{needs}
 use Rattle.couple.proofs.with_sheet.Statement.{statement}

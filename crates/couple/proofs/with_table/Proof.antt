@@ -1,3 +1,4 @@
+-- `with_table` meets its contract.
 use Rattle.couple.proofs.Tables.{with-second, with-first}
 use borrow.Author.Needs.{needs}
 use Rattle.couple.proofs.with_table.Statement.{statement}

@@ -1,3 +1,4 @@
+-- `answer_block` meets its contract.
 use Rattle.desk.specs.Desk.{judgeBlock}
 use Rattle.desk.proofs.Laws.{answered-is, none-answered}
 use Rattle.desk.proofs.Room.{judged-closed}

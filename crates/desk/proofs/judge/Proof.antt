@@ -1,3 +1,4 @@
+-- `judge` meets its contract.
 use Rattle.desk.specs.Desk.{judgedOf, judgeBlock}
 use Rattle.desk.proofs.Laws.{block-small}
 use mathlib.Core.Path.{ap, _∙_}

@@ -1,3 +1,4 @@
+-- `judge_block` meets its contract.
 use Rattle.desk.proofs.Laws.{raw-judged, bad-judged, none-judged}
 use borrow.Author.Needs.{needs}
 use Rattle.desk.proofs.judge_block.Statement.{statement}

@@ -1,3 +1,4 @@
+-- `judge_parsed` meets its contract.
 use Rattle.paper.specs.Paper.{outOfRange}
 use Rattle.desk.proofs.Laws.{read-judged, refused-judged}
 use borrow.Author.Needs.{needs}

@@ -1,3 +1,4 @@
+-- `no_block` meets its contract.
 use borrow.Author.Needs.{needs}
 use Rattle.desk.proofs.no_block.Statement.{statement}
 use Rattle.desk.proofs.no_block.Tie as tie

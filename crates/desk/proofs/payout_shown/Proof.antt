@@ -1,3 +1,4 @@
+-- `payout_shown` meets its contract.
 use borrow.Author.Needs.{needs}
 use Rattle.desk.proofs.payout_shown.Statement.{statement}
 use Rattle.desk.proofs.payout_shown.Tie as tie

@@ -1,3 +1,4 @@
+-- `refused` meets its contract.
 use borrow.Author.Needs.{needs}
 use Rattle.desk.proofs.refused.Statement.{statement}
 use Rattle.desk.proofs.refused.Tie as tie

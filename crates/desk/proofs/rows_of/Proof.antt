@@ -1,3 +1,4 @@
+-- `rows_of` meets its contract.
 use Rattle.desk.proofs.Laws.{rows-turn, rows-done}
 use Rattle.desk.specs.Desk.{rowsOf}
 use borrow.Author.Needs.{needs}

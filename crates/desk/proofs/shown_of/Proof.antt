@@ -1,3 +1,4 @@
+-- `shown_of` meets its contract.
 use Rattle.desk.proofs.Laws.{made-shown}
 use borrow.Author.Needs.{needs}
 use Rattle.desk.proofs.shown_of.Statement.{statement}

@@ -1,3 +1,4 @@
+-- `at_end` meets its contract.
 use Rattle.frames.proofs.Nexts.{end-opening, end-none, end-line, end-run, end-block}
 use Rattle.frames.proofs.at_end.Statement.{statement}
 use Rattle.frames.proofs.at_end.Tie as tie

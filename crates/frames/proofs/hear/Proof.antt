@@ -1,3 +1,4 @@
+-- `hear` meets its contract.
 use native.Mathlib.Omega.{arith}
 use Rattle.frames.proofs.Nexts.{wanted-range, from-within, heard-kept, heard-whole}
 use borrow.Author.Needs.{needs}

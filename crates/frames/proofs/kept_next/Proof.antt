@@ -1,3 +1,4 @@
+-- `kept_next` meets its contract.
 use Rattle.frames.proofs.Nexts.{kept-more, kept-last}
 use borrow.Author.Needs.{needs}
 use Rattle.frames.proofs.kept_next.Statement.{statement}

@@ -1,3 +1,4 @@
+-- `line_next` meets its contract.
 use Rattle.frames.proofs.Nexts.{line-opening, line-other, line-table}
 use borrow.Author.Needs.{needs}
 use Rattle.frames.proofs.line_next.Statement.{statement}

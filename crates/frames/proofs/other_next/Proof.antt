@@ -1,3 +1,4 @@
+-- `other_next` meets its contract.
 use Rattle.frames.proofs.Nexts.{other-first, other-more, other-block}
 use borrow.Author.Needs.{needs}
 use Rattle.frames.proofs.other_next.Statement.{statement}

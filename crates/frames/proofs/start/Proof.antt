@@ -1,3 +1,4 @@
+-- `start` meets its contract.
 use Rattle.frames.proofs.Nexts.{started}
 use borrow.Author.Needs.{needs}
 use Rattle.frames.proofs.start.Statement.{statement}

@@ -1,3 +1,4 @@
+-- `table_in` meets its contract.
 use native.Mathlib.Omega.{arith}
 use Rattle.frames.proofs.Nexts.{table-none}
 use borrow.Author.Needs.{needs}

@@ -1,3 +1,4 @@
+-- `table_next` meets its contract.
 use Rattle.frames.proofs.Nexts.{table-first, table-cut}
 use borrow.Author.Needs.{needs}
 use Rattle.frames.proofs.table_next.Statement.{statement}

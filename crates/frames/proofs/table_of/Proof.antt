@@ -1,3 +1,4 @@
+-- `table_of` meets its contract.
 use mathlib.Core.Path.{ap, _∙_}
 use Rattle.frames.specs.Frames.{tableOf, tableIn}
 use borrow.Author.Needs.{needs}

@@ -1,3 +1,4 @@
+-- `wanted` meets its contract.
 use Rattle.frames.proofs.Nexts.{wanted-pool, wanted-sheet, wanted-table, wanted-block}
 use Rattle.frames.proofs.wanted.Statement.{statement}
 use Rattle.frames.proofs.wanted.Tie as tie

@@ -1,3 +1,4 @@
+-- `begun` meets its contract.
 use mathlib.Core.Bool.{true}
 use Rattle.table.specs.declared.table.Table.{Table}
 use mathlib.Core.Path.{ap}

@@ -1,3 +1,4 @@
+-- `entry_or` meets its contract.
 use Rattle.fresh.proofs.Steps.{here-it-is, another}
 use Rattle.records.specs.Stored.{entryIn}
 use borrow.Author.Needs.{needs}

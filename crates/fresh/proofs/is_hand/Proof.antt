@@ -1,3 +1,4 @@
+-- `is_hand` meets its contract.
 use Rattle.fresh.specs.Reading.{isHand}
 use borrow.Author.Needs.{needs}
 use Rattle.fresh.proofs.is_hand.Statement.{statement}

@@ -1,3 +1,4 @@
+-- `play_on` meets its contract.
 use Rattle.fresh.proofs.Steps.{play-is}
 use mathlib.Core.Path.{refl}
 use borrow.Author.Needs.{needs}

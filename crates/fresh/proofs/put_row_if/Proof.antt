@@ -1,3 +1,4 @@
+-- `put_row_if` meets its contract.
 use Rattle.fresh.proofs.Steps.{rowed-yes, rowed-no}
 use borrow.Author.Needs.{needs}
 use Rattle.fresh.proofs.put_row_if.Statement.{statement}

@@ -1,3 +1,4 @@
+-- `replay` meets its contract.
 use Rattle.fresh.proofs.Steps.{played-turn}
 use Rattle.fresh.specs.declared.Played.{Played}
 use Rattle.fresh.specs.Reading.{replacing, playedFrom}

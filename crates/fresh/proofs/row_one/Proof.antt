@@ -1,3 +1,4 @@
+-- `row_one` meets its contract.
 use Rattle.fresh.proofs.Steps.{row-is}
 use Rattle.records.specs.Stored.{entryIn}
 use borrow.Author.Needs.{needs}

@@ -1,3 +1,4 @@
+-- `write_rows` meets its contract.
 use Rattle.fresh.proofs.Steps.{rowed-turn, index-turn, rowed-most}
 use Rattle.fresh.specs.declared.Rowed.{Rowed}
 use Rattle.fresh.specs.Reading.{rowsBegun, rowedFrom, indexFrom}

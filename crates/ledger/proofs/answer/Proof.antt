@@ -1,3 +1,4 @@
+-- `answer` meets its contract.
 use Rattle.desk.specs.Desk.{numberOfBlock}
 use Rattle.blocks.specs.declared.Block.{Block}
 use Prim.Native.Nat.{_<_, _^_}

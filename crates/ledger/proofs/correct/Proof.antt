@@ -1,3 +1,4 @@
+-- `correct` meets its contract.
 use Rattle.ledger.proofs.Closing.{right-closed}
 use Rattle.ledger.proofs.Holding.{righted-is}
 use Rattle.text.proofs.Parts.{part-is}

@@ -1,3 +1,4 @@
+-- `enter` meets its contract.
 use Rattle.ledger.proofs.Closing.{entry-closed}
 use Rattle.ledger.proofs.Holding.{entered-is}
 use borrow.Author.Needs.{needs}

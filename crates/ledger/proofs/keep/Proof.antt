@@ -1,3 +1,4 @@
+-- `keep` meets its contract.
 use Rattle.ledger.proofs.Telling.{keep-yes, keep-no}
 use borrow.Author.Needs.{needs}
 use Rattle.ledger.proofs.keep.Statement.{statement}

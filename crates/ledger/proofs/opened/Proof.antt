@@ -1,3 +1,4 @@
+-- `opened` meets its contract.
 use Rattle.table.specs.declared.table.Table.{Table}
 use Rattle.paper.specs.Paper.{isSheet}
 use native.Mathlib.Omega.{arith}

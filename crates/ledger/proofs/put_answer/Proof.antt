@@ -1,3 +1,4 @@
+-- `put_answer` meets its contract.
 use Rattle.ledger.proofs.Telling.{none-put, some-put}
 use borrow.Author.Tests.{not-true, not-false}
 use borrow.Author.Needs.{needs}

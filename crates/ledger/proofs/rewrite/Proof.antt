@@ -1,3 +1,4 @@
+-- `rewrite` meets its contract.
 use Rattle.ledger.proofs.Telling.{rewrite-yes, rewrite-no}
 use Rattle.text.proofs.Parts.{part-is}
 use borrow.Author.Needs.{needs}

@@ -1,3 +1,4 @@
+-- `told` meets its contract.
 use Rattle.ledger.proofs.Telling.{told-bytes, told-none}
 use borrow.Author.Needs.{needs}
 use Rattle.ledger.proofs.told.Statement.{statement}

@@ -1,3 +1,4 @@
+-- `was_taken` meets its contract.
 use Rattle.ledger.proofs.Telling.{taken-bytes, taken-none}
 use borrow.Author.Needs.{needs}
 use Rattle.ledger.proofs.was_taken.Statement.{statement}

@@ -1,3 +1,4 @@
+-- `entry_by` meets its contract.
 use Rattle.records.proofs.Found.{entry-none}
 use mathlib.Core.Path.{refl}
 use borrow.Author.Needs.{needs}

@@ -1,3 +1,4 @@
+-- `entry_in` meets its contract.
 use Rattle.records.specs.Stored.{entryBy}
 use mathlib.Core.Path.{_∙_, ap}
 use borrow.Author.Needs.{needs}

@@ -1,3 +1,4 @@
+-- `later` meets its contract.
 use Rattle.records.proofs.Found.{later-hand, later-other}
 use Rattle.records.proofs.later.Statement.{statement}
 use Rattle.records.proofs.later.Tie as tie

@@ -1,3 +1,4 @@
+-- `put_record` meets its contract.
 use Rattle.records.proofs.Puts.{record-put, record-none}
 use mathlib.Core.Path.{refl}
 use borrow.Author.Needs.{needs}

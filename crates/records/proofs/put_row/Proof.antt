@@ -1,3 +1,4 @@
+-- `put_row` meets its contract.
 use Rattle.records.proofs.Puts.{row-put, row-none}
 use lib.ListN.{length}
 use mathlib.Core.Path.{_≡_, refl}

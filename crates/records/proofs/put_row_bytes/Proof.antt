@@ -1,3 +1,4 @@
+-- `put_row_bytes` meets its contract.
 use Rattle.records.proofs.Words.{words-length}
 use mathlib.Core.Path.{_≡_}
 use lib.ListN.{length}

@@ -1,3 +1,4 @@
+-- `put_word` meets its contract.
 use Rattle.records.proofs.Words.{word-wrote}
 use borrow.Author.Needs.{needs}
 use Rattle.records.proofs.put_word.Statement.{statement}

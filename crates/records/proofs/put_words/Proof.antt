@@ -1,3 +1,4 @@
+-- `put_words` meets its contract.
 use Rattle.records.proofs.Words.{Going, going-start, going-at, going-part, going-turn, going-done}
 use lib.ListN.{length}
 use mathlib.Core.Path.{_≡_, refl}

@@ -1,3 +1,4 @@
+-- `record_at` meets its contract.
 use Rattle.records.proofs.Found.{absent, present}
 use borrow.Author.Needs.{needs}
 use Rattle.records.proofs.record_at.Statement.{statement}

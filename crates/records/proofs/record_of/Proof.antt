@@ -1,3 +1,4 @@
+-- `record_of` meets its contract.
 use borrow.Author.Needs.{needs}
 use Rattle.records.proofs.record_of.Statement.{statement}
 use Rattle.records.proofs.record_of.Tie as tie

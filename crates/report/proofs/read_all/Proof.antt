@@ -1,3 +1,4 @@
+-- `read_all` meets its contract.
 use mathlib.Core.Path.{_≡_, refl}
 use native.Mathlib.Omega.{arith}
 use lib.ListN.{length}

@@ -1,3 +1,4 @@
+-- `start` meets its contract.
 use Rattle.paper.proofs.Sheets.{stand-in-good}
 use borrow.Author.Needs.{needs}
 use Rattle.report.proofs.start.Statement.{statement}

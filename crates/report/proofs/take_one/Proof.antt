@@ -1,3 +1,4 @@
+-- `take_one` meets its contract.
 use native.Mathlib.Omega.{arith}
 use Rattle.report.proofs.Rest.{rest-some}
 use borrow.Author.Needs.{needs}

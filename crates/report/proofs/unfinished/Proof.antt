@@ -1,3 +1,4 @@
+-- `unfinished` meets its contract.
 use mathlib.Core.Path.{ap}
 use native.Mathlib.Omega.{arith}
 use Rattle.lines.specs.declared.Mark.{Mark}

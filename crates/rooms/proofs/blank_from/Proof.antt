@@ -1,3 +1,4 @@
+-- `blank_from` meets its contract.
 use Prim.Native.Nat.{_-_}
 use Rattle.answers.specs.Answer.{longest}
 use borrow.Author.Needs.{needs}

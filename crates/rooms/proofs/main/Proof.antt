@@ -1,3 +1,4 @@
+-- `main` meets its contract.
 use Rattle.desk.proofs.Opened.{opened-is}
 use mathlib.Core.Path.{sym, _∙_}
 use borrow.Author.Needs.{needs}

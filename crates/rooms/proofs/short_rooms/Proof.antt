@@ -1,3 +1,4 @@
+-- `short_rooms` meets its contract.
 use Prim.Native.Nat.{_-_}
 use borrow.Author.Needs.{needs}
 use Rattle.rooms.proofs.short_rooms.Statement.{statement}

@@ -1,3 +1,4 @@
+-- `try_log` meets its contract.
 use Rattle.desk.proofs.Whole.{whole-part}
 use Rattle.blocks.proofs.Blocks.{rest-shorter}
 use mathlib.Core.Path.{ap, _∙_}

@@ -1,3 +1,4 @@
+-- `worth_given` meets its contract.
 use native.Mathlib.Nat.{mul-le-mul}
 -- `worth_given` meets its contract. The invariant: the worth of the rows below i, which is small.
 -- Assumes nothing.

@@ -1,3 +1,4 @@
+-- `folded_backs` meets its contract.
 use Rattle.banked.proofs.Folds.{folded-backs}
 use mathlib.Core.Path.{ap, _∙_}
 use mathlib.Core.Bool.{false}

@@ -1,3 +1,4 @@
+-- `round_backs` meets its contract.
 use Rattle.banked.proofs.Folds.{fold-stakes}
 use Rattle.banked.specs.Rounds.{isFold}
 use mathlib.Core.Bool.{true}

@@ -1,3 +1,4 @@
+-- `settled_of` meets its contract.
 use native.Mathlib.Omega.{arith}
 use Rattle.banked.specs.Rounds.{settledOf}
 use borrow.Author.Needs.{needs}

@@ -1,3 +1,4 @@
+-- `put_chair` meets its contract.
 use native.Mathlib.Omega.{arith}
 use lib.ListN.{length}
 use Rattle.chairs.proofs.Laws.{put-in, put-out}

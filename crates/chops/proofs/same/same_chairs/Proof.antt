@@ -1,3 +1,4 @@
+-- `same_chairs` meets its contract.
 use Prim.Native.Nat.{_-_}
 -- `same_chairs` meets its contract.
 use borrow.Author.Needs.{needs}

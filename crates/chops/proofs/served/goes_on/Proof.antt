@@ -1,3 +1,4 @@
+-- `goes_on` meets its contract.
 use Prim.Native.Nat.{_-_}
 use borrow.Author.Tests.{ltb-true}
 use mathlib.Core.Path.{sym}

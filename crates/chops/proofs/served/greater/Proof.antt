@@ -1,3 +1,4 @@
+-- `greater` meets its contract.
 use native.Mathlib.Omega.{arith}
 -- `greater` meets its contract.
 use Rattle.chops.proofs.served.greater.Statement.{statement}

@@ -1,3 +1,4 @@
+-- `hear_one` meets its contract.
 use lib.Seq.{length-take-le}
 use lib.ListN.{length, take, drop, length-drop}
 use native.Mathlib.Omega.{arith}

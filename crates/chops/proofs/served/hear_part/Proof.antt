@@ -1,3 +1,4 @@
+-- `hear_part` meets its contract.
 use mathlib.Core.Path.{ap}
 use Rattle.text.proofs.Parts.{part-is}
 use Rattle.stream.specs.Feeding.{Held}

@@ -1,3 +1,4 @@
+-- `longest` meets its contract.
 use Rattle.stream.specs.Feeding.{Held}
 use lib.ListN.{length}
 use native.Mathlib.Omega.{arith}

@@ -1,3 +1,4 @@
+-- `blocks` meets its contract.
 use Rattle.desk.proofs.Whole.{going-room, whole-part, Going, going-start, going-turn, going-done}
 use mathlib.Core.Path.{refl, ap, _∙_}
 use lib.ListN.{length}

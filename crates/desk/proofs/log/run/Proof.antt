@@ -1,3 +1,4 @@
+-- `run` meets its contract.
 use borrow.Author.Needs.{needs}
 use Rattle.desk.proofs.Whole.{run-bad, run-good}
 use Rattle.desk.proofs.Opened.{opened-is}

@@ -1,3 +1,4 @@
+-- `held_back` meets its contract.
 use Rattle.ledger.proofs.Telling.{held-yes, held-no}
 use borrow.Author.Needs.{needs}
 use Rattle.ledger.proofs.judged.held_back.Statement.{statement}

@@ -1,3 +1,4 @@
+-- `is_full` meets its contract.
 use Rattle.ledger.specs.Entering.{isFull}
 use borrow.Author.Needs.{needs}
 use Rattle.ledger.proofs.judged.is_full.Statement.{statement}

@@ -1,3 +1,4 @@
+-- `judge_entry` meets its contract.
 use Rattle.ledger.proofs.Telling.{entry-judged}
 use Prim.Native.Nat.{ℕ, _<_, _^_}
 use mathlib.Core.Path.{_≡_, sym, subst, _∙_}

@@ -1,3 +1,4 @@
+-- `numbers_in` meets its contract.
 use Rattle.ledger.proofs.Telling.{numbers-raw, numbers-malformed, numbers-nothing}
 use borrow.Author.Needs.{needs}
 use Rattle.ledger.proofs.judged.numbers_in.Statement.{statement}

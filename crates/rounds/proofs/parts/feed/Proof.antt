@@ -1,3 +1,4 @@
+-- `feed` meets its contract.
 use Rattle.rounds.proofs.InPlace.{here-left, here-kept, here-wrote, here-used}
 use mathlib.Core.Path.{sym, _∙_}
 use borrow.Author.Needs.{needs}

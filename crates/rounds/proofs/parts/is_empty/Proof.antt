@@ -1,3 +1,4 @@
+-- `is_empty` meets its contract.
 use borrow.Author.Needs.{needs}
 use Rattle.rounds.proofs.parts.is_empty.Statement.{statement}
 use Rattle.rounds.proofs.parts.is_empty.Tie as tie

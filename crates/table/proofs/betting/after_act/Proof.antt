@@ -1,3 +1,4 @@
+-- `after_act` meets its contract.
 use Rattle.table.specs.Betting.{afterAct}
 use Rattle.chairs.proofs.Above.{seats-put}
 use borrow.Author.Needs.{needs}

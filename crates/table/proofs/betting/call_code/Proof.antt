@@ -1,3 +1,4 @@
+-- `call_code` meets its contract.
 use Rattle.table.specs.Betting.{callCode}
 use borrow.Author.Needs.{needs}
 use Rattle.table.proofs.betting.call_code.Statement.{statement}

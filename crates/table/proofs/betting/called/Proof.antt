@@ -1,3 +1,4 @@
+-- `called` meets its contract.
 use Prim.Native.Nat.{_+_}
 use Rattle.chairs.proofs.Laws.{chips-at}
 use native.Mathlib.Omega.{arith}

@@ -1,3 +1,4 @@
+-- `check_code` meets its contract.
 use Rattle.table.specs.Betting.{checkCode}
 use borrow.Author.Needs.{needs}
 use Rattle.table.proofs.betting.check_code.Statement.{statement}

@@ -1,3 +1,4 @@
+-- `checked` meets its contract.
 use Rattle.table.specs.Betting.{checkedTo}
 use borrow.Author.Needs.{needs}
 use Rattle.table.proofs.betting.checked.Statement.{statement}

@@ -1,3 +1,4 @@
+-- `dead_code` meets its contract.
 use Rattle.table.specs.Betting.{deadCode}
 use borrow.Author.Needs.{needs}
 use Rattle.table.proofs.betting.dead_code.Statement.{statement}

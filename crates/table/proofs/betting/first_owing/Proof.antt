@@ -1,3 +1,4 @@
+-- `first_owing` meets its contract.
 use mathlib.Core.Path.{sym, _∙_}
 use native.Mathlib.Omega.{arith}
 use Rattle.table.specs.Betting.{liveHands, onlyWithChips}

@@ -1,3 +1,4 @@
+-- `folded` meets its contract.
 use Rattle.table.specs.Betting.{foldedTo}
 use borrow.Author.Needs.{needs}
 use Rattle.table.proofs.betting.folded.Statement.{statement}

@@ -1,3 +1,4 @@
+-- `is_full_lift` meets its contract.
 use borrow.Author.Needs.{needs}
 use Rattle.table.proofs.betting.is_full_lift.Statement.{statement}
 use Rattle.table.proofs.betting.is_full_lift.Tie as tie

@@ -1,3 +1,4 @@
+-- `killed` meets its contract.
 use Rattle.table.specs.Betting.{deadTo}
 use Rattle.chairs.proofs.Above.{seats-put}
 use borrow.Author.Needs.{needs}

@@ -1,3 +1,4 @@
+-- `lift_after` meets its contract.
 use borrow.Author.Needs.{needs}
 use Rattle.table.proofs.betting.lift_after.Statement.{statement}
 use Rattle.table.proofs.betting.lift_after.Tie as tie

@@ -1,3 +1,4 @@
+-- `lives` meets its contract.
 use Rattle.table.specs.Betting.{liveHands}
 use borrow.Author.Needs.{needs}
 use Rattle.table.proofs.betting.lives.Statement.{statement}

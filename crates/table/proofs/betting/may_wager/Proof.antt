@@ -1,3 +1,4 @@
+-- `may_wager` meets its contract.
 use Rattle.table.specs.Betting.{isWager}
 use borrow.Author.Needs.{needs}
 use Rattle.table.proofs.betting.may_wager.Statement.{statement}

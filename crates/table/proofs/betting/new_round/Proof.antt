@@ -1,3 +1,4 @@
+-- `new_round` meets its contract.
 use Rattle.table.specs.Betting.{newRound}
 use native.Mathlib.Omega.{arith}
 use Rattle.chairs.specs.declared.Sweep.the-variants.{Round}

@@ -1,3 +1,4 @@
+-- `nobody_owes` meets its contract.
 use Rattle.table.proofs.Reached.{turn-none}
 use Rattle.table.proofs.betting.nobody_owes.Statement.{statement}
 use Rattle.table.proofs.betting.nobody_owes.Tie as tie

@@ -1,3 +1,4 @@
+-- `turn_after` meets its contract.
 use Rattle.table.specs.Betting.{turnAfter}
 use borrow.Author.Needs.{needs}
 use Rattle.table.proofs.betting.turn_after.Statement.{statement}

@@ -1,3 +1,4 @@
+-- `turn_code` meets its contract.
 use Rattle.table.specs.Betting.{turnCode}
 use borrow.Author.Needs.{needs}
 use Rattle.table.proofs.betting.turn_code.Statement.{statement}

@@ -1,3 +1,4 @@
+-- `wager_code` meets its contract.
 use Rattle.table.specs.Betting.{wagerCode}
 use borrow.Author.Needs.{needs}
 use Rattle.table.proofs.betting.wager_code.Statement.{statement}

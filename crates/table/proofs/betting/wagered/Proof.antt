@@ -1,3 +1,4 @@
+-- `wagered` meets its contract.
 use Prim.Native.Nat.{_+_}
 use Rattle.chairs.proofs.Laws.{chips-at}
 use Rattle.chairs.specs.declared.Chair.{Chair}

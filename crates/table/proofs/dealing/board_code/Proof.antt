@@ -1,3 +1,4 @@
+-- `board_code` meets its contract.
 use Rattle.table.specs.Dealing.{boardCode}
 use borrow.Author.Needs.{needs}
 use Rattle.table.proofs.dealing.board_code.Statement.{statement}

@@ -1,3 +1,4 @@
+-- `boarded` meets its contract.
 use mathlib.Core.Path.{sym, ap, _∙_}
 use borrow.Author.Tests.{le-leb, lt-leb}
 use Rattle.table.specs.declared.table.Table.{Table}

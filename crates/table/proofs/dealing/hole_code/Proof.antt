@@ -1,3 +1,4 @@
+-- `hole_code` meets its contract.
 use Rattle.table.specs.Dealing.{holeCode}
 use borrow.Author.Needs.{needs}
 use Rattle.table.proofs.dealing.hole_code.Statement.{statement}

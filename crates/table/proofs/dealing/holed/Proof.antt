@@ -1,3 +1,4 @@
+-- `holed` meets its contract.
 use Rattle.table.specs.Dealing.{heldTo}
 use borrow.Author.Needs.{needs}
 use Rattle.table.proofs.dealing.holed.Statement.{statement}

@@ -1,3 +1,4 @@
+-- `used` meets its contract.
 use Rattle.table.specs.Dealing.{inThisHand}
 use borrow.Author.Needs.{needs}
 use Rattle.table.proofs.dealing.used.Statement.{statement}

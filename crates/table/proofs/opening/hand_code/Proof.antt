@@ -1,3 +1,4 @@
+-- `hand_code` meets its contract.
 use Rattle.table.specs.Opening.{handCode}
 use borrow.Author.Needs.{needs}
 use Rattle.table.proofs.opening.hand_code.Statement.{statement}

@@ -1,3 +1,4 @@
+-- `may_puck` meets its contract.
 use Rattle.table.specs.Opening.{isPuck}
 use borrow.Author.Needs.{needs}
 use Rattle.table.proofs.opening.may_puck.Statement.{statement}

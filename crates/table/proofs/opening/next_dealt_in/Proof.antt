@@ -1,3 +1,4 @@
+-- `next_dealt_in` meets its contract.
 use Rattle.table.specs.Opening.{nextDealtIn}
 use borrow.Author.Needs.{needs}
 use Rattle.table.proofs.opening.next_dealt_in.Statement.{statement}

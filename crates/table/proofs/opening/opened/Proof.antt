@@ -1,3 +1,4 @@
+-- `opened` meets its contract.
 use Prim.Native.Nat.{_≤_}
 use Rattle.chairs.proofs.Laws.{chips-sweep}
 use Rattle.table.proofs.Laws.{chips-posted}

@@ -1,3 +1,4 @@
+-- `posted` meets its contract.
 use Rattle.chairs.proofs.Laws.{chips-at}
 use Rattle.chairs.specs.declared.Chair.{Chair}
 use Prim.Native.Nat.{_+_}

@@ -1,3 +1,4 @@
+-- `stands_now` meets its contract.
 use native.Mathlib.Omega.{arith}
 use Rattle.table.proofs.Laws.{totals-within}
 use Rattle.table.specs.Settle.{potsNow, backNow}

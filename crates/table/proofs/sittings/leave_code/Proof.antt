@@ -1,3 +1,4 @@
+-- `leave_code` meets its contract.
 use Rattle.table.specs.Sittings.{leaveCode}
 use borrow.Author.Needs.{needs}
 use Rattle.table.proofs.sittings.leave_code.Statement.{statement}

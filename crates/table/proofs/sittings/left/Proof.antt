@@ -1,3 +1,4 @@
+-- `left` meets its contract.
 use Rattle.table.specs.Sittings.{leftTo}
 use borrow.Author.Needs.{needs}
 use Rattle.table.proofs.sittings.left.Statement.{statement}

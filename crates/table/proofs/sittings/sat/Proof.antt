@@ -1,3 +1,4 @@
+-- `sat` meets its contract.
 use Rattle.table.specs.Sittings.{satTo}
 use borrow.Author.Needs.{needs}
 use Rattle.table.proofs.sittings.sat.Statement.{statement}

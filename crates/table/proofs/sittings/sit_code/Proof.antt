@@ -1,3 +1,4 @@
+-- `sit_code` meets its contract.
 use Rattle.table.specs.Sittings.{sitCode}
 use borrow.Author.Needs.{needs}
 use Rattle.table.proofs.sittings.sit_code.Statement.{statement}

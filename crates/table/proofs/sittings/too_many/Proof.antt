@@ -1,3 +1,4 @@
+-- `too_many` meets its contract.
 use borrow.Author.Tests.{lt-ltb}
 use native.Mathlib.Omega.{arith}
 use mathlib.Core.Path.{sym}

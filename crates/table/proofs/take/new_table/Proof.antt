@@ -1,3 +1,4 @@
+-- `new_table` meets its contract.
 use Rattle.table.proofs.Standing.{sound-fresh}
 use borrow.Author.Needs.{needs}
 use Rattle.table.proofs.take.new_table.Statement.{statement}
