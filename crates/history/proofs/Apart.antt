@@ -38,7 +38,7 @@ use Rattle.history.specs.History.{run, AllTaken}
 use Rattle.history.proofs.Shown.{Held, Cards, cards-after, cards-more, hole-room}
 
 -- ---- how often a card is there
-count-append : (k : ℕ) (l m : List ℕ) → count k (l ++ m) ≡ count k l + count k m
+pub count-append : (k : ℕ) (l m : List ℕ) → count k (l ++ m) ≡ count k l + count k m
 count-append k [] m = omega arith
 count-append k (x ∷ l) m = omega (arith, count-append k l m)
 
