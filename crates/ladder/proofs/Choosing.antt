@@ -1,13 +1,15 @@
 -- The choices of k of a list of numbers that falls: they fall, every one falls, every list of k of its numbers that falls is among them, and
--- there are as many as the binomial says. For any k and any length. General (but for `choices`, which crate cards defines). Assumes nothing.
-use mathlib.Core.Path.{_≡_, refl, sym, ap₂, _∙_, subst}
+-- there are as many as the binomial says; and a choice of any list has each number no more often than the list. For any k and any length. General (but for
+-- `choices`, which crate cards defines). Assumes nothing.
+use mathlib.Core.Path.{_≡_, refl, sym, ap, ap₂, _∙_, subst}
 use mathlib.Core.Bool.{Bool, true, false, cond}
 use mathlib.Core.Logic.{⊎-elim}
-use mathlib.Core.List.{List, [], _∷_, map, List·Memᴰ, List·Memᴰ·not-nil, List·Memᴰ·head, List·Memᴰ·cases-cons, List·Memᴰ·append-cases, List·Memᴰ·eq-of-singleton, Memᴰ·append-left, Memᴰ·append-right, Memᴰ·map, Memᴰ·of-map}
+use mathlib.Core.List.{List, [], _∷_, _++_, map, List·Memᴰ, List·Memᴰ·not-nil, List·Memᴰ·head, List·Memᴰ·cases-cons, List·Memᴰ·append-cases, List·Memᴰ·eq-of-singleton, Memᴰ·append-left, Memᴰ·append-right, Memᴰ·map, Memᴰ·of-map}
 use Prim.Native.Nat.{ℕ, zero, suc, _+_, _<_, _≤_}
 use native.Mathlib.Omega.{arith}
 use lib.ListN.{length, length-append, length-map}
 use Rattle.laws.specs.Lists.{All}
+use Rattle.laws.specs.Often.{count}
 use Rattle.cards.specs.Order.{choices, above}
 use Rattle.cards.proofs.Above.{higher, equal}
 use Rattle.ladder.specs.Listing.{those, binomial}
@@ -111,3 +113,26 @@ choices-many (suc k) [] = refl
 choices-many (suc k) (c ∷ l) =
     length-append (map (λ n. c ∷ n) (choices k l)) (choices (suc k) l)
     ∙ ap₂ _+_ (length-map (choices k l) (λ n. c ∷ n) ∙ choices-many k l) (choices-many (suc k) l)
+
+-- ---- of any list
+pub count-append : (x : ℕ) (l m : List ℕ) → count x (l ++ m) ≡ count x l + count x m
+count-append x [] m = omega arith
+count-append x (c ∷ l) m = omega (arith, count-append x l m)
+
+-- so many of a list: each no more often than there
+pub record Choice (k : ℕ) (l m : List ℕ) : Type 0 where
+  pub size : length m ≡ k
+  pub few : (x : ℕ) → count x m ≤ count x l
+
+pub choice-of : (k : ℕ) (l m : List ℕ) → List·Memᴰ m (choices k l) → Choice k l m
+unfolding choices
+choice-of zero l m i = subst (Choice 0 l) (sym (List·Memᴰ·eq-of-singleton i)) (record { size = refl; few = λ x. omega arith })
+choice-of (suc k) [] m i = absurd (List·Memᴰ·not-nil i)
+choice-of (suc k) (c ∷ l) m i =
+    ⊎-elim
+    (λ (j : List·Memᴰ m (map (λ n. c ∷ n) (choices k l))).
+    let t = Memᴰ·of-map (λ n. c ∷ n) (choices k l) j in
+    let r = choice-of k l (t .0) (t .1) in
+    subst (Choice (suc k) (c ∷ l)) (t .2) (record { size = ap suc (r .size); few = λ x. omega (arith, r .few x) }))
+    (λ (j : List·Memᴰ m (choices (suc k) l)). let r = choice-of (suc k) l m j in record { size = r .size; few = λ x. omega (arith, r .few x) })
+    (List·Memᴰ·append-cases (map (λ n. c ∷ n) (choices k l)) i)

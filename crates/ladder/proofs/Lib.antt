@@ -12,3 +12,4 @@ pub mod Worth
 pub mod Dealt
 pub mod Fives
 pub mod Compared
+pub mod Showdown

@@ -30,7 +30,7 @@ listed-same h g e = λ i. record {
   r5 = getD (e i) 5 0;
 }
 
-is-on : (h : Hand) → isOn h ≡ true → List·Memᴰ h ladder
+pub is-on : (h : Hand) → isOn h ≡ true → List·Memᴰ h ladder
 unfolding isOn
 is-on h e =
     let t = some-has (λ (g : Hand). sameList (listed h) (listed g)) ladder e in
@@ -45,7 +45,7 @@ pub on-place : (h : Hand) → List·Memᴰ h ladder → placeOf h ≡ suc (tally
 unfolding placeOf
 on-place h i = ap (λ (b : Bool). pick b (suc (tally (beats52 h) ladder)) 0) (on-is h i)
 
-off-place : (h : Hand) → isOn h ≡ false → placeOf h ≡ 0
+pub off-place : (h : Hand) → isOn h ≡ false → placeOf h ≡ 0
 unfolding placeOf
 off-place h e = ap (λ (b : Bool). pick b (suc (tally (beats52 h) ladder)) 0) e
 

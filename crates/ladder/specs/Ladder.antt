@@ -11,7 +11,7 @@ use Rattle.laws.specs.Often.{tally, count}
 use Rattle.laws.specs.Some.{some}
 use Rattle.cards.specs.Cards.{sameList, inRow}
 use Rattle.cards.specs.Hands.{hand, valueOf}
-use Rattle.cards.specs.Order.{ranking52, beatsBy, choices, Tie}
+use Rattle.cards.specs.Order.{ranking52, rankingOf, beatsBy, choices, Tie, strengthBy}
 use Rattle.cards.specs.Reading.{anyAbove, anyTwice}
 use Rattle.cards.specs.declared.Hand.{Hand}
 use Rattle.ladder.specs.Listing.{each, those}
@@ -101,6 +101,10 @@ beats52 h g = beatsBy ranking52 h g
 -- "Keep a hand as its place": one more than how many stand below it; 0 where it does not stand on the ladder
 unfoldable pub placeOf : Hand → ℕ
 placeOf h = pick (isOn h) (suc (tally (beats52 h) ladder)) 0
+
+-- what is kept of a hand of a sheet's deck: its place; "The 32-card deck keeps the old form", the number that class and ranks spell
+unfoldable pub keptOf : ℕ → Hand → ℕ
+keptOf deck h = pick (eqb deck 32) (strengthBy (rankingOf deck) h) (placeOf h)
 
 -- of 52 cards, two hands tie
 abbrev pub Tie52 : Hand → Hand → Type 0

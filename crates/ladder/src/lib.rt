@@ -11,7 +11,7 @@ ghost use mathlib.Core.List.{[], _∷_};
 ghost use Prim.Native.Nat.{_+_, _-_, _≤_};
 ghost use lib.Dec.{eqb};
 ghost use Rattle.cards.specs.Cards.{inRow};
-ghost use Rattle.ladder.specs.Ladder.{ranksIn, isStraight, placeOf};
+ghost use Rattle.ladder.specs.Ladder.{ranksIn, isStraight, placeOf, keptOf};
 ghost use Rattle.ladder.specs.Reckoned.{chosenOf, up, less, twoBelow, threeBelow, fiveBelow, falling, apart, rowPlace, besidePlace, fourPlace, fullPlace, rowsBelow, oddPlace, threePlace, twoPairPlace, pairPlace, reckoned};
 
 // How many choices of k there are of n, for n from 0 to 12, row by row from k = 0 to k = 5.
@@ -326,4 +326,14 @@ pub fn place(h: Hand) -> u32
         return pair_place(1277, h);
     }
     if class == 8 { odd_place(0, h) } else { 0 }
+}
+
+// What is kept of a hand of the deck: its place. The 32-card deck keeps the old form.
+pub fn kept(deck: u32, h: Hand) -> u32
+    ensures { λ r. ⌜ r ≡ keptOf deck h ⌝ }
+{
+    if deck == 32 {
+        return cards::strength(deck, h);
+    }
+    place(h)
 }

@@ -8,11 +8,12 @@ use mathlib.Core.Logic.{⊎-elim}
 use native.Mathlib.Omega.{arith}
 use lib.Dec.{ltb, leb, eqb}
 use lib.ListN.{length, getD}
-use borrow.Author.Tests.{ltb-false, le-ltb, le-leb, eqb-true, not-false}
+use borrow.Author.Tests.{ltb-false, le-ltb, le-leb, ne-eqb, eqb-true, not-false}
 use Rattle.laws.specs.Bits.{bitAt, ones}
 use Rattle.laws.specs.Lists.{All}
 use Rattle.laws.specs.Tests.{both, either, pick, one}
 use Rattle.laws.proofs.Bits.{bit-zero}
+use Rattle.laws.proofs.Tests.{both-true}
 use Rattle.paper.specs.Paper.{when, orElse, inRange, isSheet}
 use Rattle.paper.specs.declared.Sheet.{Sheet}
 use Rattle.paper.specs.declared.Entry.{Entry}
@@ -43,8 +44,9 @@ use Rattle.history.specs.Notebook.{Part, Notebook, tenSeats, partAt, putsBy, li
 use Rattle.history.specs.Turns.{countSeats, liveAt, turnOf}
 use Rattle.history.proofs.AsNoted.{as-noted}
 use Rattle.history.proofs.Codes.{taken-by}
-use Rattle.history.proofs.Kept.{cards-is}
-use Rattle.history.proofs.Shown.{cards-after, scores-compare}
+use Rattle.history.proofs.Kept.{lying-is, cards-is}
+use Rattle.history.proofs.Shown.{cards-after}
+use Rattle.history.proofs.Showdown.{scores-compare}
 use Rattle.mission.specs.Winners.{bestAt, scoresBy, Contends, Wins, BestWin}
 
 -- ---- what is told seat by seat
@@ -154,6 +156,18 @@ module _ (sheet : Sheet) (ok : isSheet sheet ≡ true) (es : List Entry) (taken 
       let d : not full ≡ false = ap (λ (b : Bool). both b (not full)) (sym (le-leb 2 (liveBy n) l)) ∙ c in
       eqb-true (countSeats bare tenSeats) 0 (not-false full d)
 
+  -- and five board cards lie
+  all-lie : 2 ≤ liveBy n → t .board .count ≡ 5
+  all-lie l =
+      let five = eqb (n .board .count) 5 in
+      let now = either (eqb (liveBy n) 1) (both (nobodyBy sheet n) five) in
+      let bared = when (both (leb 2 (liveBy n)) (not (eqb (countSeats bare tenSeats) 0))) 10 in
+      let kind = kind-zero sheet es (length es + 1) Settle (taken-by sheet ok (Settle ∷ es) taken .0) in
+      let c : not (both (n .play .opened) now) ≡ false = when-zero (not (both (n .play .opened) now)) 3 (or-zero (when (not (both (n .play .opened) now)) 4) bared kind .0) in
+      let d : now ≡ true = both-true (n .play .opened) now (not-false (both (n .play .opened) now) c) .1 in
+      let e : both (nobodyBy sheet n) five ≡ true = ap (λ (b : Bool). either b (both (nobodyBy sheet n) five)) (sym (ne-eqb (liveBy n) 1 (λ z. omega arith))) ∙ d in
+      lying-is n t says ∙ eqb-true (n .board .count) 5 (both-true (nobodyBy sheet n) five e .1)
+
   live-bit : (i : ℕ) → i < 10 → bitAt (livesBy n) i ≡ one (liveAt n (suc i))
   live-bit i l =
       mask-bit (map (λ x. one (partAt n x .live)) tenSeats) 1 i (omega arith) ∙ ap (λ (v : ℕ). has v 1) (at-seat (λ x. one (partAt n x .live)) i l) ∙ has-truth (liveAt n (suc i))
@@ -178,12 +192,12 @@ module _ (sheet : Sheet) (ok : isSheet sheet ≡ true) (es : List Entry) (taken 
       both-are false b p q = absurd (true≢false (sym p))
 
   -- one best hand beats another exactly where it counts more
-  compare : (x y : ℕ) → Shown x → Shown y
+  compare : 2 ≤ liveBy n → (x y : ℕ) → Shown x → Shown y
       → beatsBy (rankingOf (sheet .deck)) (bestAt sheet n x) (bestAt sheet n y)
       ≡ ltb (scoreBy (sheet .deck) (sheet .game) (n .board .cards) (partAt n y)) (scoreBy (sheet .deck) (sheet .game) (n .board .cards) (partAt n x))
   unfolding scoreOf handScore scoreBy
-  compare x y p q =
-      sym (ap₂ (λ (d : ℕ) (hs : Hand × Hand). beatsBy (rankingOf d) (hs .0) (hs .1)) deck (λ i. (same-hand x i, same-hand y i))) ∙ scores-compare sheet ok es (taken .1) x y (shown-at x ∙ p) (shown-at y ∙ q) ∙ ap₂ ltb (score-at y) (score-at x)
+  compare m x y p q =
+      sym (ap₂ (λ (d : ℕ) (hs : Hand × Hand). beatsBy (rankingOf d) (hs .0) (hs .1)) deck (λ i. (same-hand x i, same-hand y i))) ∙ scores-compare sheet ok es (taken .1) (all-lie m) x y (shown-at x ∙ p) (shown-at y ∙ q) ∙ ap₂ ltb (score-at y) (score-at x)
     where
       game : run sheet es .sheet .game ≡ sheet .game
       game = ap (λ (z : Sheet). z .game) (cards-after sheet ok es (taken .1) .rules)
@@ -235,10 +249,10 @@ module _ (sheet : Sheet) (ok : isSheet sheet ≡ true) (es : List Entry) (taken 
         record {
           wins = λ i l e.
               let q = winners-are (scoresBy sheet n) (p .who) i low some l .0 e in
-              (q .0, λ j k c. compare (suc j) (suc i) (shown m j k c) (shown m i l (q .0)) ∙ le-ltb (told i) (told j) (omega (arith, q .1 j k c, score-is i l, score-is j k)));
+              (q .0, λ j k c. compare (omega (arith, m, few)) (suc j) (suc i) (shown m j k c) (shown m i l (q .0)) ∙ le-ltb (told i) (told j) (omega (arith, q .1 j k c, score-is i l, score-is j k)));
           unbeaten = λ i l q.
               winners-are (scoresBy sheet n) (p .who) i low some l .1
-              (q .0, λ j k c. omega (arith, score-is i l, score-is j k, ltb-false (told i) (told j) (sym (compare (suc j) (suc i) (shown m j k c) (shown m i l (q .0))) ∙ q .1 j k c)));
+              (q .0, λ j k c. omega (arith, score-is i l, score-is j k, ltb-false (told i) (told j) (sym (compare (omega (arith, m, few)) (suc j) (suc i) (shown m j k c) (shown m i l (q .0))) ∙ q .1 j k c)));
           sole = λ e. absurd (omega arith);
         }
 

@@ -18,11 +18,12 @@ use Rattle.laws.specs.Lists.{sumOf}
 use Rattle.pots.specs.declared.Commission.{Commission}
 use Rattle.pots.specs.Hand.{feeOfHand, dropOfHand, dueOf, paidOf, unclaimedOf}
 use Rattle.pots.proofs.Hands.{none-lost, map-length, paid-and-unclaimed, at-most-sum}
-use Rattle.cards.specs.Order.{rankingOf, bestAmong, bestOf, strengthBy}
+use Rattle.cards.specs.Order.{rankingOf, bestAmong, bestOf}
 use Rattle.cards.specs.Omaha.{fromBoth, allowed}
 use Rattle.cards.specs.declared.Hand.{Hand}
 use Rattle.laws.proofs.Five.{five-list}
-use Rattle.cards.proofs.Spelled.{strength-small}
+use Rattle.ladder.specs.Ladder.{keptOf}
+use Rattle.ladder.proofs.Showdown.{kept-small}
 use Rattle.table.specs.Settle.{Payable, totalsOf, livesOf, hereOf, isShown, handScore, scoreOf, scoresOf, dueNow, commissionOf, payoutNow}
 use Rattle.table.specs.declared.table.Board.{Board}
 use Rattle.table.specs.declared.table.Payout.{Payout}
@@ -102,7 +103,7 @@ unfolding scoreOf handScore
 score-small deck game b c = go (isShown game c)
   where
     go : (s : Bool) → pick s (handScore deck game (holeOf c) (b .cards)) 0 ≤ 100000000
-    go true = omega (arith, strength-small (rankingOf deck) (bestAmong (rankingOf deck) (allowed game (holeOf c) (b .cards))))
+    go true = omega (arith, kept-small deck (bestAmong (rankingOf deck) (allowed game (holeOf c) (b .cards))))
     go false = omega arith
 
 score-at : (deck game : ℕ) (b : Board) (cs : List Chair) (i : ℕ) → getD (map (scoreOf deck game b) cs) i 0 ≤ 100000000
@@ -115,12 +116,12 @@ scores-within deck game b cs xs e i = rw e (score-at deck game b cs i)
 
 -- the best of the seven cards, for two hole cards
 pub seven-score : (deck n : ℕ) (d k : List ℕ) {h : Hand} → n ≡ 2 → length d ≡ 4 → length k ≡ 5
-    → h ≡ bestOf (rankingOf deck) (getD d 0 0 ∷ getD d 1 0 ∷ getD k 0 0 ∷ getD k 1 0 ∷ getD k 2 0 ∷ getD k 3 0 ∷ getD k 4 0 ∷ []) → strengthBy (rankingOf deck) h ≡ handScore deck 2 (take n d) k
+    → h ≡ bestOf (rankingOf deck) (getD d 0 0 ∷ getD d 1 0 ∷ getD k 0 0 ∷ getD k 1 0 ∷ getD k 2 0 ∷ getD k 3 0 ∷ getD k 4 0 ∷ []) → keptOf deck h ≡ handScore deck 2 (take n d) k
 unfolding handScore allowed bestOf
 seven-score deck n d k e ld lk q =
     let l : _≡_ {A = List ℕ} (getD d 0 0 ∷ getD d 1 0 ∷ getD k 0 0 ∷ getD k 1 0 ∷ getD k 2 0 ∷ getD k 3 0 ∷ getD k 4 0 ∷ []) (take n d ++ k) =
     ap (λ (m : List ℕ). getD d 0 0 ∷ getD d 1 0 ∷ m) (sym (five-list 0 k lk)) ∙ ap (λ (m : List ℕ). m ++ k) (two d ld) ∙ ap (λ (i : ℕ). take i d ++ k) (sym e) in
-    ap (strengthBy (rankingOf deck)) (q ∙ ap (bestOf (rankingOf deck)) l)
+    ap (keptOf deck) (q ∙ ap (bestOf (rankingOf deck)) l)
   where
     two : (d : List ℕ) → length d ≡ 4 → getD d 0 0 ∷ getD d 1 0 ∷ [] ≡ take 2 d
     two [] e = absurd (omega arith)
@@ -129,9 +130,9 @@ seven-score deck n d k e ld lk q =
 
 -- the best of two and three, for four hole cards
 pub both-score : (deck n : ℕ) (d k : List ℕ) {h : Hand} → n ≡ 4 → length d ≡ 4 → h ≡ bestAmong (rankingOf deck) (fromBoth 2 3 d k)
-    → strengthBy (rankingOf deck) h ≡ handScore deck 4 (take n d) k
+    → keptOf deck h ≡ handScore deck 4 (take n d) k
 unfolding handScore allowed
-both-score deck n d k e ld q = ap (strengthBy (rankingOf deck)) (q ∙ ap (λ (l : List ℕ). bestAmong (rankingOf deck) (fromBoth 2 3 l k)) (sym (take-all n d (omega arith))))
+both-score deck n d k e ld q = ap (keptOf deck) (q ∙ ap (λ (l : List ℕ). bestAmong (rankingOf deck) (fromBoth 2 3 l k)) (sym (take-all n d (omega arith))))
 
 due-within : (ts : List ℕ) (live : ℕ) (scores : List ℕ) (rule : Commission) (puck : ℕ) → length scores ≡ length ts → rule .rate ≤ 1000 → sumOf (dueOf ts live scores rule puck) ≤ sumOf ts
 due-within ts live scores rule puck l r = omega (arith, none-lost ts live scores rule puck l r)

@@ -8,8 +8,9 @@ use lib.Dec.{ltb, leb, eqb}
 use lib.ListN.{replicate}
 use Rattle.paper.specs.Paper.{wrongMoment, cardsMissing, when, orElse, isSheet}
 use Rattle.laws.specs.Tests.{both, either, pick}
-use Rattle.cards.specs.Order.{rankingOf, bestAmong, strengthBy}
+use Rattle.cards.specs.Order.{rankingOf, bestAmong}
 use Rattle.cards.specs.Omaha.{allowed}
+use Rattle.ladder.specs.Ladder.{keptOf}
 use Rattle.pots.specs.Heights.{maskAt, backOf}
 use Rattle.pots.specs.Runs.{potsOf}
 use Rattle.pots.specs.Hand.{feeOfHand, dropOfHand, dueOf, paidOf, unclaimedOf}
@@ -54,9 +55,9 @@ backNow t = backOf (totalsOf t) (livesOf t)
 abbrev pub isShown : ℕ → Chair → Bool
 isShown game c = both (c .dealt .live) (isFull game c)
 
--- the number of the best, by the ranking of the deck, of the choices of five that the game allows of hole and board cards
+-- what is kept (No. 11) of the best, by the ranking of the deck, of the choices of five that the game allows of hole and board cards
 unfoldable pub handScore : ℕ → ℕ → List ℕ → List ℕ → ℕ
-handScore deck game hole board = strengthBy (rankingOf deck) (bestAmong (rankingOf deck) (allowed game hole board))
+handScore deck game hole board = keptOf deck (bestAmong (rankingOf deck) (allowed game hole board))
 
 -- what a seat's hand counts in a contest; 0 where there is none to compare ("A sole contender needs no cards")
 unfoldable pub scoreOf : ℕ → ℕ → Board → Chair → ℕ

@@ -72,7 +72,7 @@ fn here_seats(t: Table) -> u16
     pots::mask_at(chairs::seats::column(cs, t.sheet.seats, What::Here), 1)
 }
 
-// The number of the deck's best hand of two hole cards and the board, any mixture.
+// What is kept of the deck's best hand of two hole cards and the board, any mixture.
 fn two_score(deck: u32, b: Board, h: Hole) -> u32
     requires { ⌜ h .count ≡ 2 ⌝ }
     ensures { λ r. ⌜ r ≡ handScore deck 2 (take (h .count) (h .cards)) (b .cards) ⌝ }
@@ -80,20 +80,20 @@ fn two_score(deck: u32, b: Board, h: Hole) -> u32
     let d = h.cards;
     let k = b.cards;
     let seven = [d[0], d[1], k[0], k[1], k[2], k[3], k[4]];
-    cards::strength(deck, cards::best_hand(deck, &seven))
+    ladder::kept(deck, cards::best_hand(deck, &seven))
 }
 
-// The number of the deck's best hand of two of four hole cards with three of the board.
+// What is kept of the deck's best hand of two of four hole cards with three of the board.
 fn four_score(deck: u32, b: Board, h: Hole) -> u32
     requires { ⌜ h .count ≡ 4 ⌝ }
     ensures { λ r. ⌜ r ≡ handScore deck 4 (take (h .count) (h .cards)) (b .cards) ⌝ }
 {
     let d = h.cards;
     let k = b.cards;
-    cards::strength(deck, cards::best_omaha(deck, d, &k))
+    ladder::kept(deck, cards::best_omaha(deck, d, &k))
 }
 
-// The number of the best hand that a seat's cards make, where all of them were entered.
+// What is kept of the best hand that a seat's cards make, where all of them were entered.
 fn hand_score(deck: u32, game: u32, b: Board, h: Hole) -> u32
     requires { ⌜ (isGame game ≡ true) × (h .count ≡ game) ⌝ }
     ensures { λ r. ⌜ r ≡ handScore deck game (take (h .count) (h .cards)) (b .cards) ⌝ }

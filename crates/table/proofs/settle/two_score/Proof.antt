@@ -33,8 +33,8 @@ slice-aggregate-best-hand c = search needs
 best-hand-requires : tie.Need-best-hand-requires
 best-hand-requires c κs = search needs
 
-strength-requires : tie.Need-strength-requires
-strength-requires c κs = search needs
+kept-requires : tie.Need-kept-requires
+kept-requires c κs = search needs
 
 returns : tie.Need-returns
 returns c =
@@ -43,7 +43,7 @@ returns c =
     let k = s .args .b .cards in
     let ld : length d ≡ 4 = search needs in
     let lk : length k ≡ 5 = search needs in
-    c .strength .ensures ∙ seven-score (s .args .deck) (s .args .h .count) d k (s .pre) ld lk (c .before .best-hand .ensures)
+    c .kept .ensures ∙ seven-score (s .args .deck) (s .args .h .count) d k (s .pre) ld lk (c .before .best-hand .ensures)
 
 pub two-score-spec : {M : Type 1} → statement M
 two-score-spec =
@@ -58,5 +58,5 @@ two-score-spec =
     array-read-t27
     slice-aggregate-best-hand
     best-hand-requires
-    strength-requires
+    kept-requires
     returns)
