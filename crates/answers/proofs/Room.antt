@@ -12,6 +12,7 @@ use borrow.Author.Tests.{ne-eqb}
 use Rattle.laws.specs.Tests.{pick, one}
 use Rattle.laws.specs.Lists.{All}
 use Rattle.laws.specs.Often.{count}
+use Rattle.laws.proofs.Often.{count-append}
 use Rattle.laws.proofs.Sums.{map-length}
 use Rattle.text.specs.Line.{numberLine}
 use Rattle.text.specs.Number.{digitsIn, digits}
@@ -100,10 +101,6 @@ good k n e h = record { plain = e; short = h }
 goods : (ls ms : List Line) → All Good ls → All Good ms → All Good (ls ++ ms)
 goods [] ms g h = h
 goods (l ∷ ls) ms g h = (g .0, goods ls ms (g .1) h)
-
-count-append : (b : ℕ) (xs ys : List ℕ) → count b (xs ++ ys) ≡ count b xs + count b ys
-count-append b [] ys = omega arith
-count-append b (x ∷ xs) ys = omega (arith, count-append b xs ys)
 
 digit-plain : (n : ℕ) → count 10 ((48 + n) ∷ []) ≡ 0
 digit-plain n = omega (arith, ap one (ne-eqb 10 (48 + n) (λ e. omega arith)))

@@ -4,7 +4,7 @@ use Prim.Native.Nat.{ℕ, zero, suc, _+_, _-_, _≤_}
 use native.Mathlib.Numerals.{add-one}
 use mathlib.Core.Bool.{Bool, true, false, not}
 use mathlib.Core.Path.{_≡_, refl, sym, ap, _∙_, subst}
-use mathlib.Core.List.{List, [], _∷_, _++_, map}
+use mathlib.Core.List.{List, [], _∷_, map}
 use mathlib.Core.Logic.{⊎-elim}
 use native.Mathlib.Omega.{arith}
 use lib.Dec.{eqb, ltb, leb}
@@ -14,6 +14,7 @@ use borrow.Author.Tests.{eq-eqb, ne-eqb, eqb-true, eqb-false, not-false}
 use Rattle.laws.specs.Tests.{pick, either, one}
 use Rattle.laws.specs.Often.{count}
 use Rattle.laws.proofs.Tests.{either-false, test}
+use Rattle.laws.proofs.Often.{count-append}
 use Rattle.paper.specs.Paper.{when, orElse, isSheet}
 use Rattle.paper.specs.declared.Sheet.{Sheet}
 use Rattle.paper.specs.declared.Entry.{Entry}
@@ -35,7 +36,7 @@ use Rattle.table.specs.declared.table.Table.{Table}
 use Rattle.table.proofs.Sounds.{passed}
 use Rattle.royal.specs.Royal.{royalSeats}
 use Rattle.royal.specs.Apart.{heldTimes, Once}
-use Rattle.royal.proofs.Once.{count-append, royal-one}
+use Rattle.royal.proofs.Once.{royal-one}
 use Rattle.history.specs.History.{run, AllTaken}
 use Rattle.history.proofs.Shown.{Held, held-after, cards-after, cards-more, hole-room}
 

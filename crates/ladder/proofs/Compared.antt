@@ -17,7 +17,7 @@ use Rattle.cards.specs.declared.Hand.{Hand}
 use Rattle.cards.proofs.Above.{tie-same}
 use Rattle.ladder.specs.Ladder.{ladder, isOn, beats52, Tie52, worth52, FiveCards, Valid, placeOf}
 use Rattle.ladder.specs.Reckoned.{rowPlace, reckonedAs}
-use Rattle.ladder.proofs.Standing.{more, fewer, occurs}
+use Rattle.laws.proofs.Standing.{more, fewer, occurs}
 use Rattle.ladder.proofs.Laid.{ladder-length, hands-order, ladder-falls}
 use Rattle.ladder.proofs.Reckons.{is-on, on-place, off-place, reckons}
 use Rattle.ladder.proofs.Dealt.{dealt}

@@ -17,7 +17,7 @@ use Rattle.cards.specs.Order.{choices}
 use Rattle.cards.specs.Reading.{anyAbove, anyTwice}
 use Rattle.cards.specs.declared.Hand.{Hand}
 use Rattle.ladder.specs.Ladder.{ladder, listed, Valid}
-use Rattle.ladder.proofs.Members.{allPass, pass-at, same-list}
+use Rattle.laws.proofs.Members.{allPass, pass-at, same-list}
 use Rattle.ladder.proofs.Worth.{worthAs, worthBy, worthOf, worth-is}
 use Rattle.ladder.proofs.Reckons.{listed-same}
 

@@ -26,8 +26,8 @@ use Rattle.cards.proofs.Mixed.{value-same}
 use Rattle.cards.proofs.Mixing.{Within, within-choice}
 use Rattle.ladder.specs.Ladder.{ladder, worth52, FiveCards, Valid}
 use Rattle.ladder.specs.Reckoned.{chosenOf, less, twoBelow, threeBelow, fiveBelow, rowPlace, besidePlace, fourPlace, fullPlace, rowsBelow, oddPlace, threePlace, twoPairPlace, pairPlace, reckonedAs, reckoned}
-use Rattle.ladder.proofs.Members.{count-has, has-some}
-use Rattle.ladder.proofs.Choosing.{Drops, choice-drops}
+use Rattle.laws.proofs.Members.{count-has, has-some}
+use Rattle.laws.proofs.Choosing.{Drops, choice-drops}
 use Rattle.ladder.proofs.Worth.{worthAs, worthBy, worthOf, worth-is}
 use Rattle.ladder.proofs.Shapes.{on-ladder}
 

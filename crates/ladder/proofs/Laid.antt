@@ -9,7 +9,7 @@ use Rattle.cards.specs.Order.{choices, above, ranking52}
 use Rattle.cards.proofs.Above.{beats-irrefl, beats-trans}
 use Rattle.ladder.specs.Ladder.{classes, ladder, beats52}
 use Rattle.ladder.specs.Reckoned.{chosenOf, less, twoBelow, threeBelow, fiveBelow, rowPlace, besidePlace, fourPlace, fullPlace, rowsBelow, oddPlace, threePlace, twoPairPlace, pairPlace, reckonedAs, reckoned}
-use Rattle.ladder.proofs.Standing.{FallsBy, stepsBy, countsDown, Orders, steps-fall}
+use Rattle.laws.proofs.Standing.{FallsBy, stepsBy, countsDown, Orders, steps-fall}
 
 -- "Per class, top down: 10, 156, 156, 1,277, 10, 858, 858, 2,860 and 1,277 places"
 pub class-lengths : map length classes ≡ 10 ∷ 156 ∷ 156 ∷ 1277 ∷ 10 ∷ 858 ∷ 858 ∷ 2860 ∷ 1277 ∷ []

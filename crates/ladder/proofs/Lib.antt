@@ -1,8 +1,5 @@
--- Laws of the ladder. The first three are general: nothing in them is about cards, but that `choices` is defined in crate cards.
+-- Laws of the ladder.
 
-pub mod Members
-pub mod Standing
-pub mod Choosing
 pub mod Steps
 pub mod Laid
 pub mod Shapes

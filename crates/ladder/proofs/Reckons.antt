@@ -15,8 +15,8 @@ use Rattle.cards.specs.Cards.{sameList}
 use Rattle.cards.specs.declared.Hand.{Hand}
 use Rattle.ladder.specs.Ladder.{ladder, listed, isOn, beats52, placeOf}
 use Rattle.ladder.specs.Reckoned.{reckonedAs, reckoned}
-use Rattle.ladder.proofs.Members.{same-list, list-same, some-has, has-some}
-use Rattle.ladder.proofs.Standing.{counted}
+use Rattle.laws.proofs.Members.{same-list, list-same, some-has, has-some}
+use Rattle.laws.proofs.Standing.{counted}
 use Rattle.ladder.proofs.Laid.{ladder-length, hands-order, ladder-falls, reckoned-down}
 use Rattle.ladder.proofs.Shapes.{on-ladder, no-class}
 

@@ -18,11 +18,11 @@ use Rattle.cards.specs.Cards.{inRow}
 use Rattle.cards.specs.Hands.{hand}
 use Rattle.cards.specs.Order.{choices}
 use Rattle.cards.specs.declared.Hand.{Hand}
-use Rattle.ladder.specs.Listing.{those}
+use Rattle.laws.specs.Listing.{those}
 use Rattle.ladder.specs.Ladder.{ranks, besides, rows, isStraight, odds, twice, ranksIn, classes, ladder, tops, rowFrom, straightFlushes, fours, fulls, flushes, straights, threes, twoPairs, pairs, oddCards}
 use Rattle.ladder.specs.Reckoned.{up, less, twoBelow, threeBelow, fallingFrom, falling, apart, rowPlace, besidePlace, fourPlace, fullPlace, oddPlace, threePlace, twoPairPlace, pairPlace, reckonedAs, reckoned}
-use Rattle.ladder.proofs.Members.{count-has, those-has, each-has}
-use Rattle.ladder.proofs.Choosing.{Drops, those-drop, choices-have}
+use Rattle.laws.proofs.Members.{count-has, those-has, each-has}
+use Rattle.laws.proofs.Choosing.{Drops, those-drop, choices-have}
 
 pick-some : (b : Bool) (n : ℕ) → 0 < pick b n 0 → (b ≡ true) × (0 < n)
 pick-some true n h = (refl, h)

@@ -13,7 +13,7 @@ use Rattle.laws.specs.Tests.{pick, one}
 use Rattle.laws.specs.Some.{some}
 use Rattle.laws.specs.Often.{count}
 use Rattle.laws.proofs.Tests.{test}
-use Rattle.laws.proofs.Often.{count-self}
+use Rattle.laws.proofs.Often.{count-self, count-append}
 use Rattle.cards.specs.Hands.{valueOf}
 use Rattle.cards.specs.Order.{ranking52, ranking32, rankingOf, beatsBy, bestAmong, choices, strengthBy}
 use Rattle.cards.specs.Omaha.{allowed, fromBoth}
@@ -26,7 +26,7 @@ use Rattle.cards.proofs.Spelled.{strength-small}
 use Rattle.cards.proofs.Strong.{SmallAll, narrow-of, among-by-strength}
 use Rattle.cards.proofs.Allowed.{both-are, allowed-best, small-allowed}
 use Rattle.ladder.specs.Ladder.{placeOf, keptOf, Valid}
-use Rattle.ladder.proofs.Choosing.{Choice, count-append, choice-of}
+use Rattle.laws.proofs.Choosing.{choice-of}
 use Rattle.ladder.proofs.Compared.{place-compare, place-most}
 
 -- ---- what is kept: of 32 cards the old form, else the place

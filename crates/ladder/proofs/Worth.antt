@@ -19,7 +19,7 @@ use Rattle.cards.specs.Reading.{anyAbove}
 use Rattle.cards.specs.declared.Hand.{Hand}
 use Rattle.ladder.proofs.Weighed.{fall-ordered, ranks-ordered, times-ordered}
 use Rattle.ladder.specs.Ladder.{worth52}
-use Rattle.ladder.proofs.Members.{at-all, has-some}
+use Rattle.laws.proofs.Members.{at-all, has-some}
 
 -- from the ranks in order, and how often each is held
 unfoldable pub worthAs : Bool → List ℕ → List ℕ → Hand

@@ -14,7 +14,7 @@ use Rattle.cards.specs.Hands.{hand, valueOf}
 use Rattle.cards.specs.Order.{ranking52, rankingOf, beatsBy, choices, Tie, strengthBy}
 use Rattle.cards.specs.Reading.{anyAbove, anyTwice}
 use Rattle.cards.specs.declared.Hand.{Hand}
-use Rattle.ladder.specs.Listing.{each, those}
+use Rattle.laws.specs.Listing.{each, those}
 
 -- the ranks, from the ace down
 abbrev pub ranks : List ℕ

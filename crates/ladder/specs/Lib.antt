@@ -1,6 +1,5 @@
 -- Document 02, request No. 11.
 
-pub mod Listing
 pub mod Weigh
 pub mod Ladder
 pub mod Reckoned

@@ -14,99 +14,56 @@ ghost use Rattle.cards.specs.Cards.{inRow};
 ghost use Rattle.ladder.specs.Ladder.{ranksIn, isStraight, placeOf, keptOf};
 ghost use Rattle.ladder.specs.Reckoned.{chosenOf, up, less, twoBelow, threeBelow, fiveBelow, falling, apart, rowPlace, besidePlace, fourPlace, fullPlace, rowsBelow, oddPlace, threePlace, twoPairPlace, pairPlace, reckoned};
 
-// How many choices of k there are of n, for n from 0 to 12, row by row from k = 0 to k = 5.
-const PASCAL: [u32; 78] = [
-    1,
-    1,
-    1,
-    1,
-    1,
-    1,
-    1,
-    1,
-    1,
-    1,
-    1,
-    1,
-    1,
-    0,
-    1,
-    2,
-    3,
-    4,
-    5,
-    6,
-    7,
-    8,
-    9,
-    10,
-    11,
-    12,
-    0,
-    0,
-    1,
-    3,
-    6,
-    10,
-    15,
-    21,
-    28,
-    36,
-    45,
-    55,
-    66,
-    0,
-    0,
-    0,
-    1,
-    4,
-    10,
-    20,
-    35,
-    56,
-    84,
-    120,
-    165,
-    220,
-    0,
-    0,
-    0,
-    0,
-    1,
-    5,
-    15,
-    35,
-    70,
-    126,
-    210,
-    330,
-    495,
-    0,
-    0,
-    0,
-    0,
-    0,
-    1,
-    6,
-    21,
-    56,
-    126,
-    252,
-    462,
-    792,
-];
-
-// How many choices of k there are of n; 0 where n is above 12.
-fn choose(n: u32, k: u32) -> u32
-    requires { ⌜ k ≤ 5 ⌝ }
-    ensures is { λ r. ⌜ r ≡ chosenOf n k ⌝ }
+// How many choices of one, two, three, four and five there are of n; 0 where n is above 12. By products: a table of them would be laid on the stack at each
+// reading.
+fn choose_one(n: u32) -> u32
+    ensures is { λ r. ⌜ r ≡ chosenOf n 1 ⌝ }
     ensures small { λ r. ⌜ r ≤ 792 ⌝ }
 {
     if n < 13 {
-        PASCAL[(13 * k + n) as usize]
-    } else {
-        0
+        return n;
     }
+    0
+}
+
+fn choose_two(n: u32) -> u32
+    ensures is { λ r. ⌜ r ≡ chosenOf n 2 ⌝ }
+    ensures small { λ r. ⌜ r ≤ 792 ⌝ }
+{
+    if n < 13 {
+        return n * short_of(n, 1) / 2;
+    }
+    0
+}
+
+fn choose_three(n: u32) -> u32
+    ensures is { λ r. ⌜ r ≡ chosenOf n 3 ⌝ }
+    ensures small { λ r. ⌜ r ≤ 792 ⌝ }
+{
+    if n < 13 {
+        return n * short_of(n, 1) * short_of(n, 2) / 6;
+    }
+    0
+}
+
+fn choose_four(n: u32) -> u32
+    ensures is { λ r. ⌜ r ≡ chosenOf n 4 ⌝ }
+    ensures small { λ r. ⌜ r ≤ 792 ⌝ }
+{
+    if n < 13 {
+        return n * short_of(n, 1) * short_of(n, 2) * short_of(n, 3) / 24;
+    }
+    0
+}
+
+fn choose_five(n: u32) -> u32
+    ensures is { λ r. ⌜ r ≡ chosenOf n 5 ⌝ }
+    ensures small { λ r. ⌜ r ≤ 792 ⌝ }
+{
+    if n < 13 {
+        return n * short_of(n, 1) * short_of(n, 2) * short_of(n, 3) * short_of(n, 4) / 120;
+    }
+    0
 }
 
 // A rank, counted from 0 for the two.
@@ -130,21 +87,21 @@ fn two_below(a: u32, b: u32) -> u32
     ensures is { λ r. ⌜ r ≡ twoBelow a b ⌝ }
     ensures small { λ r. ⌜ r ≤ 1584 ⌝ }
 {
-    choose(a, 2) + choose(b, 1)
+    choose_two(a) + choose_one(b)
 }
 
 fn three_below(a: u32, b: u32, c: u32) -> u32
     ensures is { λ r. ⌜ r ≡ threeBelow a b c ⌝ }
     ensures small { λ r. ⌜ r ≤ 2376 ⌝ }
 {
-    choose(a, 3) + two_below(b, c)
+    choose_three(a) + two_below(b, c)
 }
 
 fn five_below(a: u32, b: u32, c: u32, d: u32, e: u32) -> u32
     ensures is { λ r. ⌜ r ≡ fiveBelow a b c d e ⌝ }
     ensures small { λ r. ⌜ r ≤ 3960 ⌝ }
 {
-    choose(a, 5) + (choose(b, 4) + three_below(c, d, e))
+    choose_five(a) + (choose_four(b) + three_below(c, d, e))
 }
 
 // Whether the two ranks differ.

@@ -11,3 +11,7 @@ pub mod Bits
 pub mod Sums
 pub mod Conjunction
 pub mod Parts
+pub mod Above
+pub mod Members
+pub mod Standing
+pub mod Choosing

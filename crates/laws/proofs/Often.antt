@@ -3,7 +3,7 @@
 use mathlib.Core.Path.{_≡_, refl, sym, ap, _∙_}
 use mathlib.Core.Bool.{Bool, true, false, cond}
 use mathlib.Core.Logic.{⊎-elim}
-use mathlib.Core.List.{List, [], _∷_, map}
+use mathlib.Core.List.{List, [], _∷_, _++_, map}
 use Prim.Native.Nat.{ℕ, _+_, _<_, _≤_}
 use native.Mathlib.Omega.{arith}
 use lib.Dec.{eqb}
@@ -43,6 +43,10 @@ without-tally f x (y ∷ l) h =
 
 pub count-self : (x : ℕ) (l : List ℕ) → count x (x ∷ l) ≡ 1 + count x l
 count-self x l = ap (λ (b : Bool). one b + count x l) (eq-eqb x x refl)
+
+pub count-append : (x : ℕ) (l m : List ℕ) → count x (l ++ m) ≡ count x l + count x m
+count-append x [] m = omega arith
+count-append x (c ∷ l) m = omega (arith, count-append x l m)
 
 none-left : (m : List ℕ) → SameNumbers [] m → [] ≡ m
 none-left [] s = refl

@@ -4,3 +4,4 @@ pub mod Lists
 pub mod Often
 pub mod Some
 pub mod Bits
+pub mod Listing

@@ -4,7 +4,7 @@ use mathlib.Core.Path.{_≡_, refl, sym, ap, subst, _∙_}
 use mathlib.Core.List.{List, [], _∷_, _++_, map}
 use mathlib.Core.Bool.{Bool, true, false, cond, false≢true}
 use mathlib.Core.Logic.{_⊎_, inl, inr, ⊎-elim}
-use Prim.Native.Nat.{ℕ, zero, suc, _+_, _*_, _/_, _%_, _≤_, _<_}
+use Prim.Native.Nat.{ℕ, suc, _+_, _*_, _%_, _≤_, _<_}
 use native.Mathlib.Omega.{arith}
 use native.Mathlib.Nat.{div-add-mod, mod-lt}
 use lib.ListN.{length, getD, length-append}
@@ -14,9 +14,11 @@ use Rattle.laws.specs.Tests.{both, either, one}
 use Rattle.laws.specs.Lists.{All}
 use Rattle.laws.specs.Often.{count}
 use Rattle.laws.proofs.Tests.{both-true, test}
-use Rattle.laws.proofs.Sums.{le-or-lt}
+use Rattle.laws.proofs.Often.{count-append}
+use Rattle.laws.proofs.Members.{at-all, all-append}
+use Rattle.laws.proofs.Choosing.{Choice, choice-of}
 use Rattle.cards.specs.Cards.{rank, suit, before, put, inOrder, ordered, isWheel, lowered, inRow, allAre, allAlike, oneSuit}
-use Rattle.cards.specs.Hands.{ranking52, first, tests, classOf, ranksOf, classOfCards, mostHeld, nextHeld, valueOf}
+use Rattle.cards.specs.Hands.{first, tests, classOf, ranksOf, classOfCards, mostHeld, nextHeld, valueOf}
 use Rattle.cards.specs.Order.{choices}
 use Rattle.cards.specs.Omaha.{eachBefore, fromBoth}
 use Rattle.cards.proofs.Sorted.{ordered-right}
@@ -230,40 +232,17 @@ two-suits s r (c ∷ l) n = omega (arith, two-suits s r l n, go)
         (λ (p : eqb s (suit c) ≡ false). omega (arith, ap one p, one-most (eqb r (suit c))))
         (test (eqb s (suit c)))
 
-pub count-append : (x : ℕ) (l m : List ℕ) → count x (l ++ m) ≡ count x l + count x m
-count-append x [] m = omega arith
-count-append x (c ∷ l) m = omega (arith, count-append x l m)
-
 royals-append : (s : ℕ) (l m : List ℕ) → royals s (l ++ m) ≡ royals s l + royals s m
 royals-append s l m =
     omega (arith, count-append (32 + s) l m, count-append (36 + s) l m, count-append (40 + s) l m, count-append (44 + s) l m, count-append (48 + s) l m)
 
 -- ---- a choice of the hole and one of the board
-all-and : {A : Type 0} (P : A → Type 0) (xs ys : List A) → All P xs → All P ys → All P (xs ++ ys)
-all-and P [] ys a b = b
-all-and P (x ∷ xs) ys a b = (a .0, all-and P xs ys (a .1) b)
-
 all-mapped : {A B : Type 0} (P : A → Type 0) (Q : B → Type 0) (f : A → B) → ((x : A) → P x → Q (f x)) → (xs : List A) → All P xs → All Q (map f xs)
 all-mapped P Q f g [] a = tt
 all-mapped P Q f g (x ∷ xs) a = (g x (a .0), all-mapped P Q f g xs (a .1))
 
-all-same : {A : Type 0} (P Q : A → Type 0) → ((x : A) → P x → Q x) → (xs : List A) → All P xs → All Q xs
-all-same P Q g [] a = tt
-all-same P Q g (x ∷ xs) a = (g x (a .0), all-same P Q g xs (a .1))
-
--- so many of a list: each card no more often than there
-pub record Choice (k : ℕ) (l m : List ℕ) : Type 0 where
-  pub size : length m ≡ k
-  pub few : (x : ℕ) → count x m ≤ count x l
-
 choices-chosen : (k : ℕ) (l : List ℕ) → All (Choice k l) (choices k l)
-unfolding choices
-choices-chosen zero l = (record { size = refl; few = λ x. omega arith }, tt)
-choices-chosen (suc k) [] = tt
-choices-chosen (suc k) (c ∷ l) =
-    all-and (Choice (suc k) (c ∷ l)) (map (λ m. c ∷ m) (choices k l)) (choices (suc k) l)
-    (all-mapped (Choice k l) (Choice (suc k) (c ∷ l)) (λ m. c ∷ m) (λ m h. record { size = ap suc (h .size); few = λ x. omega (arith, h .few x) }) (choices k l) (choices-chosen k l))
-    (all-same (Choice (suc k) l) (Choice (suc k) (c ∷ l)) (λ m h. record { size = h .size; few = λ x. omega (arith, h .few x) }) (choices (suc k) l) (choices-chosen (suc k) l))
+choices-chosen k l = at-all (Choice k l) (choices k l) (choice-of k l)
 
 pub record FromBoth (hole board m : List ℕ) : Type 0 where
   pub mine : List ℕ
@@ -275,7 +254,7 @@ pub record FromBoth (hole board m : List ℕ) : Type 0 where
 each-both : (hole board : List ℕ) (ps qs : List (List ℕ)) → All (Choice 2 hole) ps → All (Choice 3 board) qs → All (FromBoth hole board) (eachBefore ps qs)
 each-both hole board [] qs a b = tt
 each-both hole board (p ∷ ps) qs a b =
-    all-and (FromBoth hole board) (map (λ q. p ++ q) qs) (eachBefore ps qs)
+    all-append (FromBoth hole board) (map (λ q. p ++ q) qs) (eachBefore ps qs)
     (all-mapped (Choice 3 board) (FromBoth hole board) (λ q. p ++ q) (λ q h. record { mine = p; theirs = q; both = refl; two = a .0; three = h }) qs b)
     (each-both hole board ps qs (a .1) b)
 

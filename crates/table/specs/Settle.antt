@@ -1,10 +1,10 @@
 -- Document 01, "Chip heights and pots" and `settle` at a table: the totals of the sittings dealt in, the pots they make, who is paid what,
 -- and the table with its hand closed. Assumes nothing.
-use Prim.Native.Nat.{ℕ, zero, suc, _+_, _-_, _≤_}
+use Prim.Native.Nat.{ℕ, _≤_}
 use mathlib.Core.Bool.{Bool, true, false, not}
-use mathlib.Core.List.{List, [], _∷_, map}
+use mathlib.Core.List.{List, map}
 use mathlib.Core.Path.{_≡_}
-use lib.Dec.{ltb, leb, eqb}
+use lib.Dec.{leb, eqb}
 use lib.ListN.{replicate}
 use Rattle.paper.specs.Paper.{wrongMoment, cardsMissing, when, orElse, isSheet}
 use Rattle.laws.specs.Tests.{both, either, pick}

@@ -5,11 +5,11 @@ use borrow.Author.Needs.{needs}
 use Rattle.ladder.proofs.five_below.Statement.{statement}
 use Rattle.ladder.proofs.five_below.Tie as tie
 
-choose-requires : tie.Need-choose-requires
-choose-requires c κs = search needs
+choose-five-requires : tie.Need-choose-five-requires
+choose-five-requires c κs = search needs
 
-choose-requires-2 : tie.Need-choose-requires-2
-choose-requires-2 c κs = search needs
+choose-four-requires : tie.Need-choose-four-requires
+choose-four-requires c κs = search needs
 
 three-below-requires : tie.Need-three-below-requires
 three-below-requires c κs = search needs
@@ -28,8 +28,8 @@ pub five-below-spec : {M : Type 1} → statement M
 five-below-spec =
     tie.close
     (tie.spec
-    choose-requires
-    choose-requires-2
+    choose-five-requires
+    choose-four-requires
     three-below-requires
     add-result
     add-result-2

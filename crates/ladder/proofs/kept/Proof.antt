@@ -1,11 +1,7 @@
 -- `kept` meets its contract: of 32 cards the number, else the place.
-use mathlib.Core.Path.{sym, ap, _∙_}
-use mathlib.Core.Bool.{Bool}
 use borrow.Author.Needs.{needs}
 use borrow.Author.Tests.{eq-eqb, ne-eqb}
-use Rattle.laws.specs.Tests.{pick}
-use Rattle.cards.specs.Order.{rankingOf, strengthBy}
-use Rattle.ladder.specs.Ladder.{placeOf, keptOf}
+use Rattle.ladder.specs.Ladder.{keptOf}
 use Rattle.ladder.proofs.kept.Statement.{statement}
 use Rattle.ladder.proofs.kept.Tie as tie
 

@@ -5,8 +5,8 @@ use borrow.Author.Needs.{needs}
 use Rattle.ladder.proofs.three_below.Statement.{statement}
 use Rattle.ladder.proofs.three_below.Tie as tie
 
-choose-requires : tie.Need-choose-requires
-choose-requires c κs = search needs
+choose-three-requires : tie.Need-choose-three-requires
+choose-three-requires c κs = search needs
 
 two-below-requires : tie.Need-two-below-requires
 two-below-requires c κs = search needs
@@ -19,4 +19,4 @@ unfolding threeBelow
 returns c = (cc, omega arith)
 
 pub three-below-spec : {M : Type 1} → statement M
-three-below-spec = tie.close (tie.spec choose-requires two-below-requires add-result returns)
+three-below-spec = tie.close (tie.spec choose-three-requires two-below-requires add-result returns)

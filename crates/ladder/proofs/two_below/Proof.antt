@@ -5,11 +5,11 @@ use borrow.Author.Needs.{needs}
 use Rattle.ladder.proofs.two_below.Statement.{statement}
 use Rattle.ladder.proofs.two_below.Tie as tie
 
-choose-requires : tie.Need-choose-requires
-choose-requires c κs = search needs
+choose-two-requires : tie.Need-choose-two-requires
+choose-two-requires c κs = search needs
 
-choose-requires-2 : tie.Need-choose-requires-2
-choose-requires-2 c κs = search needs
+choose-one-requires : tie.Need-choose-one-requires
+choose-one-requires c κs = search needs
 
 add-result : tie.Need-add-result
 add-result c = search needs
@@ -19,4 +19,4 @@ unfolding twoBelow
 returns c = (cc, omega arith)
 
 pub two-below-spec : {M : Type 1} → statement M
-two-below-spec = tie.close (tie.spec choose-requires choose-requires-2 add-result returns)
+two-below-spec = tie.close (tie.spec choose-two-requires choose-one-requires add-result returns)

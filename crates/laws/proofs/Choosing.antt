@@ -1,20 +1,19 @@
 -- The choices of k of a list of numbers that falls: they fall, every one falls, every list of k of its numbers that falls is among them, and
--- there are as many as the binomial says; and a choice of any list has each number no more often than the list. For any k and any length. General (but for
--- `choices`, which crate cards defines). Assumes nothing.
+-- there are as many as the binomial says; and a choice of any list has each number no more often than the list. For any k and any length. General.
+-- Assumes nothing.
 use mathlib.Core.Path.{_≡_, refl, sym, ap, ap₂, _∙_, subst}
 use mathlib.Core.Bool.{Bool, true, false, cond}
 use mathlib.Core.Logic.{⊎-elim}
-use mathlib.Core.List.{List, [], _∷_, _++_, map, List·Memᴰ, List·Memᴰ·not-nil, List·Memᴰ·head, List·Memᴰ·cases-cons, List·Memᴰ·append-cases, List·Memᴰ·eq-of-singleton, Memᴰ·append-left, Memᴰ·append-right, Memᴰ·map, Memᴰ·of-map}
+use mathlib.Core.List.{List, [], _∷_, map, List·Memᴰ, List·Memᴰ·not-nil, List·Memᴰ·head, List·Memᴰ·cases-cons, List·Memᴰ·append-cases, List·Memᴰ·eq-of-singleton, Memᴰ·append-left, Memᴰ·append-right, Memᴰ·map, Memᴰ·of-map}
 use Prim.Native.Nat.{ℕ, zero, suc, _+_, _<_, _≤_}
 use native.Mathlib.Omega.{arith}
 use lib.ListN.{length, length-append, length-map}
 use Rattle.laws.specs.Lists.{All}
 use Rattle.laws.specs.Often.{count}
-use Rattle.cards.specs.Order.{choices, above}
-use Rattle.cards.proofs.Above.{higher, equal}
-use Rattle.ladder.specs.Listing.{those, binomial}
-use Rattle.ladder.proofs.Members.{all-at, at-all}
-use Rattle.ladder.proofs.Standing.{FallsBy, falls-append}
+use Rattle.laws.specs.Listing.{choices, above, those, binomial}
+use Rattle.laws.proofs.Above.{higher, equal}
+use Rattle.laws.proofs.Members.{all-at, at-all}
+use Rattle.laws.proofs.Standing.{FallsBy, falls-append}
 
 -- each is below the one before, and the first below x
 abbrev pub Drops : ℕ → List ℕ → Type 0
@@ -115,10 +114,6 @@ choices-many (suc k) (c ∷ l) =
     ∙ ap₂ _+_ (length-map (choices k l) (λ n. c ∷ n) ∙ choices-many k l) (choices-many (suc k) l)
 
 -- ---- of any list
-pub count-append : (x : ℕ) (l m : List ℕ) → count x (l ++ m) ≡ count x l + count x m
-count-append x [] m = omega arith
-count-append x (c ∷ l) m = omega (arith, count-append x l m)
-
 -- so many of a list: each no more often than there
 pub record Choice (k : ℕ) (l m : List ℕ) : Type 0 where
   pub size : length m ≡ k

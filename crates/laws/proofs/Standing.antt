@@ -10,12 +10,12 @@ use native.Mathlib.Decide.{decLt}
 use lib.Dec.{eqb}
 use lib.ListN.{length}
 use borrow.Author.Tests.{eqb-true}
 use Rattle.laws.specs.Tests.{one, both}
 use Rattle.laws.specs.Lists.{All}
 use Rattle.laws.specs.Often.{tally}
 use Rattle.laws.proofs.Tests.{test, both-true}
 use Rattle.laws.proofs.Often.{one-small, tally-most}
-use Rattle.ladder.proofs.Members.{all-at, all-append}
+use Rattle.laws.proofs.Members.{all-at, all-append}
 
 -- each is above all that follow
 abbrev pub FallsBy : {A : Type 0} → (A → A → Bool) → List A → Type 0

@@ -7,13 +7,12 @@ use Prim.Native.Nat.{ℕ, _<_}
 use native.Mathlib.Omega.{arith}
 use lib.Dec.{eqb}
 use borrow.Author.Tests.{eqb-true, eq-eqb}
 use Rattle.laws.specs.Tests.{one, both}
 use Rattle.laws.specs.Lists.{All}
 use Rattle.laws.specs.Often.{count}
 use Rattle.laws.specs.Some.{some}
-use Rattle.cards.specs.Cards.{sameList}
+use Rattle.laws.specs.Listing.{each, those, sameList}
 use Rattle.laws.proofs.Tests.{test, both-true}
-use Rattle.ladder.specs.Listing.{each, those}
 
 -- each element passes
 abbrev pub allPass : {A : Type 0} → (A → Bool) → List A → Bool
