@@ -7,24 +7,22 @@ ghost use Rattle.text.specs.Number.{digits};
 ghost use Rattle.writing.specs.Sheet.{Wrote};
 ghost use Rattle.writing.specs.Nine.{nineDigits};
 
-// The decimal digits of n at the front of the sheet, from the highest place down. Where n is below what a one is worth
-// at a place, that place is above its first digit and is left out; the last place always has a digit. Most numbers of an
-// answer have one digit or two: for those the first place looked at is the tens.
+// The decimal digits of n at the front of the sheet: first how many there are, then from the last to the first, each the rest of a division by ten.
+// Ten stands there as a number, so that no division by a number that is known only later is made.
 pub fn put_digits(sheet: &mut [u8], n: u32) -> usize
     requires { ⌜ (n < 10 ^ 9) × (length (digits n) ≤ length (now sheet)) ⌝ }
     ensures { λ r. ⌜ Wrote (digits n) (now (sheet .entry)) (now (sheet .exit)) r ⌝ }
 {
-    let mut at: usize = 0;
-    let mut worth = if n < 100 { 10 } else { 100_000_000 };
-    while 1 < worth {
-        if worth <= n {
-            sheet[at] = (48 + n / worth % 10) as u8;
-            at += 1;
-        }
-        worth = worth / 10;
+    let k = digit_count(n);
+    let mut i = k;
+    let mut m = n;
+    while 10 <= m {
+        i -= 1;
+        sheet[i] = (48 + m % 10) as u8;
+        m = m / 10;
     }
-    sheet[at] = (48 + n % 10) as u8;
-    at + 1
+    sheet[0] = (48 + m) as u8;
+    k
 }
 
 // How many decimal digits n has; 9 where it has more.

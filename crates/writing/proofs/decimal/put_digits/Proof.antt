@@ -1,134 +1,115 @@
--- `put_digits` meets its contract: before the turn for a place, the digits of n above that place stand at the sheet's front.
+-- `put_digits` meets its contract: before each turn the digits of m are still to be written, before those that stand behind them already.
 use borrow.Author.Needs.{needs}
-use borrow.Author.Tests.{le-leb, lt-leb}
-use mathlib.Core.List.{List, [], _∷_, _++_}
-use mathlib.Core.Logic.{⊎-elim}
-use mathlib.Core.Path.{_≡_, refl, sym, ap, subst, _∙_}
-use Prim.Native.Nat.{ℕ, zero, suc, _+_, _*_, _/_, _%_, _≤_, _<_, _^_}
-use native.Mathlib.Nat.{div-div-eq-div-mul, div-le-self, le-div-iff-mul-le, div-lt-iff-lt-mul, mul-div-cancel, one-le-pow, pow-suc}
+use mathlib.Core.List.{List, [], _∷_, _++_, append-assoc}
+use mathlib.Core.Path.{_≡_, refl, sym, ap, _∙_}
+use Prim.Native.Nat.{ℕ, suc, _+_, _-_, _/_, _%_, _≤_, _<_, _^_}
+use native.Mathlib.Nat.{div-le-self}
 use native.Mathlib.Omega.{arith}
-use lib.Dec.{leb, lit<}
-use lib.ListN.{length, set, length-append, length-set}
-use Rattle.laws.specs.Tests.{pick}
-use Rattle.laws.proofs.Sums.{le-or-lt}
+use lib.ListN.{length, getD, take, drop, set, length-append, length-set, take-append-drop}
+use lib.Seq.{length-take-le, take-suc, set-append-seam}
 use Rattle.text.specs.Number.{digits}
-use Rattle.writing.specs.Sheet.{Wrote}
+use Rattle.writing.specs.Sheet.{over, Wrote}
 use Rattle.text.proofs.Numbers.{digits-one, digits-more}
-use Rattle.writing.proofs.Sheets.{push}
 use Rattle.writing.proofs.decimal.put_digits.Statement.{statement}
 use Rattle.writing.proofs.decimal.put_digits.Tie as tie
 
--- the digits of n down to the place where a one is worth w: none where n is below w
-abbrev downTo : ℕ → ℕ → List ℕ
-downTo n w = pick (leb w n) (digits (n / w)) []
+-- i digits of m are left; those behind them stand in the sheet, and behind these it is as it was
+record Left (n : ℕ) (old new : List ℕ) (i m : ℕ) : Type 0 where
+  behind : List ℕ
+  split : digits n ≡ digits m ++ behind
+  count : length (digits m) ≡ i
+  sheet : new ≡ take i old ++ (behind ++ drop (length (digits n)) old)
+  same : length new ≡ length old
+  small : m < 10 ^ 9
 
-to-some : (n w : ℕ) → w ≤ n → downTo n w ≡ digits (n / w)
-to-some n w h = rw (le-leb w n h)
-
-to-none : (n w : ℕ) → n < w → downTo n w ≡ []
-to-none n w h = rw (lt-leb w n h)
-
--- a place that n reaches has one digit more than the places above it; another has none, as they have
-to-on : (n w : ℕ) → n < 10 ^ 9 → 0 < w → w ≤ n → downTo n w ≡ downTo n (w * 10) ++ ((48 + n / w % 10) ∷ [])
-to-on n w b z h = to-some n w h ∙ ⊎-elim more one (le-or-lt (w * 10) n)
+start : (n : ℕ) (old : List ℕ) (i : ℕ) → n < 10 ^ 9 → i ≡ length (digits n) → Left n old old i n
+start n old i b e = record {
+  behind = [];
+  split = sym (nil (digits n));
+  count = sym e;
+  sheet = rw e (sym (take-append-drop (length (digits n)) old));
+  same = refl;
+  small = b;
+}
   where
-    more : w * 10 ≤ n → digits (n / w) ≡ downTo n (w * 10) ++ ((48 + n / w % 10) ∷ [])
-    more k =
-        let ten : 10 ≤ n / w = le-div-iff-mul-le {k = w} {x = 10} {y = n} z .1 (omega arith) in
-        digits-more (n / w) ten (omega (arith, div-le-self n w))
-        ∙ rw (to-some n (w * 10) k, div-div-eq-div-mul n w 10)
+    nil : (l : List ℕ) → l ++ [] ≡ l
+    nil [] = refl
+    nil (x ∷ l) = ap (λ (k : List ℕ). x ∷ k) (nil l)
 
-    one : n < w * 10 → digits (n / w) ≡ downTo n (w * 10) ++ ((48 + n / w % 10) ∷ [])
-    one k =
-        let small : n / w < 10 = div-lt-iff-lt-mul {k = w} {x = n} {y = 10} z .1 (omega arith) in
-        digits-one (n / w) small ∙ rw (to-none n (w * 10) k) (ap (λ (d : ℕ). (48 + d) ∷ []) (omega arith))
+-- a store at the last place of what is left as it was
+store-last : (old rest : List ℕ) (j d : ℕ) → j < length old → set (take (suc j) old ++ rest) j d ≡ take j old ++ (d ∷ rest)
+store-last old rest j d h =
+    let l : length (take j old) ≡ j = length-take-le j old (omega arith) in
+    let e : take (suc j) old ++ rest ≡ take j old ++ (getD old j 0 ∷ rest) =
+    ap (λ (k : List ℕ). k ++ rest) (take-suc old j 0 h) ∙ append-assoc (take j old) (getD old j 0 ∷ []) rest in
+    ap (λ (k : List ℕ). set k j d) e
+    ∙ ap (λ (k : ℕ). set (take j old ++ (getD old j 0 ∷ rest)) k d) (sym l)
+    ∙ set-append-seam (take j old) (getD old j 0) rest d
 
-to-off : (n w : ℕ) → n < w → downTo n w ≡ downTo n (w * 10)
-to-off n w h = to-none n w h ∙ sym (to-none n (w * 10) (omega arith))
+module _ {n i m : ℕ} {old new : List ℕ} (g : Left n old new i m) (h : length (digits n) ≤ length old) where
+  within : i ≤ length old
+  within = omega (arith, ap length (g .split), length-append (digits m) (g .behind), g .count)
 
--- the last place has a digit, for 0 too
-to-last : (n : ℕ) → n < 10 ^ 9 → digits n ≡ downTo n 10 ++ ((48 + n % 10) ∷ [])
-to-last n b = ⊎-elim more one (le-or-lt 10 n)
-  where
-    more : 10 ≤ n → digits n ≡ downTo n 10 ++ ((48 + n % 10) ∷ [])
-    more k = digits-more n k b ∙ rw (to-some n 10 k)
+  -- a digit more
+  module _ (t : 10 ≤ m) where
+    more : digits m ≡ digits (m / 10) ++ ((48 + m % 10) ∷ [])
+    more = digits-more m t (g .small)
 
-    one : n < 10 → digits n ≡ downTo n 10 ++ ((48 + n % 10) ∷ [])
-    one k = digits-one n k ∙ rw (to-none n 10 k) (ap (λ (d : ℕ). (48 + d) ∷ []) (omega arith))
+    one-less : length (digits m) ≡ length (digits (m / 10)) + 1
+    one-less = ap length more ∙ length-append (digits (m / 10)) ((48 + m % 10) ∷ [])
 
--- so above any place there are fewer digits than n has
-fewer-on : (n w : ℕ) → n < 10 ^ 9 → 0 < w → length (downTo n w) < length (digits n) → length (downTo n (w * 10)) < length (digits n)
-fewer-on n w b z h = ⊎-elim on (λ (k : n < w). rw (sym (to-off n w k)) h) (le-or-lt w n)
-  where
-    on : w ≤ n → length (downTo n (w * 10)) < length (digits n)
-    on k = omega (arith, ap length (to-on n w b z k) ∙ length-append (downTo n (w * 10)) ((48 + n / w % 10) ∷ []))
+    some : 1 ≤ i
+    some = omega (arith, one-less, g .count)
 
-fewer : (j n : ℕ) → n < 10 ^ 9 → length (downTo n (10 ^ j * 10)) < length (digits n)
-fewer zero n b = omega (arith, ap length (to-last n b) ∙ length-append (downTo n 10) ((48 + n % 10) ∷ []))
-fewer (suc j) n b = fewer-on n (10 ^ suc j) b (one-le-pow (suc j) 10 (lit< tt)) (rw (pow-suc 10 j) (fewer j n b))
+    turn : Left n old (set new (i - 1) (48 + m % 10)) (i - 1) (m / 10)
+    turn =
+        let d : ℕ = 48 + m % 10 in
+        let j : i ≡ suc (i - 1) = omega (arith, some) in
+        let rest : List ℕ = g .behind ++ drop (length (digits n)) old in
+        record {
+          behind = d ∷ g .behind;
+          split = g .split ∙ ap (λ (k : List ℕ). k ++ g .behind) more ∙ append-assoc (digits (m / 10)) (d ∷ []) (g .behind);
+          count = omega (arith, one-less, g .count);
+          sheet =
+              ap (λ (k : List ℕ). set k (i - 1) d) (g .sheet ∙ ap (λ (k : ℕ). take k old ++ rest) j)
+              ∙ store-last old rest (i - 1) d (omega (arith, some, within));
+          same = length-set new (i - 1) d ∙ g .same;
+          small = omega (arith, div-le-self m 10, g .small);
+        }
 
--- one place lower
-lower : (j w : ℕ) → w ≡ 10 ^ j → 1 < w → (i : ℕ) × (w / 10 ≡ 10 ^ i) × (w / 10 * 10 ≡ w)
-lower zero w e h = absurd (omega arith)
-lower (suc j) w e h =
-    let d : w ≡ 10 ^ j * 10 = e ∙ pow-suc 10 j in
-    let q : w / 10 ≡ 10 ^ j = rw d (mul-div-cancel (10 ^ j) (lit< tt)) in
-    (j, q, rw q (sym d))
+  -- the first digit
+  module _ (t : m < 10) where
+    one : i ≡ 1
+    one = sym (g .count) ∙ ap length (digits-one m t)
 
--- what holds before the turn for the place where a one is worth w, a power of ten
-abbrev Turn : ℕ → List ℕ → List ℕ → ℕ → ℕ → Type 0
-Turn n old new at w = (j : ℕ) × (w ≡ 10 ^ j) × (length new ≡ length old) × Wrote (downTo n (w * 10)) old new at
+    whole : digits n ≡ (48 + m) ∷ g .behind
+    whole = g .split ∙ ap (λ (k : List ℕ). k ++ g .behind) (digits-one m t)
 
--- it holds before the first, from any place that n does not reach above
-begin : (n : ℕ) (old : List ℕ) (j w : ℕ) → w ≡ 10 ^ j → n < w * 10 → Turn n old old 0 w
-begin n old j w e h = (j, e, refl, rw (to-none n (w * 10) h) (record { count = refl; sheet = refl }))
-
-module _ {n at w : ℕ} {old new : List ℕ} (b : n < 10 ^ 9) (h : length (digits n) ≤ length old) (t : Turn n old new at w) where
-  space : length (downTo n (w * 10)) < length old
-  space =
-      let few : length (downTo n (w * 10)) < length (digits n) = rw (t .1) (fewer (t .0) n b) in
-      omega arith
-
-  room : at < length new
-  room = omega (arith, space, t .2, t .3 .count)
-
-  turn-on : 1 < w → w ≤ n → Turn n old (set new at (48 + n / w % 10)) (at + 1) (w / 10)
-  turn-on o k =
-      let q = lower (t .0) w (t .1) o in (
-        q .0,
-        q .1,
-        simp length-set (t .2),
-        rw (q .2, to-on n w b (omega arith) k) (push (48 + n / w % 10) space (t .3)),
-      )
-
-  turn-off : 1 < w → n < w → Turn n old new at (w / 10)
-  turn-off o k =
-      let q = lower (t .0) w (t .1) o in
-      (q .0, q .1, t .2, rw (q .2, to-off n w k) (t .3))
-
-  done : w ≤ 1 → Wrote (digits n) old (set new at (48 + n % 10)) (at + 1)
-  done o =
-      let z : 1 ≤ w = rw (t .1) (one-le-pow (t .0) 10 (lit< tt)) in
-      let e : w ≡ 1 = omega arith in
-      let l : length (downTo n 10) < length old = subst (λ (v : ℕ). length (downTo n (v * 10)) < length old) e space in
-      rw (to-last n b) (push (48 + n % 10) l (subst (λ (v : ℕ). Wrote (downTo n (v * 10)) old new at) e (t .3)))
+    done : {k : ℕ} → k ≡ length (digits n) → Wrote (digits n) old (set new 0 (48 + m)) k
+    done {k} e =
+        let rest : List ℕ = g .behind ++ drop (length (digits n)) old in
+        record {
+          count = e;
+          sheet =
+              ap (λ (x : List ℕ). set x 0 (48 + m)) (g .sheet ∙ ap (λ (x : ℕ). take x old ++ rest) one)
+              ∙ store-last old rest 0 (48 + m) (omega (arith, one, within))
+              ∙ ap (λ (x : List ℕ). x ++ drop (length (digits n)) old) (sym whole);
+        }
 
 abbrev Inv-loop : tie.InvT-loop
-Inv-loop sheet₀ n at₀ worth₀ sheet at worth = Turn n sheet₀ sheet at worth
+Inv-loop sheet₀ n k i₀ m₀ sheet i m = Left n sheet₀ sheet i m
 
 abbrev μ-loop : tie.MeasureT-loop
-μ-loop sheet₀ n at₀ worth₀ sheet at worth = worth
+μ-loop sheet₀ n k i₀ m₀ sheet i m = m
+
+digit-count-requires : tie.Need-digit-count-requires Inv-loop μ-loop
+digit-count-requires c κs = search needs
 
 loop-holds : tie.Need-loop-holds Inv-loop μ-loop
-loop-holds c =
-    let a = c .before .args in
-    ⊎-elim
-    (λ w. begin (a .n) (a .sheet .now) 1 (c .if1 .worth) (w .1) (omega (arith, w .1, w .0 .taken)))
-    (λ w. begin (a .n) (a .sheet .now) 8 (c .if1 .worth) (w .1) (omega (arith, w .1, c .before .pre .0)))
-    (c .if1 .came)
+loop-holds c = start (c .before .before .args .n) (c .before .before .args .sheet .now) _ (c .before .before .pre .0) (c .digit-count .ensures)
 
-div-sheet : tie.Need-div-sheet Inv-loop μ-loop
-div-sheet c = search needs
+sub-i : tie.Need-sub-i Inv-loop μ-loop
+sub-i c = some (c .before .loop .inv) (c .before .before .before .before .pre .1) (c .loop-test .taken)
 
 add-sheet : tie.Need-add-sheet Inv-loop μ-loop
 add-sheet c = search needs
@@ -138,25 +119,13 @@ cast-sheet c = search needs
 
 slice-write-sheet : tie.Need-slice-write-sheet Inv-loop μ-loop
 slice-write-sheet c =
-    let s = c .before .before .before in
-    room (s .before .before .pre .0) (s .before .before .pre .1) (s .loop .inv)
-
-add-at : tie.Need-add-at Inv-loop μ-loop
-add-at c = omega (arith, slice-write-sheet c)
+    omega (arith, some (c .before .loop .inv) (c .before .before .before .before .pre .1) (c .loop-test .taken), within (c .before .loop .inv) (c .before .before .before .before .pre .1), c .before .loop .inv .same)
 
 loop-less : tie.Need-loop-less Inv-loop μ-loop
 loop-less c = search needs
 
 loop-again : tie.Need-loop-again Inv-loop μ-loop
-loop-again c =
-    let s = c .before .before .before in
-    let b = s .before .before .pre .0 in
-    let h = s .before .before .pre .1 in
-    let o : 1 < s .loop .worth = omega arith in
-    ⊎-elim
-    (λ w. rw (w .2, w .3) (turn-on b h (s .loop .inv) o (w .0 .taken)))
-    (λ w. rw (w .1, w .2) (turn-off b h (s .loop .inv) o (omega arith)))
-    (c .before .if2 .came)
+loop-again c = turn (c .before .loop .inv) (c .before .before .before .before .pre .1) (c .loop-test .taken)
 
 add-sheet-2 : tie.Need-add-sheet-2 Inv-loop μ-loop
 add-sheet-2 c = search needs
@@ -166,19 +135,13 @@ cast-sheet-2 c = search needs
 
 slice-write-sheet-2 : tie.Need-slice-write-sheet-2 Inv-loop μ-loop
 slice-write-sheet-2 c =
-    let s = c .before in
-    room (s .before .before .pre .0) (s .before .before .pre .1) (s .loop .inv)
-
-add-result : tie.Need-add-result Inv-loop μ-loop
-add-result c = omega (arith, slice-write-sheet-2 c)
+    omega (arith, one (c .before .loop .inv) (c .before .before .before .before .pre .1) (c .loop-test .left), within (c .before .loop .inv) (c .before .before .before .before .pre .1), c .before .loop .inv .same)
 
 same-length : tie.Need-same-length Inv-loop μ-loop
-same-length c = simp length-set (c .before .loop .inv .2)
+same-length c = simp length-set (c .before .loop .inv .same)
 
 returns : tie.Need-returns Inv-loop μ-loop
-returns c =
-    let s = c .before in
-    done (s .before .before .pre .0) (s .before .before .pre .1) (s .loop .inv) (omega arith)
+returns c = done (c .before .loop .inv) (c .before .before .before .before .pre .1) (c .loop-test .left) (c .before .before .digit-count .ensures)
 
 pub put-digits-spec : {M : Type 1} → statement M
 put-digits-spec =
@@ -186,17 +149,16 @@ put-digits-spec =
     (tie.spec
     Inv-loop
     μ-loop
+    digit-count-requires
     loop-holds
-    div-sheet
+    sub-i
     add-sheet
     cast-sheet
     slice-write-sheet
-    add-at
     loop-less
     loop-again
     add-sheet-2
     cast-sheet-2
     slice-write-sheet-2
-    add-result
     same-length
     returns)
