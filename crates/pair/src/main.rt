@@ -9,11 +9,13 @@ use output::ahead;
 use pairs::close;
 use pairs::feed_on;
 ghost use mathlib.Core.Path.{_≡_};
+ghost use mathlib.Core.Bool.{false};
 ghost use Prim.Native.Nat.{_+_, _≤_, _<_};
 ghost use lib.ListN.{length};
 ghost use Rattle.lines.specs.Kept.{keptMost};
 ghost use Rattle.frames.specs.Frames.{Held};
 ghost use Rattle.couple.specs.Couple.{Good, roomMost};
+ghost use Rattle.pairs.specs.Pairs.{HeardTo};
 
 struct Served {
     pair: Pair,
@@ -33,7 +35,8 @@ fn serve_one(
     out: &mut [u8],
 ) -> Served
     requires { ⌜ Good p × Held f × (only ≤ 2) × (keptMost ≤ length (now buf)) × (from < length (now part)) × (roomMost ≤ length (now out)) ⌝ }
-    ensures { λ r. ⌜ Good (r .pair) × Held (r .frame) × (from < r .from) × (r .from ≤ length (now (part .entry))) ⌝ }
+    ensures heard { λ r. ⌜ HeardTo only p f (now (buf .entry)) (now (part .entry)) from (r .pair) (r .frame) (now (buf .exit)) (r .from) ⌝ }
+    ensures held { λ r. ⌜ Good (r .pair) × Held (r .frame) × (from < r .from) × (r .from ≤ length (now (part .entry))) ⌝ }
 {
     let d = feed_on(p, f, only, buf, &part[from..], out);
     let next = ahead(from, d.used, part);
@@ -56,10 +59,11 @@ struct Turn {
     more: bool,
 }
 
-// Answers everything that this part of the input makes whole, in one write where the answers fit.
+// Answers everything that this part of the input makes whole, in one write where the answers fit. Unless a write failed, the pair has heard every byte of it.
 fn serve(p: Pair, f: Frame, only: u8, buf: &mut [u8], part: &[u8]) -> Turn
     requires { ⌜ Good p × Held f × (only ≤ 2) × (keptMost ≤ length (now buf)) ⌝ }
-    ensures { λ r. ⌜ Good (r .pair) × Held (r .frame) ⌝ }
+    ensures heard { λ r. ⌜ (r .failed ≡ false → HeardTo only p f (now (buf .entry)) (now (part .entry)) 0 (r .pair) (r .frame) (now (buf .exit)) (length (now (part .entry)))) ⌝ }
+    ensures held { λ r. ⌜ Good (r .pair) × Held (r .frame) ⌝ }
 {
     let mut out = io::large_buffer();
     let mut pair = p;

@@ -27,7 +27,7 @@ abbrev Two : Pair → Type 0
 Two p = (p .shut ≡ false) × (length (p .tables) ≡ 2)
 
 -- a table put back: itself or the other
-put-back : (ts : List Table) (due u : Bool) (t : Table) → length ts ≡ 2 → tableAt (withTable ts due t) u ≡ pick (sameTable u due) t (tableAt ts u)
+pub put-back : (ts : List Table) (due u : Bool) (t : Table) → length ts ≡ 2 → tableAt (withTable ts due t) u ≡ pick (sameTable u due) t (tableAt ts u)
 put-back ts true true t n = getD-set-same ts 1 t (freshTable standIn) (omega (arith, n))
 put-back ts true false t n = getD-set-other ts 1 0 t (freshTable standIn) (λ e. omega arith)
 put-back ts false true t n = getD-set-other ts 0 1 t (freshTable standIn) (λ e. omega arith)

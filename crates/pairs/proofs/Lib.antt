@@ -3,3 +3,4 @@
 pub mod Runs
 pub mod On
 pub mod Alone
+pub mod Hears

@@ -68,7 +68,7 @@ module _ (only : ℕ) (p : Pair) (f : Frame) (buf part out : List ℕ) (held : H
 
 -- ---- one after another
 
-heard-on : (f : Frame) (buf part : List ℕ) (used u : ℕ) (d : Frame) (buf2 : List ℕ) → d .due ≡ heardOf f buf part used .due → keptIn (d .mark) buf2 ≡ heardOf f buf part used .kept
+pub heard-on : (f : Frame) (buf part : List ℕ) (used u : ℕ) (d : Frame) (buf2 : List ℕ) → d .due ≡ heardOf f buf part used .due → keptIn (d .mark) buf2 ≡ heardOf f buf part used .kept
     → heardOf f buf part (used + u) ≡ andThen (heardOf f buf part used) (heardOf d buf2 (drop used part) u)
 heard-on f buf part used u d buf2 e k =
     let x : Framed = heardOf f buf part used in

@@ -3,7 +3,7 @@ use Prim.Native.Nat.{ℕ, _-_, _≤_}
 use mathlib.Core.Path.{_≡_}
 use mathlib.Core.Bool.{Bool}
 use mathlib.Core.List.{List, [], _∷_, _++_}
-use lib.ListN.{take}
+use lib.ListN.{take, drop}
 use lib.Dec.{eqb, ltb, leb}
 use Rattle.laws.specs.Tests.{pick, both}
 use Rattle.text.specs.Line.{lineNumber}
@@ -69,6 +69,14 @@ pub record FedOn (only : ℕ) (p : Pair) (f : Frame) (buf part out buf2 out2 : L
   pub due : r .frame .due ≡ heardOf f buf part (r .used) .due
   pub kept : keptIn (r .frame .mark) buf2 ≡ heardOf f buf part (r .used) .kept
   pub gave : Gave (ran only p (heardOf f buf part (r .used) .pieces)) out out2 (r .pair) (r .written)
+
+-- with room for any answer at each call: the pair that had heard a part up to one place has heard it up to another, and has taken all that it made whole there
+abbrev pub HeardTo : ℕ → Pair → Frame → List ℕ → List ℕ → ℕ → Pair → Frame → List ℕ → ℕ → Type 0
+HeardTo only p f buf part from q g buf2 to =
+    (from ≤ to)
+    × (g .due ≡ heardOf f buf (drop from part) (to - from) .due)
+    × (keptIn (g .mark) buf2 ≡ heardOf f buf (drop from part) (to - from) .kept)
+    × (q ≡ ran only p (heardOf f buf (drop from part) (to - from) .pieces) .pair)
 
 -- bytes of the part are left, and there is room
 abbrev pub goesOn : ℕ → ℕ → ℕ → Bool

@@ -1,5 +1,6 @@
--- `serve_one` meets its contract: the part goes on behind the bytes that were used up, at least one.
+-- `serve_one` meets its contract: the pair has heard the bytes that were used up, at least one, and the part goes on behind them.
 use Rattle.text.proofs.Parts.{goes-further}
+use Rattle.pairs.proofs.Hears.{hears-one}
 use borrow.Author.Needs.{needs}
 use Rattle.pair.proofs.serve_one.Statement.{statement}
 use Rattle.pair.proofs.serve_one.Tie as tie
@@ -38,7 +39,13 @@ same-length-2 : tie.Need-same-length-2
 same-length-2 c = search needs
 
 returns : tie.Need-returns
-returns c = (c .before .before .before .before .before .before .before .before .before .before .feed-on .ensures .1 .0 .0, c .before .before .before .before .before .before .before .before .before .before .feed-on .ensures .1 .0 .1, goes-further ((c .before .before .before .before .before .before .before .before .before .before .before .before .before .before .before .before .before) .args .part .now) ((c .before .before .before .before .before .before .before .before .before .before .before .before .before .before .before .before .before) .args .from) (c .before .before .before .before .before .ahead .ensures .0) ((c .before .before .before .before .before .before .before .before .before .before .before .before .before .before .before .before .before) .pre .4) (λ h. c .before .before .before .before .before .before .before .before .before .before .feed-on .ensures .1 .1 .1 h ((c .before .before .before .before .before .before .before .before .before .before .before .before .before .before .before .before .before) .pre .5)), c .before .before .before .before .before .ahead .ensures .1)
+returns c =
+    let s = c .before .before .before .before .before .before .before .before .before .before .before .before .before .before .before .before .before in
+    let f = c .before .before .before .before .before .before .before .before .before .before .feed-on in
+    let a = c .before .before .before .before .before .ahead .ensures in (
+      hears-one (s .args .part .now) (s .args .from) (f .result) (f .ensures .0) (a .0),
+      (f .ensures .1 .0 .0, f .ensures .1 .0 .1, goes-further (s .args .part .now) (s .args .from) (a .0) (s .pre .4) (λ h. f .ensures .1 .1 .1 h (s .pre .5)), a .1),
+    )
 
 pub serve-one-spec : {M : Type 1} → statement M
 serve-one-spec =
