@@ -15,6 +15,11 @@ WORDS = {
     10: "a live seat has no cards entered",
     11: "the sheet is bad",
     12: "the answer sheet is too short",
+    13: "put right, an entry would be refused",
+    14: "a shared pool: nothing is put right",
+    15: "the stored log is full",
+    16: "the proposal does not pay exactly",
+    17: "the proposer leaves something unpaid",
 }
 
 DIGITS = [
@@ -73,6 +78,7 @@ def drawn(block):
     picture += row("back", amount=numbers["back"]) + RULE
     if "fee" in numbers:
         picture += row("fee", amount=numbers["fee"])
+        picture += row("jackpot", amount=numbers["jackpot"]) if "jackpot" in numbers else ""
         sittings = [number for key, number in block if key == "sitting"]
         paid = [number for key, number in block if key == "paid"]
         picture += "".join(row("sitting", *pair) for pair in zip(sittings, paid, strict=True))

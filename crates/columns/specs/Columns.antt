@@ -3,9 +3,11 @@
 use Prim.Native.Nat.{ℕ, zero, suc, _+_, _-_, _*_, _/_, _%_, min, max}
 use mathlib.Core.Bool.{Bool, true, false}
 use mathlib.Core.List.{List, [], _∷_}
+use mathlib.Core.Path.{_≡_}
 use lib.Dec.{eqb}
 use Rattle.laws.specs.Tests.{pick, both}
 use Rattle.pots.specs.Levels.{secondOf}
+use Rattle.pots.specs.declared.Pot.{Pot}
 
 -- how high the highest column is drawn, in tenths of a pixel
 abbrev pub drawn : ℕ
@@ -23,6 +25,16 @@ reachOf ts who = leastAmong (secondOf ts) ts who
 -- how many of a sitting's t chips lie above the height low and not above high
 unfoldable pub slabOf : ℕ → ℕ → ℕ → ℕ
 slabOf t low high = min t high - min t low
+
+-- the chips of all sittings above the height low and not above high: a band across the columns
+unfoldable pub bandOf : List ℕ → ℕ → ℕ → ℕ
+bandOf [] low high = 0
+bandOf (t ∷ ts) low high = slabOf t low high + bandOf ts low high
+
+-- pots, from the lowest, whose chips are just those of their bands: each band begins at the height where the one below ends, and goes up to where its pot reaches
+abbrev pub Banded : List ℕ → ℕ → List Pot → Type 0
+Banded ts low [] = Unit {0}
+Banded ts low (p ∷ ps) = (p .amount ≡ bandOf ts low (reachOf ts (p .who))) × Banded ts (reachOf ts (p .who)) ps
 
 -- how high so many chips are drawn: as a part of the highest column, which is never taken for less than one chip
 unfoldable pub drawnOf : ℕ → ℕ → ℕ

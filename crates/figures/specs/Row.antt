@@ -9,7 +9,7 @@ use Rattle.figures.specs.Words.{labels, kinds, words, gap, edge, bar, am
 use Rattle.figures.specs.Grouped.{groupedOf, columnOf}
 use Rattle.figures.specs.Lamp.{cellsOf}
 
--- the kinds of lines by their places in the answer block
+-- the kinds of lines by their places in the table of labels
 abbrev pub kindN : ℕ
 kindN = 0
 
@@ -33,6 +33,10 @@ kindPaid = 8
 
 abbrev pub kindUnclaimed : ℕ
 kindUnclaimed = 9
+
+-- request No. 7's eleventh key, which stands behind `fee` where a pool is shared
+abbrev pub kindJackpot : ℕ
+kindJackpot = 10
 
 -- no answer line
 abbrev pub kindNone : ℕ

@@ -14,7 +14,7 @@ bytes (c ∷ₛ s) = code c ∷ bytes s
 abbrev pub rule : List ℕ
 rule = bytes "+------------------------------------------+\n"
 
--- the left edge and the label of each kind of line, in the order of the answer block, and the empty label
+-- the left edge and the label of each kind of line: document 01's ten in the order of the answer block, request No. 7's, and the empty label
 abbrev pub labels : List (List ℕ)
 labels =
     bytes "| entry     "
@@ -27,6 +27,7 @@ labels =
     ∷ bytes "| sitting   "
     ∷ bytes "| paid      "
     ∷ bytes "| unclaimed "
+    ∷ bytes "| jackpot   "
     ∷ bytes "|           "
     ∷ []
 
@@ -34,7 +35,7 @@ labels =
 abbrev pub kinds : ℕ
 kinds = length labels - 1
 
--- the refusals in words, by document 01's table "Refusal numbers"
+-- the refusals in words, by document 01's table "Refusal numbers", and behind them those of the requests No. 12 and No. 13
 abbrev pub words : List (List ℕ)
 words =
     bytes "0: taken                                "
@@ -50,9 +51,14 @@ words =
     ∷ bytes "10: a live seat has no cards entered    "
     ∷ bytes "11: the sheet is bad                    "
     ∷ bytes "12: the answer sheet is too short       "
+    ∷ bytes "13: put right, an entry would be refused"
+    ∷ bytes "14: a shared pool: nothing is put right "
+    ∷ bytes "15: the stored log is full              "
+    ∷ bytes "16: the proposal does not pay exactly   "
+    ∷ bytes "17: the proposer leaves something unpaid"
     ∷ []
 
--- how many numbers the table has
+-- how many numbers there are
 abbrev pub refusals : ℕ
 refusals = length words
 

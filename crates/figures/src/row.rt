@@ -19,10 +19,10 @@ struct Label {
 }
 
 // How many kinds of line an answer has; the empty label stands behind theirs.
-pub const KINDS: usize = 10;
+pub const KINDS: usize = 11;
 
 // The left edge and the label of each kind of line, and the empty label.
-const LABELS: [Label; 11] = [
+const LABELS: [Label; 12] = [
     Label {
         text: *b"| entry     ",
     },
@@ -54,6 +54,9 @@ const LABELS: [Label; 11] = [
         text: *b"| unclaimed ",
     },
     Label {
+        text: *b"| jackpot   ",
+    },
+    Label {
         text: *b"|           ",
     },
 ];
@@ -62,10 +65,10 @@ struct Words {
     text: [u8; 40],
 }
 
-// How many numbers document 01's table of refusals has.
-pub const REFUSALS: usize = 13;
+// How many refusal numbers there are: document 01's table, and those of the requests No. 12 and No. 13.
+pub const REFUSALS: usize = 18;
 
-// The refusals in words, by document 01's table.
+// The refusals in words, by document 01's table and the requests.
 const WORDS: [Words; REFUSALS] = [
     Words {
         text: *b"0: taken                                ",
@@ -105,6 +108,21 @@ const WORDS: [Words; REFUSALS] = [
     },
     Words {
         text: *b"12: the answer sheet is too short       ",
+    },
+    Words {
+        text: *b"13: put right, an entry would be refused",
+    },
+    Words {
+        text: *b"14: a shared pool: nothing is put right ",
+    },
+    Words {
+        text: *b"15: the stored log is full              ",
+    },
+    Words {
+        text: *b"16: the proposal does not pay exactly   ",
+    },
+    Words {
+        text: *b"17: the proposer leaves something unpaid",
     },
 ];
 

@@ -1,8 +1,9 @@
 -- An answer is drawn line by line from its numbers: a line `key=number` as the box writes it is read as that key and that number, and its picture is what
--- `lineDrawn` says of them, whatever stands behind it. For all ten keys at once. Assumes nothing.
+-- `lineDrawn` says of them, whatever stands behind it. For all eleven keys at once, `jackpot` in nine digits. Assumes nothing.
 use mathlib.Core.Path.{_≡_, refl, sym, ap, subst, _∙_}
 use mathlib.Core.List.{List, [], _∷_, _++_, append-nil, append-assoc}
 use mathlib.Core.Bool.{Bool, true, false, not}
+use mathlib.Core.Logic.{⊎-elim}
 use Prim.Native.Nat.{ℕ, zero, suc, _+_, _*_, _≤_, _<_, _^_}
 use native.Mathlib.Omega.{arith}
 use lib.ListN.{length, getD, drop, length-append}
@@ -11,17 +12,21 @@ use borrow.Author.Tests.{leb-true, le-leb, lt-ltb, ne-eqb, eqb-false, not-true}
 use Rattle.laws.specs.Lists.{All}
 use Rattle.laws.specs.Tests.{pick, both}
 use Rattle.laws.proofs.Tests.{both-true}
+use Rattle.laws.proofs.Sums.{le-or-lt}
 use Rattle.paper.specs.SheetAndEntries.{between}
 use Rattle.text.specs.Bytes.{allWithin}
-use Rattle.text.specs.Number.{digits}
-use Rattle.text.specs.Line.{lineNumber, numberLine, afterLine}
+use Rattle.text.specs.Number.{numberOf, digits}
+use Rattle.text.specs.Line.{valueOf, numberLine, afterLine}
 use Rattle.text.specs.declared.Number.{Number}
 use Rattle.text.specs.declared.Number.the-variants.{Value, Bad}
-use Rattle.text.proofs.Numbers.{read-digits}
-use Rattle.text.proofs.RoundTrip.{NoLF, no-append, no-within, no-number, line-shape, read-line}
-use Rattle.text.proofs.ReadBack.{line-back}
-use Rattle.picture.specs.Lines.{lineKinds, keys, mosts, noLine, lineWith, lineAt, lineFrom, answerLine}
-use Rattle.figures.specs.Row.{countedOf}
+use Rattle.text.proofs.Numbers.{read-digits, number-none}
+use Rattle.text.proofs.RoundTrip.{NoLF, no-append, no-within, no-number, line-shape, value-is}
+use Rattle.text.proofs.ReadBack.{value-back}
+use Rattle.writing.specs.Nine.{nineDigits, nineLine}
+use Rattle.writing.proofs.Nine.{nine-is}
+use Rattle.picture.specs.Lines.{lineKinds, keys, mosts, afterZeros, nineOf, numberAs, lineWritten, lineWith, lineAt, lineFrom, answerLine}
+use Rattle.picture.proofs.Zeros.{nine-read, nine-no-lf, nine-shape}
+use Rattle.figures.specs.Row.{kindJackpot, countedOf}
 use Rattle.picture.specs.Rows.{lineDrawn}
 use Rattle.picture.specs.Screen as screen
 use Rattle.picture.specs.Screen.{lineMost, saidOf, shownOf, stepOf, closeOf, pictureFrom}
@@ -34,7 +39,7 @@ abbrev Word : List ℕ → Type 0
 Word key = (allWithin 97 122 key ≡ true) × (length key ≤ 9)
 
 all-words : All Word keys
-all-words = ((refl, omega arith), ((refl, omega arith), ((refl, omega arith), ((refl, omega arith), ((refl, omega arith), ((refl, omega arith), ((refl, omega arith), ((refl, omega arith), ((refl, omega arith), ((refl, omega arith), tt))))))))))
+all-words = ((refl, omega arith), ((refl, omega arith), ((refl, omega arith), ((refl, omega arith), ((refl, omega arith), ((refl, omega arith), ((refl, omega arith), ((refl, omega arith), ((refl, omega arith), ((refl, omega arith), ((refl, omega arith), tt)))))))))))
 
 word-at : (xs : List (List ℕ)) (k : ℕ) → All Word xs → Word (getD xs k [])
 word-at [] k a = (refl, omega arith)
@@ -98,34 +103,71 @@ keys-unlike i k h l e = unlike-at (tags keys) i k refl h l (tag-at keys i ∙ ap
 
 -- ---- which line it is
 
+-- no bytes are no number, behind whatever key
+none-as : (k : ℕ) (bs : List ℕ) → length bs ≡ 0 → numberAs k bs ≡ Bad
+unfolding numberAs nineOf
+none-as k bs e = go (eqb k kindJackpot)
+  where
+    go : (t : Bool) → pick t (pick (eqb (length bs) 9) (numberOf (afterZeros bs)) Bad) (numberOf bs) ≡ Bad
+    go true = rw e
+    go false = number-none bs e
+
+-- the number as it is written behind the key: in nine digits or in as many as it has
+abbrev numeral : ℕ → ℕ → List ℕ
+numeral k v = pick (eqb k kindJackpot) (nineDigits v) (digits v)
+
+line-form : (k v : ℕ) (rest : List ℕ) → lineWritten k v ++ rest ≡ key k ++ (61 ∷ numeral k v) ++ (10 ∷ rest)
+unfolding lineWritten
+line-form k v rest = go (eqb k kindJackpot)
+  where
+    go : (t : Bool) → pick t (nineLine (key k) v) (numberLine (key k) v) ++ rest ≡ key k ++ (61 ∷ pick t (nineDigits v) (digits v)) ++ (10 ∷ rest)
+    go true = nine-shape (key k) rest v
+    go false = line-shape (key k) rest v
+
 module _ (k v : ℕ) (l : k < lineKinds) (q : v < 10 ^ 9) where
   abbrev written : List ℕ
-  written = numberLine (key k) v
+  written = lineWritten k v
 
-  here-number : lineNumber (key k) written ≡ Value v
-  here-number =
+  form : written ≡ key k ++ (61 ∷ numeral k v) ++ (10 ∷ [])
+  form = sym (append-nil written) ∙ line-form k v []
+
+  numeral-read : numberAs k (numeral k v) ≡ Value v
+  unfolding numberAs
+  numeral-read = go (eqb k kindJackpot)
+    where
+      go : (t : Bool) → pick t (nineOf (pick t (nineDigits v) (digits v))) (numberOf (pick t (nineDigits v) (digits v))) ≡ Value v
+      go true = nine-read v q
+      go false = read-digits v q
+
+  numeral-plain : NoLF (numeral k v) × (length (numeral k v) ≤ 9)
+  numeral-plain = go (eqb k kindJackpot)
+    where
+      go : (t : Bool) → NoLF (pick t (nineDigits v) (digits v)) × (length (pick t (nineDigits v) (digits v)) ≤ 9)
+      go true = (nine-no-lf v q, omega (arith, nine-is v))
+      go false = no-number (digits v) v (read-digits v q)
+
+  here-value : valueOf (key k) written ≡ numeral k v
+  here-value =
       let w = word k in
-      rw (append-nil written) at (read-line (key k) [] v (no-within 97 122 (key k) (omega arith) (w .0)) q (omega (arith, w .1)))
+      rw form (value-is (key k) (numeral k v) [] (no-within 97 122 (key k) (omega arith) (w .0)) (numeral-plain .0) (omega (arith, w .1, numeral-plain .1)))
 
   -- as a line of its own kind it is its number
   here : v ≤ getD mosts k 0 → lineAt k written ≡ record { kind = k; value = v }
   unfolding lineAt
-  here h = rw (here-number, le-leb v (getD mosts k 0) h)
+  here h = rw (here-value, numeral-read, le-leb v (getD mosts k 0) h)
 
-  -- it is no line of a kind before
+  -- it is no line of a kind before: there it has no value
   other : (j : ℕ) → j < k → lineAt j written .kind ≡ lineKinds
   unfolding lineAt
-  other j h = go (lineNumber (key j) written) refl
-    where
-      go : (x : Number) → lineNumber (key j) written ≡ x → lineWith j (getD mosts j 0) x .kind ≡ lineKinds
-      go Bad e = refl
-      go (Value m) e =
-          let back : written ≡ numberLine (key j) m ++ afterLine written = line-back (key j) written m e in
-          let shapes : key k ++ (61 ∷ digits v) ++ (10 ∷ []) ≡ key j ++ (61 ∷ digits m) ++ (10 ∷ afterLine written) =
-          sym (line-shape (key k) [] v) ∙ append-nil written ∙ back ∙ line-shape (key j) (afterLine written) m in
-          let one : key k ++ (61 ∷ (digits v ++ (10 ∷ []))) ≡ key j ++ (61 ∷ (digits m ++ (10 ∷ afterLine written))) =
-          sym (append-assoc (key k) (61 ∷ digits v) (10 ∷ [])) ∙ shapes ∙ append-assoc (key j) (61 ∷ digits m) (10 ∷ afterLine written) in
-          absurd (keys-unlike j k h l (sym (same-key (key k) (key j) (digits v ++ (10 ∷ [])) (digits m ++ (10 ∷ afterLine written)) (word k .0) (word j .0) one)))
+  other j h =
+      ⊎-elim (λ (z : length (valueOf (key j) written) ≤ 0). ap (λ (x : Number). lineWith j (getD mosts j 0) x .kind) (none-as j (valueOf (key j) written) (omega arith)))
+      (λ (z : 0 < length (valueOf (key j) written)).
+      let x : List ℕ = valueOf (key j) written in
+      let shapes : key k ++ (61 ∷ numeral k v) ++ (10 ∷ []) ≡ key j ++ (61 ∷ x) ++ (10 ∷ afterLine written) = sym form ∙ value-back (key j) written z in
+      let one : key k ++ (61 ∷ (numeral k v ++ (10 ∷ []))) ≡ key j ++ (61 ∷ (x ++ (10 ∷ afterLine written))) =
+      sym (append-assoc (key k) (61 ∷ numeral k v) (10 ∷ [])) ∙ shapes ∙ append-assoc (key j) (61 ∷ x) (10 ∷ afterLine written) in
+      absurd (keys-unlike j k h l (sym (same-key (key k) (key j) (numeral k v ++ (10 ∷ [])) (x ++ (10 ∷ afterLine written)) (word k .0) (word j .0) one))))
+      (le-or-lt (length (valueOf (key j) written)) 0)
 
 found : (m d j : ℕ) (bs : List ℕ) (l : Line) → d < m → ((i : ℕ) → i < d → lineAt (j + i) bs .kind ≡ lineKinds) → lineAt (j + d) bs ≡ l → l .kind < lineKinds → lineFrom m j bs ≡ l
 found zero d j bs l h n e f = absurd (omega arith)
@@ -140,10 +182,10 @@ found (suc m) (suc d) j bs l h n e f =
     rw none (found m d (j + 1) bs l (omega arith) (λ i p. subst (λ (x : ℕ). lineAt x bs .kind ≡ lineKinds) (on i) (n (suc i) (omega arith))) (subst (λ (x : ℕ). lineAt x bs ≡ l) (on d) e) f)
 
 -- a line as the box writes it says its key and its number
-pub line-said : (k v : ℕ) → k < lineKinds → v < 10 ^ 9 → v ≤ getD mosts k 0 → answerLine (numberLine (key k) v) ≡ record { kind = k; value = v }
+pub line-said : (k v : ℕ) → k < lineKinds → v < 10 ^ 9 → v ≤ getD mosts k 0 → answerLine (lineWritten k v) ≡ record { kind = k; value = v }
 unfolding answerLine
 line-said k v l q h =
-    let bs : List ℕ = numberLine (key k) v in
+    let bs : List ℕ = lineWritten k v in
     let z : (i : ℕ) → i ≡ 0 + i = λ i. omega arith in
     found lineKinds k 0 bs (record { kind = k; value = v }) l (λ i p. subst (λ (x : ℕ). lineAt x bs .kind ≡ lineKinds) (z i) (other k v l q i p))
     (subst (λ (x : ℕ). lineAt x bs ≡ record { kind = k; value = v }) (z k) (here k v l q h)) l
@@ -165,18 +207,18 @@ drawn colour (b ∷ xs) line rest last pots n h =
 
 -- the picture of a line as the box writes it is what `lineDrawn` says of its number; what stands behind it is drawn by itself
 pub line-shown : (colour : Bool) (k v last pots : ℕ) (rest : List ℕ) → k < lineKinds → v < 10 ^ 9 → v ≤ getD mosts k 0
-    → pictureFrom colour (record { line = []; long = false; last = last; pots = pots }) (numberLine (key k) v ++ rest)
+    → pictureFrom colour (record { line = []; long = false; last = last; pots = pots }) (lineWritten k v ++ rest)
     ≡ lineDrawn colour last pots k v ++ pictureFrom colour (screen.afterLine pots (record { kind = k; value = v })) rest
 unfolding saidOf shownOf
 line-shown colour k v last pots rest l q h =
     let w = word k in
-    let d = no-number (digits v) v (read-digits v q) in
-    let xs : List ℕ = key k ++ (61 ∷ digits v) in
-    let n : NoLF xs = no-append (key k) (61 ∷ digits v) (no-within 97 122 (key k) (omega arith) (w .0)) (λ e. omega arith, d .0) in
-    let shape : numberLine (key k) v ++ rest ≡ xs ++ (10 ∷ rest) = line-shape (key k) rest v in
-    let whole : xs ++ (10 ∷ []) ≡ numberLine (key k) v = sym (line-shape (key k) [] v) ∙ append-nil (numberLine (key k) v) in
+    let d = numeral-plain k v l q in
+    let xs : List ℕ = key k ++ (61 ∷ numeral k v) in
+    let n : NoLF xs = no-append (key k) (61 ∷ numeral k v) (no-within 97 122 (key k) (omega arith) (w .0)) (λ e. omega arith, d .0) in
+    let shape : lineWritten k v ++ rest ≡ xs ++ (10 ∷ rest) = line-form k v rest in
+    let whole : xs ++ (10 ∷ []) ≡ lineWritten k v = sym (form k v l q) in
     let says : answerLine (xs ++ (10 ∷ [])) ≡ record { kind = k; value = v } = ap answerLine whole ∙ line-said k v l q h in
-    let r = drawn colour xs [] rest last pots n (omega (arith, w .1, d .1, length-append (key k) (61 ∷ digits v))) in
+    let r = drawn colour xs [] rest last pots n (omega (arith, w .1, d .1, length-append (key k) (61 ∷ numeral k v))) in
     rw shape (rw (says, lt-ltb k lineKinds l) at r)
 
 -- ---- answers whole
@@ -188,7 +230,7 @@ Written l = (l .kind < lineKinds) × (l .value < 10 ^ 9) × (l .value ≤ getD m
 -- answer lines one behind another, as bytes, and as they are drawn: each from its number, the kind of the line before and the count of pots in a row
 abbrev pub lineBytes : List Line → List ℕ
 lineBytes [] = []
-lineBytes (l ∷ ls) = numberLine (key (l .kind)) (l .value) ++ lineBytes ls
+lineBytes (l ∷ ls) = lineWritten (l .kind) (l .value) ++ lineBytes ls
 
 abbrev pub linesDrawn : Bool → ℕ → ℕ → List Line → List ℕ
 linesDrawn colour last pots [] = closeOf (record { line = []; long = false; last = last; pots = pots })

@@ -11,11 +11,11 @@ use Rattle.laws.specs.Tests.{both}
 use Rattle.laws.proofs.Tests.{both-true}
 use Rattle.laws.proofs.Rules.{allBelow, below-all}
 use Rattle.text.specs.Bytes.{eqList}
-use Rattle.text.specs.Line.{lineNumber}
+use Rattle.text.specs.Line.{valueOf}
 use Rattle.text.specs.declared.Number.{Number}
 use Rattle.text.proofs.Bytes.{eq-list}
-use Rattle.figures.specs.Words.{bytes}
-use Rattle.picture.specs.Lines.{keys, lineKinds, mosts, lineWith, lineAt, Answering, noLine}
+use Rattle.figures.specs.Words.{bytes, refusals}
+use Rattle.picture.specs.Lines.{keys, lineKinds, mosts, numberAs, lineWith, lineAt, Answering, noLine}
 use Rattle.picture.specs.declared.Line.{Line}
 use Rattle.picture.specs.declared.reading.Key.{Key}
 
@@ -25,7 +25,7 @@ key letters count most = record { letters = letters; count = count; most = most 
 abbrev keyTable : List Key
 keyTable =
     key (bytes "n        ") 1 999999999
-    ∷ key (bytes "code     ") 4 12
+    ∷ key (bytes "code     ") 4 17
     ∷ key (bytes "turn     ") 4 10
     ∷ key (bytes "mark     ") 4 999999999
     ∷ key (bytes "pot      ") 3 999999999
@@ -34,6 +34,7 @@ keyTable =
     ∷ key (bytes "sitting  ") 7 999999999
     ∷ key (bytes "paid     ") 4 999999999
     ∷ key (bytes "unclaimed") 9 999999999
+    ∷ key (bytes "jackpot  ") 7 999999999
     ∷ []
 
 abbrev pub keyAt : ℕ → Key
@@ -57,7 +58,7 @@ key-row k h =
     (leb-true _ _ (p .0), eq-list _ _ (q .0), eqb-true _ _ (r .0), leb-true _ _ (r .1))
 
 -- what the reading of a line by its key answered
-pub line-said : (k : ℕ) (bs : List ℕ) {x : Number} {r : Line} → k < lineKinds → x ≡ lineNumber (take (keyAt k .count - 0) (keyAt k .letters)) bs
+pub line-said : (k : ℕ) (bs : List ℕ) {x : Number} {r : Line} → k < lineKinds → x ≡ numberAs k (valueOf (take (keyAt k .count - 0) (keyAt k .letters)) bs)
     → r ≡ lineWith k (keyAt k .most) x → r ≡ lineAt k bs
 unfolding lineAt
 line-said k bs h f g =
@@ -73,6 +74,6 @@ answering k v most h e w =
     record {
       kind = omega arith;
       value = omega (arith, p .3);
-      code = λ q. let z : getD mosts k 0 ≡ 12 = ap (λ (j : ℕ). getD mosts j 0) q in omega arith;
+      code = λ q. let z : getD mosts k 0 ≡ refusals - 1 = ap (λ (j : ℕ). getD mosts j 0) q in omega arith;
       turn = λ q. let z : getD mosts k 0 ≡ 10 = ap (λ (j : ℕ). getD mosts j 0) q in omega arith;
     }

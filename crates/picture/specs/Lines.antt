@@ -1,14 +1,18 @@
--- Which answer line a line is. Document 01, "The answer block": its keys, and the numbers that the box writes behind them.
+-- Which answer line a line is. Document 01, "The answer block": its keys, and the numbers that the box writes behind them; and request No. 7's key `jackpot`.
 use Prim.Native.Nat.{ℕ, zero, suc, _+_, _-_, _≤_, _<_}
 use mathlib.Core.Path.{_≡_}
 use mathlib.Core.List.{List, [], _∷_}
+use mathlib.Core.Bool.{Bool}
 use lib.ListN.{length, getD}
-use lib.Dec.{leb, ltb}
-use Rattle.laws.specs.Tests.{pick}
-use Rattle.text.specs.Line.{lineNumber}
+use lib.Dec.{eqb, leb, ltb}
+use Rattle.laws.specs.Tests.{pick, both}
+use Rattle.text.specs.Number.{numberOf}
+use Rattle.text.specs.Line.{valueOf, numberLine}
+use Rattle.writing.specs.Nine.{nineLine}
 use Rattle.text.specs.declared.Number.{Number}
 use Rattle.text.specs.declared.Number.the-variants.{Value, Bad}
 use Rattle.figures.specs.Words.{bytes, refusals}
+use Rattle.figures.specs.Row.{kindJackpot}
 use Rattle.picture.specs.declared.Line.{Line}
 
 abbrev pub keys : List (List ℕ)
@@ -23,13 +27,14 @@ keys =
     ∷ bytes "sitting"
     ∷ bytes "paid"
     ∷ bytes "unclaimed"
+    ∷ bytes "jackpot"
     ∷ []
 
 -- how many kinds of line there are
 abbrev pub lineKinds : ℕ
 lineKinds = length keys
 
--- the greatest number behind each: document 01 has the codes of its table and the seats 1 to 10; any other number has at most nine digits
+-- the greatest number behind each: there are the codes of the table and the seats 1 to 10; any other number has at most nine digits
 abbrev pub mosts : List ℕ
 mosts =
     999_999_999
@@ -42,7 +47,34 @@ mosts =
     ∷ 999_999_999
     ∷ 999_999_999
     ∷ 999_999_999
+    ∷ 999_999_999
     ∷ []
+
+-- ---- the number behind a key
+
+-- bytes without the zeros in front of them; the last byte is none of these
+abbrev pub afterZeros : List ℕ → List ℕ
+afterZeros [] = []
+afterZeros (b ∷ []) = b ∷ []
+afterZeros (b ∷ c ∷ bs) = pick (eqb b 48) (afterZeros (c ∷ bs)) (b ∷ c ∷ bs)
+
+-- a zero in front at the place i
+unfoldable pub zeroLeads : List ℕ → ℕ → Bool
+zeroLeads bs i = both (ltb (i + 1) (length bs)) (eqb (getD bs i 0) 48)
+
+-- request No. 7: "always nine digits, zeros in front"
+unfoldable pub nineOf : List ℕ → Number
+nineOf bs = pick (eqb (length bs) 9) (numberOf (afterZeros bs)) Bad
+
+-- what stands behind the key of the k-th kind as a number
+unfoldable pub numberAs : ℕ → List ℕ → Number
+numberAs k bs = pick (eqb k kindJackpot) (nineOf bs) (numberOf bs)
+
+-- the line of the k-th kind with the number v, as the box writes it
+unfoldable pub lineWritten : ℕ → ℕ → List ℕ
+lineWritten k v = pick (eqb k kindJackpot) (nineLine (getD keys k []) v) (numberLine (getD keys k []) v)
+
+-- ---- what a line says
 
 -- no answer line
 abbrev pub noLine : Line
@@ -55,7 +87,7 @@ lineWith k most Bad = noLine
 
 -- a line (with its LF) as a line of the k-th kind
 unfoldable pub lineAt : ℕ → List ℕ → Line
-lineAt k bs = lineWith k (getD mosts k 0) (lineNumber (getD keys k []) bs)
+lineAt k bs = lineWith k (getD mosts k 0) (numberAs k (valueOf (getD keys k []) bs))
 
 -- the first kind from k on that the line is, of m kinds
 abbrev pub lineFrom : ℕ → ℕ → List ℕ → Line

@@ -2,11 +2,14 @@
 use crate::Line;
 use figures::row::KINDS;
 use text::Number;
-use text::read_key_number;
+use text::decimal::number_in;
+use text::line::line_end;
+use text::line::value_of;
 ghost use mathlib.Core.Path.{_≡_};
-ghost use Prim.Native.Nat.{_<_};
-ghost use lib.ListN.{getD};
-ghost use Rattle.picture.specs.Lines.{Answering, lineKinds, mosts, lineWith, lineAt, answerLine};
+ghost use Prim.Native.Nat.{_≤_, _<_};
+ghost use lib.ListN.{length, getD};
+ghost use Rattle.text.specs.Line.{valueOf};
+ghost use Rattle.picture.specs.Lines.{Answering, lineKinds, mosts, zeroLeads, afterZeros, nineOf, numberAs, lineWith, lineAt, answerLine};
 
 // The letters of a key and how many they are, and the greatest number that the box writes there.
 struct Key {
@@ -24,7 +27,7 @@ const KEYS: [Key; KINDS] = [
     Key {
         letters: *b"code     ",
         count: 4,
-        most: 12,
+        most: 17,
     },
     Key {
         letters: *b"turn     ",
@@ -66,7 +69,64 @@ const KEYS: [Key; KINDS] = [
         count: 9,
         most: 999999999,
     },
+    Key {
+        letters: *b"jackpot  ",
+        count: 7,
+        most: 999999999,
+    },
 ];
+
+// The key whose number has nine digits, with zeros in front.
+const JACKPOT: usize = 10;
+
+// Whether a zero stands in front at i: not as the last byte.
+fn zero_at(part: &[u8], i: usize) -> bool
+    requires { ⌜ i ≤ length (now part) ⌝ }
+    ensures { λ r. ⌜ r ≡ zeroLeads (now (part .entry)) i ⌝ }
+{
+    if i + 1 < part.len() {
+        return part[i] == 48;
+    }
+    false
+}
+
+// The bytes behind the zeros in front.
+fn after_zeros(part: &[u8]) -> &[u8]
+    ensures { λ r. ⌜ now r ≡ afterZeros (now (part .entry)) ⌝ }
+{
+    let mut i: usize = 0;
+    while zero_at(part, i) {
+        i += 1;
+    }
+    &part[i..]
+}
+
+// The number that nine digits are.
+fn nine_in(part: &[u8]) -> Number
+    ensures { λ r. ⌜ r ≡ nineOf (now (part .entry)) ⌝ }
+{
+    if part.len() == 9 {
+        return number_in(after_zeros(part));
+    }
+    Number::Bad
+}
+
+// What stands behind the k-th key as a number.
+fn number_as(k: usize, part: &[u8]) -> Number
+    ensures { λ r. ⌜ r ≡ numberAs k (now (part .entry)) ⌝ }
+{
+    if k == JACKPOT {
+        return nine_in(part);
+    }
+    number_in(part)
+}
+
+// The number of a line that has this key, the k-th.
+fn number_behind(line: &[u8], key: &[u8], k: usize) -> Number
+    ensures { λ r. ⌜ r ≡ numberAs k (valueOf (now (key .entry)) (now (line .entry))) ⌝ }
+{
+    number_as(k, value_of(line, key, line_end(line)))
+}
 
 // A number that stands behind the k-th key makes an answer line where it is not too great.
 fn line_with(k: usize, most: u32, x: Number) -> Line
@@ -96,7 +156,7 @@ fn line_at(line: &[u8], k: usize) -> Line
     let row = KEYS[k];
     let letters = row.letters;
     let count = row.count;
-    let x = read_key_number(line, &letters[0..count]);
+    let x = number_behind(line, &letters[0..count], k);
     line_with(k, row.most, x)
 }
 

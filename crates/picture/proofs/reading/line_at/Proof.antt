@@ -10,23 +10,23 @@ mul-row c = search needs
 array-copy-out-row : tie.Need-array-copy-out-row
 array-copy-out-row c = search needs
 
-sub-read-key-number : tie.Need-sub-read-key-number
-sub-read-key-number c = search needs
+sub-number-behind : tie.Need-sub-number-behind
+sub-number-behind c = search needs
 
-part-read-key-number-start : tie.Need-part-read-key-number-start
-part-read-key-number-start c = search needs
+part-number-behind-start : tie.Need-part-number-behind-start
+part-number-behind-start c = search needs
 
-part-read-key-number-end : tie.Need-part-read-key-number-end
-part-read-key-number-end c = key-row ((c .before .before .before .before) .args .k) ((c .before .before .before .before) .pre) .0
+part-number-behind-end : tie.Need-part-number-behind-end
+part-number-behind-end c = key-row ((c .before .before .before .before) .args .k) ((c .before .before .before .before) .pre) .0
 
-read-key-number-requires : tie.Need-read-key-number-requires
-read-key-number-requires c κs = search needs
+number-behind-requires : tie.Need-number-behind-requires
+number-behind-requires c κs = search needs
 
 line-with-requires : tie.Need-line-with-requires
 line-with-requires c κs = ((c .before .before .before .before .before .before) .pre, key-row ((c .before .before .before .before .before .before) .args .k) ((c .before .before .before .before .before .before) .pre) .2)
 
 returns : tie.Need-returns
-returns c = (line-said ((c .before .before .before .before .before .before .before) .args .k) ((c .before .before .before .before .before .before .before) .args .line .now) ((c .before .before .before .before .before .before .before) .pre) (c .before .read-key-number .ensures) (c .line-with .ensures .0), c .line-with .ensures .1)
+returns c = (line-said ((c .before .before .before .before .before .before .before) .args .k) ((c .before .before .before .before .before .before .before) .args .line .now) ((c .before .before .before .before .before .before .before) .pre) (c .before .number-behind .ensures) (c .line-with .ensures .0), c .line-with .ensures .1)
 
 pub line-at-spec : {M : Type 1} → statement M
 line-at-spec =
@@ -34,9 +34,9 @@ line-at-spec =
     (tie.spec
     mul-row
     array-copy-out-row
-    sub-read-key-number
-    part-read-key-number-start
-    part-read-key-number-end
-    read-key-number-requires
+    sub-number-behind
+    part-number-behind-start
+    part-number-behind-end
+    number-behind-requires
     line-with-requires
     returns)

@@ -1,0 +1,2 @@
+-- Where things stand in the picture of a hand's chips.
+pub mod Spots
