@@ -17,6 +17,7 @@ use output::flush;
 use paper::Sheet;
 use records::entry_in;
 use text::sheet::ROOM;
+ghost use mathlib.Core.Path.{_≡_};
 ghost use Prim.Native.Nat.{_≤_, _<_};
 ghost use lib.ListN.{length};
 ghost use Rattle.lines.specs.Kept.{keptMost};
@@ -24,7 +25,21 @@ ghost use Rattle.ledger.specs.Keeping.{Held};
 ghost use Rattle.book.specs.Ready.{Ready};
 
 // What is said is written out where more than so many bytes of it lie in its buffer: any answer and any entry has room behind them.
-const ENOUGH: usize = 64000;
+const ENOUGH: usize = 15000;
+
+// A buffer for what is read at once, and for what is said.
+fn buffer() -> [u8; 16384]
+    ensures { λ r. ⌜ 16384 ≡ length r ⌝ }
+{
+    [0; 16384]
+}
+
+// The lent buffer of the stored log: 4,096 records of 8 bytes.
+fn log_buffer() -> [u8; 32768]
+    ensures { λ r. ⌜ 32768 ≡ length r ⌝ }
+{
+    [0; 32768]
+}
 
 // Where what is said goes: answers to standard output, lines about refused blocks to standard error.
 fn voice(as_log: bool) -> i32 {
@@ -50,7 +65,7 @@ fn take_part(
     requires { ⌜ Ready k × (keptMost ≤ length (now buf)) ⌝ }
     ensures { λ r. ⌜ Ready (r .keeper) ⌝ }
 {
-    let mut out = io::large_buffer();
+    let mut out = buffer();
     let mut keeper = k;
     let mut ok = true;
     let mut from: usize = 0;
@@ -85,7 +100,7 @@ fn read_some(as_log: bool, k: Keeper, buf: &mut [u8], log: &mut [u8], index: &mu
     requires { ⌜ Ready k × (keptMost ≤ length (now buf)) ⌝ }
     ensures { λ r. ⌜ Ready (r .keeper) ⌝ }
 {
-    let mut input = io::large_buffer();
+    let mut input = buffer();
     let got = libc::read(STDIN_FILENO, &mut input);
     if got <= 0 {
         return Turn {
@@ -165,7 +180,7 @@ fn put_behind(s: Sheet, log: &[u8], k: u32, out: &mut [u8], at: usize) -> usize
 fn write_log(s: Sheet, count: u32, log: &[u8])
     requires { ⌜ count ≤ 1000000 ⌝ }
 {
-    let mut out = io::large_buffer();
+    let mut out = buffer();
     let c = copy_sheet(s, &mut out);
     let mut at = c.written;
     let mut k: u32 = 0;
@@ -201,11 +216,11 @@ fn asked_for_log() -> bool {
     check::same(&word[..n], b"--log")
 }
 
-// The two lent buffers of the stored log: room for 4,096 records of 8 bytes, and for 1,365 rows of 44, which is as many hands as so many entries can open.
+// The two lent buffers of the stored log: room for 4,096 records, and for 1,365 rows of 44 bytes, which is as many hands as so many entries can open.
 fn main() {
     let as_log = asked_for_log();
     let mut buf = [0u8; ROOM];
-    let mut log = io::large_buffer();
+    let mut log = log_buffer();
     let mut index = io::large_buffer();
     let t = read_all(as_log, &mut buf, &mut log, &mut index);
     if !t.failed {

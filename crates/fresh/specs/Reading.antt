@@ -4,7 +4,7 @@
 use Prim.Native.Nat.{ℕ, zero, suc, _+_}
 use mathlib.Core.Bool.{Bool, true}
 use mathlib.Core.List.{List, map}
-use lib.Dec.{eqb}
+use lib.Dec.{eqb, ltb}
 use Rattle.laws.specs.Tests.{pick, both, one}
 use Rattle.paper.specs.RefusalNumbers.{taken}
 use Rattle.paper.specs.SheetAndEntries.{numbersOf}
@@ -12,8 +12,10 @@ use Rattle.paper.specs.declared.Sheet.{Sheet}
 use Rattle.paper.specs.declared.Entry.{Entry}
 use Rattle.chairs.specs.declared.Chair.{Chair}
 use Rattle.table.specs.Take.{codeOf, nextOf, freshTable}
-use Rattle.records.specs.Stored.{putRow}
+use Rattle.records.specs.Stored.{recordAt, entryBy, putRow}
+use Rattle.records.specs.declared.Record.{Record}
 use Rattle.fresh.specs.declared.Played.{Played}
+use Rattle.fresh.specs.declared.Rereading.{Rereading}
 use Rattle.fresh.specs.declared.Rowed.{Rowed}
 
 -- ---- the table after the entries, and whether each of them was taken
@@ -35,6 +37,30 @@ playedTo sheet f k = playedFrom (begunOf sheet) f k
 -- e in the place of the entry at `at`
 abbrev pub replacing : ℕ → Entry → (ℕ → Entry) → ℕ → Entry
 replacing at e f k = pick (eqb k at) e (f k)
+
+-- ---- the same as the log's reader comes to the records, each behind the one before
+
+abbrev pub entryOr : ℕ → ℕ → Entry → Record → Entry
+entryOr k at e got = pick (eqb k at) e (entryBy got)
+
+unfoldable pub readOne : Rereading → Record → Rereading
+readOne p got = record {
+  played = playedOf (p .played) (p .k + 1) (entryOr (p .k) (p .at) (p .e) got);
+  at = p .at;
+  e = p .e;
+  k = p .k + 1;
+  count = p .count;
+  more = ltb (p .k + 1) (p .count);
+}
+
+-- where the reader stands after k records
+abbrev pub placeTo : List ℕ → ℕ → ℕ
+placeTo log zero = 0
+placeTo log (suc k) = recordAt log (placeTo log k) .next
+
+abbrev pub readTo : Rereading → List ℕ → ℕ → Rereading
+readTo p log zero = p
+readTo p log (suc k) = readOne (readTo p log k) (recordAt log (placeTo log k))
 
 -- ---- the rows
 

@@ -4,6 +4,9 @@ use paper::Entry;
 use paper::Sheet;
 use paper::TAKEN;
 use paper::numbers_of;
+use records::Reader;
+use records::Record;
+use records::entry_by;
 use records::entry_in;
 use records::put_row;
 use table::table::Table;
@@ -12,10 +15,11 @@ ghost use mathlib.Core.Path.{_≡_};
 ghost use mathlib.Core.Bool.{true};
 ghost use mathlib.Core.List.{map};
 ghost use Prim.Native.Nat.{_+_, _≤_, _<_};
+ghost use lib.Dec.{ltb};
 ghost use Rattle.paper.specs.Paper.{isSheet};
 ghost use Rattle.table.specs.Take.{Sound};
 ghost use Rattle.records.specs.Stored.{entryIn};
-ghost use Rattle.fresh.specs.Reading.{begunOf, playedOf, replacing, playedTo, stackOf, isHand, rowedOf, indexAfter, rowedBy, indexBy, indexTo};
+ghost use Rattle.fresh.specs.Reading.{begunOf, playedOf, replacing, playedTo, entryOr, readOne, readTo, stackOf, isHand, rowedOf, indexAfter, rowedBy, indexBy, indexTo};
 
 // The table after some entries, and whether each of them was taken.
 pub struct Played {
@@ -46,14 +50,59 @@ fn play_on(p: Played, n: u32, e: Entry) -> Played
     }
 }
 
-// The k-th stored entry, counted from 0, or e in its place.
-fn entry_or(log: &[u8], k: u32, at: u32, e: Entry) -> Entry
-    ensures { λ r. ⌜ r ≡ replacing at e (entryIn (now (log .entry))) k ⌝ }
+// A reading of a stored log with one entry replaced: what was played so far, the place of the replaced entry and what stands there now, how many entries are
+// read and how many shall be, and whether more shall be.
+struct Rereading {
+    played: Played,
+    at: u32,
+    e: Entry,
+    k: u32,
+    count: u32,
+    more: bool,
+}
+
+// The entry of a record, or e where it is the replaced one.
+fn entry_or(k: u32, at: u32, e: Entry, got: Record) -> Entry
+    ensures { λ r. ⌜ r ≡ entryOr k at e got ⌝ }
 {
     if k == at {
         return e;
     }
-    entry_in(log, k)
+    entry_by(got)
+}
+
+// One record more.
+fn read_one(p: Rereading, got: Record) -> Rereading
+    requires { ⌜ Sound (p .played .table) × (p .k < p .count) ⌝ }
+    ensures { λ r. ⌜ (r ≡ readOne p got) × Sound (r .played .table) ⌝ }
+{
+    let q = p.played;
+    let e = p.e;
+    let x = entry_or(p.k, p.at, e, got);
+    let k = p.k + 1;
+    let played = play_on(q, k, x);
+    Rereading {
+        played,
+        at: p.at,
+        e,
+        k,
+        count: p.count,
+        more: k < p.count,
+    }
+}
+
+// The records of a stored log, one after another as its reader comes to them.
+fn read_on(log: &[u8], start: Rereading) -> Rereading
+    requires { ⌜ Sound (start .played .table) × (start .k ≡ 0) × (start .more ≡ ltb 0 (start .count)) ⌝ }
+    ensures { λ r. ⌜ (r ≡ readTo start (now (log .entry)) (start .count)) × Sound (r .played .table) ⌝ }
+{
+    let mut g = Reader::new(log).next();
+    let mut p = start;
+    while p.more {
+        p = read_one(p, g.got);
+        g = g.rest.next();
+    }
+    p
 }
 
 // The first `count` entries of a stored log, with e in the place of the entry at `at`, taken one after another at a new table.
@@ -61,14 +110,19 @@ pub fn replay(sheet: Sheet, log: &[u8], count: u32, at: u32, e: Entry) -> Played
     requires { ⌜ isSheet sheet ≡ true ⌝ }
     ensures { λ r. ⌜ (r ≡ playedTo sheet (replacing at e (entryIn (now (log .entry)))) count) × Sound (r .table) ⌝ }
 {
-    let mut p = begun(sheet);
-    let mut k: u32 = 0;
-    while k < count {
-        let x = entry_or(log, k, at, e);
-        k += 1;
-        p = play_on(p, k, x);
-    }
-    p
+    let p = begun(sheet);
+    let r = read_on(
+        log,
+        Rereading {
+            played: p,
+            at,
+            e,
+            k: 0,
+            count,
+            more: 0 < count,
+        },
+    );
+    r.played
 }
 
 // ---- the index
@@ -122,10 +176,10 @@ fn row_one(p: Rowed, log: &[u8], k: u32, index: &mut [u8]) -> Rowed
 {
     let e = entry_in(log, k);
     let t = p.table;
-    let cs = t.chairs;
-    let hands = put_row_if(index, p.hands, k + 1, is_hand(e), cs);
     let done = t.take(k + 1, e);
     let u = done.table;
+    let cs = t.chairs;
+    let hands = put_row_if(index, p.hands, k + 1, is_hand(e), cs);
     Rowed { table: u, hands }
 }
 

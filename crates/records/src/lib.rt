@@ -121,7 +121,7 @@ pub fn record_in(log: &[u8], k: u32) -> Record
 }
 
 // The entry that a record has.
-fn entry_by(r: Record) -> Entry
+pub fn entry_by(r: Record) -> Entry
     ensures { λ e. ⌜ e ≡ entryBy r ⌝ }
 {
     let k = r.kind as usize;

@@ -11,22 +11,22 @@ use Rattle.book.proofs.take_part.Reads as reads
 use Rattle.book.proofs.take_part.Lts as lts
 use Rattle.book.proofs.keeper.take_one.Reads as take-one-reads
 use Rattle.book.proofs.voice.Reads as voice-reads
-use Rattle.io.proofs.large_buffer.Reads as large-buffer-reads
+use Rattle.book.proofs.buffer.Reads as buffer-reads
 use Rattle.io.proofs.write_all.Reads as write-all-reads
 use Rattle.laws.proofs.both.Reads as both-reads
 use Rattle.output.proofs.flush.Reads as flush-reads
 
 abbrev Inv-loop : tie.InvT-loop
 Inv-loop as-log buf₀ log₀ index₀ part out₀ keeper₀ ok₀ from₀ at₀ buf log index out keeper ok from at =
-    (length buf ≡ length buf₀) × (length log ≡ length log₀) × (length index ≡ length index₀) × (length out ≡ 65536) × Ready keeper × (from ≤ length part) × (at ≤ 65536)
+    (length buf ≡ length buf₀) × (length log ≡ length log₀) × (length index ≡ length index₀) × (length out ≡ 16384) × Ready keeper × (from ≤ length part) × (at ≤ 16384)
 
 abbrev μ-loop : tie.MeasureT-loop
 μ-loop as-log buf₀ log₀ index₀ part out₀ keeper₀ ok₀ from₀ at₀ buf log index out keeper ok from at =
     length part - from
 
 -- src/main.rt:53:19
-large-buffer-requires : tie.Need-large-buffer-requires Inv-loop μ-loop
-large-buffer-requires c κs = search needs
+buffer-requires : tie.Need-buffer-requires Inv-loop μ-loop
+buffer-requires c κs = search needs
 
 -- src/main.rt:58:5
 loop-holds : tie.Need-loop-holds Inv-loop μ-loop
@@ -134,7 +134,7 @@ take-part-spec =
     (tie.spec
     Inv-loop
     μ-loop
-    large-buffer-requires
+    buffer-requires
     loop-holds
     voice-requires
     sub-flush

@@ -8,13 +8,13 @@ use Rattle.book.proofs.write_log.Statement.{statement}
 use Rattle.book.proofs.write_log.Tie as tie
 
 abbrev Inv-loop : tie.InvT-loop
-Inv-loop s count log out₀ at₀ k₀ out at k = (length out ≡ 65536) × (at ≤ 65536) × (k ≤ count)
+Inv-loop s count log out₀ at₀ k₀ out at k = (length out ≡ 16384) × (at ≤ 16384) × (k ≤ count)
 
 abbrev μ-loop : tie.MeasureT-loop
 μ-loop s count log out₀ at₀ k₀ out at k = count - k
 
-large-buffer-requires : tie.Need-large-buffer-requires Inv-loop μ-loop
-large-buffer-requires c κs = search needs
+buffer-requires : tie.Need-buffer-requires Inv-loop μ-loop
+buffer-requires c κs = search needs
 
 slice-aggregate-copy-sheet : tie.Need-slice-aggregate-copy-sheet Inv-loop μ-loop
 slice-aggregate-copy-sheet c = search needs
@@ -73,7 +73,7 @@ write-log-spec =
     (tie.spec
     Inv-loop
     μ-loop
-    large-buffer-requires
+    buffer-requires
     slice-aggregate-copy-sheet
     copy-sheet-requires
     loop-holds

@@ -1,24 +1,25 @@
 -- `entry_or` meets its contract.
 use Rattle.fresh.proofs.Steps.{here-it-is, another}
-use Rattle.records.specs.Stored.{entryIn}
+use Rattle.records.specs.Stored.{entryBy}
+use Prim.Native.Nat.{ℕ}
 use borrow.Author.Needs.{needs}
 use Rattle.fresh.proofs.entry_or.Statement.{statement}
 use Rattle.fresh.proofs.entry_or.Tie as tie
 use Rattle.fresh.proofs.entry_or.Reads as reads
 use Rattle.fresh.proofs.entry_or.Lts as lts
-use Rattle.records.proofs.entry_in.Reads as entry-in-reads
+use Rattle.records.proofs.entry_by.Reads as entry-by-reads
 
--- src/lib.rt:54:9
+-- src/lib.rt:69:9
 returns : tie.Need-returns
-returns c = here-it-is ((c .before .before) .args .k) ((c .before .before) .args .at) ((c .before .before) .args .e) (entryIn ((c .before .before) .args .log .now)) (c .if1 .taken)
+returns c = here-it-is ((c .before) .args .k) ((c .before) .args .at) ((c .before) .args .e) (λ (_ : ℕ). entryBy ((c .before) .args .got)) (c .if1 .taken)
 
--- src/lib.rt:56:5
-entry-in-requires : tie.Need-entry-in-requires
-entry-in-requires c κs = search needs
+-- src/lib.rt:71:5
+entry-by-requires : tie.Need-entry-by-requires
+entry-by-requires c κs = search needs
 
--- src/lib.rt:50:1
+-- src/lib.rt:65:1
 returns-2 : tie.Need-returns-2
-returns-2 c = another ((c .before .before .before) .args .k) ((c .before .before .before) .args .at) ((c .before .before .before) .args .e) (entryIn ((c .before .before .before) .args .log .now)) (c .before .if1 .left) (c .entry-in .ensures)
+returns-2 c = another ((c .before .before) .args .k) ((c .before .before) .args .at) ((c .before .before) .args .e) (λ (_ : ℕ). entryBy ((c .before .before) .args .got)) (c .before .if1 .left) (c .entry-by .ensures)
 
 pub entry-or-spec : {M : Type 1} → statement M
-entry-or-spec = tie.close (tie.spec returns entry-in-requires returns-2)
+entry-or-spec = tie.close (tie.spec returns entry-by-requires returns-2)

@@ -15,6 +15,14 @@ use Rattle.table.proofs.table.Table.take.Reads as take-reads
 entry-in-requires : tie.Need-entry-in-requires
 entry-in-requires c κs = search needs
 
+-- src/lib.rt:127:23
+add-take : tie.Need-add-take
+add-take c = search needs
+
+-- src/lib.rt:127:9
+take-requires : tie.Need-take-requires
+take-requires c κs = search needs
+
 -- src/lib.rt:126:44
 add-put-row-if : tie.Need-add-put-row-if
 add-put-row-if c = search needs
@@ -27,31 +35,23 @@ is-hand-requires c κs = search needs
 put-row-if-requires : tie.Need-put-row-if-requires
 put-row-if-requires c κs = search needs
 
--- src/lib.rt:127:23
-add-take : tie.Need-add-take
-add-take c = search needs
-
--- src/lib.rt:127:9
-take-requires : tie.Need-take-requires
-take-requires c κs = search needs
-
 -- src/lib.rt:118:1
 same-length : tie.Need-same-length
 same-length c = search needs
 
 -- src/lib.rt:118:1
 returns : tie.Need-returns
-returns c = let p = (c .before .before .before .before .before .before .before .before .before .before .before .before) .args .p in let k = (c .before .before .before .before .before .before .before .before .before .before .before .before) .args .k in let r = row-is p k (entryIn ((c .before .before .before .before .before .before .before .before .before .before .before .before) .args .log .now) k) ((c .before .before .before .before .before .before .before .before .before .before .before .before) .args .index .now) (c .before .before .before .before .before .before .before .before .before .entry-in .ensures) (c .before .before .before .before .before .is-hand .ensures) (c .before .before .before .before .put-row-if .ensures .0) (c .before .before .before .before .put-row-if .ensures .1) (c .before .take .ensures .0) in ((r .0, c .before .take .ensures .1), r .1)
+returns c = let p = (c .before .before .before .before .before .before .before .before .before .before .before .before) .args .p in let k = (c .before .before .before .before .before .before .before .before .before .before .before .before) .args .k in let r = row-is p k (entryIn ((c .before .before .before .before .before .before .before .before .before .before .before .before) .args .log .now) k) ((c .before .before .before .before .before .before .before .before .before .before .before .before) .args .index .now) (c .before .before .before .before .before .before .before .before .before .entry-in .ensures) (c .before .before .before .is-hand .ensures) (c .before .before .put-row-if .ensures .0) (c .before .before .put-row-if .ensures .1) (c .before .before .before .before .before .before .before .take .ensures .0) in ((r .0, c .before .before .before .before .before .before .before .take .ensures .1), r .1)
 
 pub row-one-spec : {M : Type 1} → statement M
 row-one-spec =
     tie.close
     (tie.spec
     entry-in-requires
+    add-take
+    take-requires
     add-put-row-if
     is-hand-requires
     put-row-if-requires
-    add-take
-    take-requires
     same-length
     returns)
