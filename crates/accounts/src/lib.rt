@@ -1,8 +1,8 @@
 // The evening's sums: how many hands and blocks, the refusals by code, fees, drops and what nobody claimed; and for each seat what its sitting has brought, put in and been
 // paid, which is written when it leaves. An evening has at most 1,000,000 entries and a hand at most 100,000,000 chips, so no sum comes near its bound.
 ghost use mathlib.Core.Path.{_≡_};
-ghost use Prim.Native.Nat.{_≤_};
-ghost use Rattle.accounts.specs.Sums.{addedTo, brings, putting, pays, without, nobody, totalled, charged};
+ghost use Prim.Native.Nat.{min};
+ghost use Rattle.accounts.specs.Sums.{addedTo, brings, putting, pays, without, nobody, totalled, uncharged, charged, counted};
 
 // What a sitting has brought, put into pots, and been paid.
 pub struct Account {
@@ -109,6 +109,17 @@ pub fn with_account(s: Sums, a: Account, home: u32) -> Sums
     }
 }
 
+pub fn no_charges() -> Charges
+    ensures { λ r. ⌜ r ≡ uncharged ⌝ }
+{
+    Charges {
+        hands: 0,
+        fees: 0,
+        drops: 0,
+        unclaimed: 0,
+    }
+}
+
 // One settled hand more.
 pub fn with_charges(c: Charges, fee: u32, drop: u32, unclaimed: u32) -> Charges
     ensures { λ r. ⌜ r ≡ charged c fee drop unclaimed ⌝ }
@@ -122,7 +133,9 @@ pub fn with_charges(c: Charges, fee: u32, drop: u32, unclaimed: u32) -> Charges
 }
 
 // One block more with a code; a code that is none counts as the last.
-pub fn with_code(codes: [u64; 13], code: u8) -> [u64; 13] {
+pub fn with_code(codes: [u64; 13], code: u8) -> [u64; 13]
+    ensures { λ r. ⌜ r ≡ counted codes code ⌝ }
+{
     let mut next = codes;
     let k = place_of(code);
     let n = added(codes[k], 1);
@@ -131,7 +144,7 @@ pub fn with_code(codes: [u64; 13], code: u8) -> [u64; 13] {
 }
 
 fn place_of(code: u8) -> usize
-    ensures { λ r. ⌜ r ≤ 12 ⌝ }
+    ensures { λ r. ⌜ r ≡ min code 12 ⌝ }
 {
     if code < 12 { code as usize } else { 12 }
 }
