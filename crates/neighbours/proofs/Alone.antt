@@ -19,7 +19,7 @@ use Rattle.text.specs.Line.{lineNumber, numberLine}
 use Rattle.text.specs.TableSheet.{sheetOf}
 use Rattle.text.specs.declared.Number.{Number}
 use Rattle.text.specs.declared.Number.the-variants.{Value, Bad}
-use Rattle.text.specs.declared.sheet.Opening.{Opening}
+use Rattle.text.specs.declared.sheet.SheetRead.{SheetRead}
 use Rattle.table.specs.declared.table.Table.{Table}
 use Rattle.pool.specs.Jackpot.{openedWith}
 use Rattle.shared.specs.Shared.{bytesAt}
@@ -34,7 +34,7 @@ use Rattle.neighbours.proofs.Blanks.{lineAfter, blanked-append, blanked
 use Rattle.neighbours.proofs.Answers.{answer-ended}
 use Rattle.neighbours.proofs.Order.{ofTable, isDue, behind, inOrder, pieces-ordered}
 use Rattle.neighbours.proofs.Tables.{still-open, open-in, poolBy, tableRuns, blankRuns, table-run, answers-run}
-use Rattle.text.specs.declared.sheet.Opening.the-variants as opening
+use Rattle.text.specs.declared.sheet.SheetRead.the-variants as read-as
 
 -- ---- what is shown changes nothing of the pair
 
@@ -95,9 +95,9 @@ pool-silent p (Value v) = go (eqb (openedWith v .code) taken)
     go false h = absurd (true≢false h)
 pool-silent p Bad = λ h. absurd (true≢false h)
 
-sheet-silent : (p : Pair) (due : ℕ) (x : Opening) → sheetDone p due x .pair .shut ≡ false → sheetDone p due x .bytes ≡ []
-sheet-silent p due (opening.Read s) h = refl
-sheet-silent p due opening.Bad h = absurd (true≢false h)
+sheet-silent : (p : Pair) (due : ℕ) (x : SheetRead) → sheetDone p due x .pair .shut ≡ false → sheetDone p due x .bytes ≡ []
+sheet-silent p due (read-as.Read s) h = refl
+sheet-silent p due read-as.Bad h = absurd (true≢false h)
 
 -- a block is one of table 1 or table 2
 whole-of : (due d : ℕ) (lines : List ℕ) → isDue due (Whole d lines) ≡ true → ltb d 3 ≡ false → ofTable d ≡ true

@@ -14,7 +14,7 @@ use Rattle.amends.specs.Righting.{isRight}
 use Rattle.pairs.specs.Pairs.{cutLines}
 use Rattle.writing.specs.Nine.{nineLine}
 use Rattle.answers.specs.Answer.{joined, keyBack, keyFee, keyJackpot, keyUnclaimed, potBytes, rowBytes, stateBytes, jackpotBytes, payoutBytes, tableBytes, answerBytes}
-use Rattle.answers.specs.declared.Payout.{Payout}
+use Rattle.answers.specs.declared.ShownPayout.{ShownPayout}
 use Rattle.answers.specs.declared.Shown.{Shown}
 use Rattle.table.specs.declared.table.Table.{Table}
 use Rattle.pool.specs.declared.Pool.{Pool}
@@ -65,7 +65,7 @@ table-ended s =
     let front : List ℕ = stateBytes (s .n) (s .code) (s .turn) (s .mark) ++ joined potBytes (take (s .pots .n) (s .pots .list)) in
     after-append [] front (numberLine keyBack (s .back)) ∙ after-line (lineAfter [] front) keyBack (s .back)
 
-payout-ended : (line : List ℕ) (p : Payout) → lineAfter line (payoutBytes p) ≡ []
+payout-ended : (line : List ℕ) (p : ShownPayout) → lineAfter line (payoutBytes p) ≡ []
 unfolding payoutBytes
 payout-ended line p =
     let front : List ℕ = numberLine keyFee (p .fee) ++ jackpotBytes (p .jackpot) ++ joined rowBytes (p .rows) in

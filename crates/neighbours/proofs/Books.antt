@@ -17,7 +17,7 @@ use Rattle.text.specs.Line.{lineNumber}
 use Rattle.text.specs.TableSheet.{sheetOf, valueIn}
 use Rattle.text.specs.declared.Number.{Number}
 use Rattle.text.specs.declared.Number.the-variants.{Value, Bad}
-use Rattle.text.specs.declared.sheet.Opening.{Opening}
+use Rattle.text.specs.declared.sheet.SheetRead.{SheetRead}
 use Rattle.table.specs.declared.table.Table.{Table}
 use Rattle.royal.specs.Royal.{royalNow}
 use Rattle.pool.specs.Jackpot.{most, fitsIn, fedBy, settledPool, openedWith, noHand}
@@ -37,8 +37,8 @@ use Rattle.neighbours.specs.Keyed.{isShut}
 use Rattle.neighbours.specs.Hands.{poolSaid, openingIn, openingOf, poolOf, whichOf, playedBy, playedTo, handsIn, handsOf}
 use Rattle.neighbours.proofs.Order.{ofTable, isDue, behind, inOrder, pieces-ordered}
 use Rattle.neighbours.proofs.Tables.{still-open, open-in, poolBy}
-use Rattle.pool.specs.declared.Opening as poolOpening
-use Rattle.text.specs.declared.sheet.Opening.the-variants as opening
+use Rattle.pool.specs.declared.PoolOpened as poolOpening
+use Rattle.text.specs.declared.sheet.SheetRead.the-variants as read-as
 
 -- ---- hands one behind the other
 
@@ -82,9 +82,9 @@ feeds-answer p due lines =
     let s = one-hand (p .pool) (whichOf (isSecond due)) h (j .payout .settled) in
     (s .0, ap (fedBy (p .house)) (s .1))
 
-feeds-sheet : (p : Pair) (due : ℕ) (x : Opening) → Feeds p [] (sheetDone p due x)
-feeds-sheet p due (opening.Read s) = feeds-still p (sheetDone p due (opening.Read s)) refl refl
-feeds-sheet p due opening.Bad = feeds-still p (sheetDone p due opening.Bad) refl refl
+feeds-sheet : (p : Pair) (due : ℕ) (x : SheetRead) → Feeds p [] (sheetDone p due x)
+feeds-sheet p due (read-as.Read s) = feeds-still p (sheetDone p due (read-as.Read s)) refl refl
+feeds-sheet p due read-as.Bad = feeds-still p (sheetDone p due read-as.Bad) refl refl
 
 feeds-whole : (p : Pair) (due : ℕ) (lines : List ℕ) → eqb due 0 ≡ false → Feeds p (playedTo p (Whole due lines)) (wholeDone 0 p due lines)
 unfolding wholeDone
@@ -167,7 +167,7 @@ pool-opens p Bad h = absurd (true≢false h)
 opened-held : (v : ℕ) → openedWith v .code ≡ taken → openedWith v .pool .held ≡ v
 opened-held v e =
     ⊎-elim
-    (λ (a : v ≤ most). ap (λ (o : poolOpening.Opening). o .pool .held) (opening-good v a))
+    (λ (a : v ≤ most). ap (λ (o : poolOpening.SheetRead). o .pool .held) (opening-good v a))
     (λ (a : most < v). absurd (omega (arith, opening-bad v a, e)))
     (le-or-lt v most)
 
@@ -181,7 +181,7 @@ Books xs =
 books-none : Books []
 unfolding poolAfter houseParts
 books-none =
-    let e : openedWith 0 .pool ≡ record { held = 0 } = ap (λ (o : poolOpening.Opening). o .pool) (opening-good 0 (omega arith)) in
+    let e : openedWith 0 .pool ≡ record { held = 0 } = ap (λ (o : poolOpening.SheetRead). o .pool) (opening-good 0 (omega arith)) in
     (sym e, refl, ap (λ (q : Pool). q .held) e)
 
 books-on : (x : Piece) (xs : List Piece) (v : ℕ) → poolSaid x ≡ v → pick (startOf .shut) [] (playedTo startOf x) ≡ [] → inOrder 1 xs ≡ true → ran 0 startOf (x ∷ xs) .pair .shut ≡ false

@@ -16,7 +16,7 @@ use Rattle.paper.specs.declared.Sheet.{Sheet}
 use Rattle.paper.proofs.Sheets.{good-ranged}
 use Rattle.text.specs.Line.{numberLine}
 use Rattle.text.specs.TableSheet.{sheetOf}
-use Rattle.text.specs.declared.sheet.Opening.{Opening}
+use Rattle.text.specs.declared.sheet.SheetRead.{SheetRead}
 use Rattle.text.proofs.SheetLaws.{sheet-is}
 use Rattle.table.specs.declared.table.Table.{Table}
 use Rattle.table.specs.Take.{freshTable}
@@ -38,7 +38,7 @@ use Rattle.neighbours.proofs.Order.{ofTable, of-table-most, isDue, behi
 use Rattle.neighbours.proofs.Tables.{still-open, sheetTable, tableTo, leads-in}
 use Rattle.neighbours.proofs.Drops.{Few, few-less, few-same, few-sum, few-judged}
 use Rattle.neighbours.proofs.Books.{pool-over, house-least}
-use Rattle.text.specs.declared.sheet.Opening.the-variants as opening
+use Rattle.text.specs.declared.sheet.SheetRead.the-variants as read-as
 
 -- ---- a block
 
@@ -80,9 +80,9 @@ few-answer false false ts lines sum f = few-own (tableAt ts false) table1 lines 
 few-fresh : (s : Sheet) → s .drop ≤ 1000 → Few (freshTable s) 0
 few-fresh s m = record { drops = omega arith; taken = omega arith; most = m }
 
-few-sheet : (t : Table) (lines : List ℕ) (x : Opening) (sum : ℕ) → sheetOf lines ≡ x → sum ≡ 0 → Few t sum → Few (sheetTable t x) sum
-few-sheet t lines (opening.Read s) sum e z f = subst (Few (freshTable s)) (sym z) (few-fresh s (good-ranged s (sheet-is lines s e) .drop))
-few-sheet t lines opening.Bad sum e z f = f
+few-sheet : (t : Table) (lines : List ℕ) (x : SheetRead) (sum : ℕ) → sheetOf lines ≡ x → sum ≡ 0 → Few t sum → Few (sheetTable t x) sum
+few-sheet t lines (read-as.Read s) sum e z f = subst (Few (freshTable s)) (sym z) (few-fresh s (good-ranged s (sheet-is lines s e) .drop))
+few-sheet t lines read-as.Bad sum e z f = f
 
 -- a sheet is due in the opening, a block behind it
 early : (due d : ℕ) (lines : List ℕ) → isDue due (Whole d lines) ≡ true → ltb d 3 ≡ true → due < 3

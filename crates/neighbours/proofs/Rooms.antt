@@ -8,7 +8,7 @@ use mathlib.Core.List.{List, [], _∷_, _++_}
 use lib.ListN.{length, drop}
 use lib.Dec.{leb}
 use Rattle.laws.specs.Tests.{pick}
-use Rattle.writing.specs.Sheet.{sheetAfter, writtenOf}
+use Rattle.writing.specs.AnswerSheet.{sheetAfter, writtenOf}
 use Rattle.writing.specs.declared.Written.{Written}
 use Rattle.writing.specs.declared.Written.the-variants.{Bytes, NoRoom}
 use Rattle.table.specs.declared.table.Table.{Table}

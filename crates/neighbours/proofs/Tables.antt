@@ -14,7 +14,7 @@ use Rattle.text.specs.Line.{lineNumber}
 use Rattle.text.specs.TableSheet.{sheetOf}
 use Rattle.text.specs.declared.Number.{Number}
 use Rattle.text.specs.declared.Number.the-variants.{Value, Bad}
-use Rattle.text.specs.declared.sheet.Opening.{Opening}
+use Rattle.text.specs.declared.sheet.SheetRead.{SheetRead}
 use Rattle.table.specs.declared.table.Table.{Table}
 use Rattle.table.specs.Take.{freshTable}
 use Rattle.pool.specs.Jackpot.{openedWith}
@@ -30,7 +30,7 @@ use Rattle.pairs.proofs.Alone.{put-back}
 use Rattle.neighbours.specs.Blanked.{blanked}
 use Rattle.neighbours.specs.Keyed.{isOf, keyedIn, answerTo, answersIn}
 use Rattle.neighbours.proofs.Answers.{blanked-at}
-use Rattle.text.specs.declared.sheet.Opening.the-variants as opening
+use Rattle.text.specs.declared.sheet.SheetRead.the-variants as read-as
 
 -- ---- an opening that is not refused
 
@@ -52,9 +52,9 @@ poolBy p v b = pick b (still (record { shut = p .shut; tables = p .tables; pool 
 abbrev anyPool : Pool
 anyPool = record { held = 0 }
 
-abbrev pub sheetTable : Table → Opening → Table
-sheetTable t (opening.Read s) = freshTable s
-sheetTable t opening.Bad = t
+abbrev pub sheetTable : Table → SheetRead → Table
+sheetTable t (read-as.Read s) = freshTable s
+sheetTable t read-as.Bad = t
 
 abbrev pub tableTo : Table → Piece → Table
 tableTo t (Whole due lines) = pick (ltb due tableDue) (sheetTable t (sheetOf lines)) (judgedAt t lines .table)
@@ -120,9 +120,9 @@ module _ (p : Pair) (n : length (p .tables) ≡ 2) (second : Bool) where
       go false = (refl, n)
   leads-pool f Bad = (refl, n)
 
-  leads-sheet : (due : ℕ) (x : Opening) → Leads (sameTable second (isSecond due)) (λ t. sheetTable t x) (sheetDone p due x)
-  leads-sheet due (opening.Read s) = (at-own (λ t. freshTable s) (p .tables) second (isSecond due) n, length-set (p .tables) (pick (isSecond due) 1 0) (freshTable s) ∙ n)
-  leads-sheet due opening.Bad = (sym (leads-same (sameTable second (isSecond due))), n)
+  leads-sheet : (due : ℕ) (x : SheetRead) → Leads (sameTable second (isSecond due)) (λ t. sheetTable t x) (sheetDone p due x)
+  leads-sheet due (read-as.Read s) = (at-own (λ t. freshTable s) (p .tables) second (isSecond due) n, length-set (p .tables) (pick (isSecond due) 1 0) (freshTable s) ∙ n)
+  leads-sheet due read-as.Bad = (sym (leads-same (sameTable second (isSecond due))), n)
 
   leads-whole : (due : ℕ) (lines : List ℕ) → Leads (isOf second (Whole due lines)) (λ t. tableTo t (Whole due lines)) (wholeDone 0 p due lines)
   unfolding wholeDone

@@ -4,7 +4,7 @@ use Prim.Native.Nat.{ℕ}
 use mathlib.Core.Bool.{Bool}
 use mathlib.Core.List.{List, [], _∷_}
 use Rattle.laws.specs.Tests.{pick}
-use Rattle.writing.specs.Sheet.{sheetAfter, writtenOf}
+use Rattle.writing.specs.AnswerSheet.{sheetAfter, writtenOf}
 use Rattle.table.specs.declared.table.Table.{Table}
 use Rattle.pool.specs.declared.Pool.{Pool}
 use Rattle.shared.specs.declared.SharedAnswer.{SharedAnswer}

@@ -9,7 +9,7 @@ use lib.ListN.{length, getD, drop, length-append}
 use borrow.Rule.Slice.PartMut.{midOf, putMid}
 use Rattle.laws.specs.Tests.{one}
 use Rattle.laws.specs.Lists.{All}
-use Rattle.writing.specs.Sheet.{Wrote}
+use Rattle.writing.specs.AnswerSheet.{Wrote}
 use Rattle.chairs.specs.declared.Chair.{Chair}
 use Rattle.stream.specs.declared.Clerk.{Clerk}
 use Rattle.packed.specs.Layout.{isSet, cardsFour, cardsFive, chairWords, chairBytes, chairsBytes, chairIn, chairsIn, headWords, headBytes, fieldsSize, clerkBytes, clerkFrom}
@@ -91,21 +91,21 @@ clerkOf ws opened shut open-hand bad count cards chairs = record {
     board = record { count = count; cards = cards };
     chairs = chairs;
   };
-  mark = record { count = getD ws 15 0; lines = getD ws 16 0; width = getD ws 17 0; bad = bad };
+  fill = record { count = getD ws 15 0; lines = getD ws 16 0; width = getD ws 17 0; bad = bad };
 }
 
 pub clerk-back : (c : Clerk) (rest : List ℕ) → HeadFits c → All ChairFits (c .table .chairs) → length (c .table .chairs) ≡ 10 → clerkFrom (clerkBytes c ++ rest) ≡ c
 unfolding clerkFrom clerkBytes
 clerk-back c rest h hs n =
-    let ws : List ℕ = headWords (c .table) (c .mark) in
+    let ws : List ℕ = headWords (c .table) (c .fill) in
     let cs : List Chair = chairsIn 10 (chairsBytes (c .table .chairs) ++ rest) in
     let k : ℕ = c .table .board .count in
     let five : List ℕ = cardsFive (c .table .board .cards) in
     let same : cs ≡ c .table .chairs = ap (λ (m : ℕ). chairsIn m (chairsBytes (c .table .chairs) ++ rest)) (sym n) ∙ chairs-back (c .table .chairs) rest hs in
-    ap (λ (l : List ℕ). clerkOf l (isSet (one (c .opened))) (isSet (one (c .shut))) (isSet (one (c .table .play .opened))) (isSet (one (c .mark .bad))) k five cs) (words-back ws (h .words))
-    ∙ flags-back (λ a b d e. clerkOf ws a b d e k five cs) (c .opened) (c .shut) (c .table .play .opened) (c .mark .bad)
-    ∙ ap (λ (l : List ℕ). clerkOf ws (c .opened) (c .shut) (c .table .play .opened) (c .mark .bad) k l cs) (sym (h .cards))
-    ∙ ap (λ (l : List Chair). clerkOf ws (c .opened) (c .shut) (c .table .play .opened) (c .mark .bad) k (c .table .board .cards) l) same
+    ap (λ (l : List ℕ). clerkOf l (isSet (one (c .opened))) (isSet (one (c .shut))) (isSet (one (c .table .play .opened))) (isSet (one (c .fill .bad))) k five cs) (words-back ws (h .words))
+    ∙ flags-back (λ a b d e. clerkOf ws a b d e k five cs) (c .opened) (c .shut) (c .table .play .opened) (c .fill .bad)
+    ∙ ap (λ (l : List ℕ). clerkOf ws (c .opened) (c .shut) (c .table .play .opened) (c .fill .bad) k l cs) (sym (h .cards))
+    ∙ ap (λ (l : List Chair). clerkOf ws (c .opened) (c .shut) (c .table .play .opened) (c .fill .bad) k (c .table .board .cards) l) same
 
 clerk-length : (c : Clerk) → length (c .table .chairs) ≡ 10 → length (headBytes c ++ chairsBytes (c .table .chairs)) ≡ fieldsSize
 clerk-length c n =

@@ -14,5 +14,5 @@ pub record ChairFits (c : Chair) : Type 0 where
   pub cards : c .hole .cards ≡ cardsFour (c .hole .cards)
 
 pub record HeadFits (c : Clerk) : Type 0 where
-  pub words : All IsWord (headWords (c .table) (c .mark))
+  pub words : All IsWord (headWords (c .table) (c .fill))
   pub cards : c .table .board .cards ≡ cardsFive (c .table .board .cards)

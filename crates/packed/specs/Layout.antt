@@ -13,7 +13,7 @@ use Rattle.chairs.specs.declared.Chair.{Chair}
 use Rattle.table.specs.declared.table.Play.{Play}
 use Rattle.table.specs.declared.table.Board.{Board}
 use Rattle.table.specs.declared.table.Table.{Table}
-use Rattle.lines.specs.declared.Mark.{Mark}
+use Rattle.lines.specs.declared.Fill.{Fill}
 use Rattle.stream.specs.declared.Clerk.{Clerk}
 
 -- the bytes of each, one behind the other
@@ -72,16 +72,16 @@ chairsIn (suc n) b = chairIn b ∷ chairsIn n (drop 28 b)
 
 -- ---- what is no chair's: 82 bytes
 
-abbrev pub headWords : Table → Mark → List ℕ
+abbrev pub headWords : Table → Fill → List ℕ
 headWords t m =
     t .sheet .seats ∷ t .sheet .small ∷ t .sheet .big ∷ t .sheet .rate ∷ t .sheet .cap ∷ t .sheet .step ∷ t .sheet .game ∷ t .sheet .deck ∷ t .sheet .drop
     ∷ t .taken ∷ t .sittings ∷ t .play .puck ∷ t .play .mark ∷ t .play .lift ∷ t .play .turn ∷ m .count ∷ m .lines ∷ m .width ∷ []
 
 abbrev pub headSingles : Clerk → ℕ → List ℕ → List ℕ
-headSingles c count cards = one (c .opened) ∷ one (c .shut) ∷ one (c .table .play .opened) ∷ one (c .mark .bad) ∷ count ∷ cardsFive cards
+headSingles c count cards = one (c .opened) ∷ one (c .shut) ∷ one (c .table .play .opened) ∷ one (c .fill .bad) ∷ count ∷ cardsFive cards
 
 abbrev pub headBytes : Clerk → List ℕ
-headBytes c = wordsBytes (headWords (c .table) (c .mark)) ++ headSingles c (c .table .board .count) (c .table .board .cards)
+headBytes c = wordsBytes (headWords (c .table) (c .fill)) ++ headSingles c (c .table .board .count) (c .table .board .cards)
 
 abbrev pub sheetIn : List ℕ → Sheet
 sheetIn b = record {
@@ -102,8 +102,8 @@ playIn b = record { opened = isSet (getD b 74 0); puck = wordAt b 44; mark = wor
 abbrev pub boardIn : List ℕ → Board
 boardIn b = record { count = getD b 76 0; cards = getD b 77 0 ∷ getD b 78 0 ∷ getD b 79 0 ∷ getD b 80 0 ∷ getD b 81 0 ∷ [] }
 
-abbrev pub markIn : List ℕ → Mark
-markIn b = record { count = wordAt b 60; lines = wordAt b 64; width = wordAt b 68; bad = isSet (getD b 75 0) }
+abbrev pub fillIn : List ℕ → Fill
+fillIn b = record { count = wordAt b 60; lines = wordAt b 64; width = wordAt b 68; bad = isSet (getD b 75 0) }
 
 -- ---- the clerk
 
@@ -127,5 +127,5 @@ clerkFrom b = record {
     board = boardIn b;
     chairs = chairsIn 10 (drop 82 b);
   };
-  mark = markIn b;
+  fill = fillIn b;
 }

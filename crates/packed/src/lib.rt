@@ -3,7 +3,7 @@
 use chairs::Chair;
 use chairs::Dealt;
 use chairs::Hole;
-use lines::Mark;
+use lines::Fill;
 use paper::Sheet;
 use stream::Clerk;
 use table::table::Board;
@@ -16,10 +16,10 @@ ghost use Prim.Native.Nat.{_+_, _*_, _/_, _%_, _≤_, _<_, _^_};
 ghost use lib.ListN.{length, drop};
 ghost use Rattle.laws.specs.Tests.{one};
 ghost use Rattle.laws.specs.Lists.{All};
-ghost use Rattle.writing.specs.Sheet.{Wrote};
+ghost use Rattle.writing.specs.AnswerSheet.{Wrote};
 ghost use Rattle.lines.specs.Kept.{Room};
 ghost use Rattle.records.specs.Bytes.{wordBytes, wordAt};
-ghost use Rattle.packed.specs.Layout.{wordsBytes, isSet, cardsFour, cardsFive, chairSingles, chairBytes, chairsBytes, chairIn, chairsIn, headWords, headSingles, headBytes, sheetIn, playIn, boardIn, markIn, fieldsSize, clerkBytes, clerkFrom};
+ghost use Rattle.packed.specs.Layout.{wordsBytes, isSet, cardsFour, cardsFive, chairSingles, chairBytes, chairsBytes, chairIn, chairsIn, headWords, headSingles, headBytes, sheetIn, playIn, boardIn, fillIn, fieldsSize, clerkBytes, clerkFrom};
 ghost use Rattle.packed.specs.Fits.{IsWord, ChairFits, HeadFits};
 
 // How many bytes the clerk takes.
@@ -187,7 +187,7 @@ fn chairs_in(b: &[u8]) -> [Chair; 10]
 
 // ---- what is not a chair's
 
-fn head_words(t: Table, m: Mark) -> [u32; 18]
+fn head_words(t: Table, m: Fill) -> [u32; 18]
     requires { ⌜ Room m ⌝ }
     ensures { λ r. ⌜ r ≡ headWords t m ⌝ }
 {
@@ -224,7 +224,7 @@ fn head_singles(c: Clerk, count: u8, cards: [u8; 5]) -> [u8; 10]
         flag(c.opened),
         flag(c.shut),
         flag(c.table.play.opened),
-        flag(c.mark.bad),
+        flag(c.fill.bad),
         count,
         cards[0],
         cards[1],
@@ -235,12 +235,12 @@ fn head_singles(c: Clerk, count: u8, cards: [u8; 5]) -> [u8; 10]
 }
 
 fn put_head(buffer: &mut [u8], c: Clerk) -> usize
-    requires { ⌜ Room (c .mark) × (82 ≤ length (now buffer)) ⌝ }
+    requires { ⌜ Room (c .fill) × (82 ≤ length (now buffer)) ⌝ }
     ensures wrote { λ r. ⌜ Wrote (headBytes c) (now (buffer .entry)) (now (buffer .exit)) r ⌝ }
     ensures fits { λ _. ⌜ HeadFits c ⌝ }
 {
     let t = c.table;
-    let ws = head_words(t, c.mark);
+    let ws = head_words(t, c.fill);
     let at = put_words(buffer, &ws);
     let b = t.board;
     let k = b.cards;
@@ -288,11 +288,11 @@ fn board_in(b: &[u8]) -> Board
     }
 }
 
-fn mark_in(b: &[u8]) -> Mark
+fn fill_in(b: &[u8]) -> Fill
     requires { ⌜ 82 ≤ length (now b) ⌝ }
-    ensures { λ r. ⌜ r ≡ markIn (now (b .entry)) ⌝ }
+    ensures { λ r. ⌜ r ≡ fillIn (now (b .entry)) ⌝ }
 {
-    Mark {
+    Fill {
         count: word_at(b, 60) as usize,
         lines: word_at(b, 64) as usize,
         width: word_at(b, 68) as usize,
@@ -304,7 +304,7 @@ fn mark_in(b: &[u8]) -> Mark
 
 // The clerk into the first bytes, all behind them as it was. What is there then reads back as the clerk.
 pub fn pack(buffer: &mut [u8], c: Clerk)
-    requires { ⌜ Room (c .mark) × (fieldsSize ≤ length (now buffer)) ⌝ }
+    requires { ⌜ Room (c .fill) × (fieldsSize ≤ length (now buffer)) ⌝ }
     ensures bytes { λ _. ⌜ now (buffer .exit) ≡ clerkBytes c ++ drop fieldsSize (now (buffer .entry)) ⌝ }
     ensures back { λ _. ⌜ clerkFrom (now (buffer .exit)) ≡ c ⌝ }
 {
@@ -331,6 +331,6 @@ pub fn unpack(b: &[u8]) -> Clerk
         opened: is_set(b[72]),
         shut: is_set(b[73]),
         table,
-        mark: mark_in(b),
+        fill: fill_in(b),
     }
 }

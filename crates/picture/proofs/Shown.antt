@@ -26,7 +26,7 @@ use Rattle.writing.specs.Nine.{nineDigits, nineLine}
 use Rattle.writing.proofs.Nine.{nine-is}
 use Rattle.picture.specs.Lines.{lineKinds, keys, mosts, afterZeros, nineOf, numberAs, lineWritten, lineWith, lineAt, lineFrom, answerLine}
 use Rattle.picture.proofs.Zeros.{nine-read, nine-no-lf, nine-shape}
-use Rattle.figures.specs.Row.{kindJackpot, countedOf}
+use Rattle.figures.specs.ScreenRow.{kindJackpot, countedOf}
 use Rattle.picture.specs.Rows.{lineDrawn}
 use Rattle.picture.specs.Screen as screen
 use Rattle.picture.specs.Screen.{lineMost, saidOf, shownOf, stepOf, closeOf, pictureFrom}

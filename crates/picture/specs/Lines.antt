@@ -12,7 +12,7 @@ use Rattle.writing.specs.Nine.{nineLine}
 use Rattle.text.specs.declared.Number.{Number}
 use Rattle.text.specs.declared.Number.the-variants.{Value, Bad}
 use Rattle.figures.specs.Words.{bytes, refusals}
-use Rattle.figures.specs.Row.{kindJackpot}
+use Rattle.figures.specs.ScreenRow.{kindJackpot}
 use Rattle.picture.specs.declared.Line.{Line}
 
 abbrev pub keys : List (List ℕ)

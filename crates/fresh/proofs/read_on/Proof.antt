@@ -50,7 +50,7 @@ use Rattle.records.specs.Stored.{recordAt}
 use Rattle.records.specs.Reading.{after}
 use Rattle.records.specs.declared.Record.{Record}
 use Rattle.records.specs.declared.Reader.{Reader}
-use Rattle.records.specs.declared.Got.{Got}
+use Rattle.records.specs.declared.RecordRead.{RecordRead}
 use Rattle.table.specs.Take.{Sound}
 use Rattle.fresh.specs.Reading.{readOne, placeTo, readTo}
 use Rattle.fresh.specs.declared.Rereading.{Rereading}
@@ -64,8 +64,8 @@ use Rattle.records.proofs.Record as R
 use Rattle.records.proofs.Record.Laws as R′
 use Rattle.records.proofs.Reader as T
 use Rattle.records.proofs.Reader.Laws as T′
-use Rattle.records.proofs.Got as G
-use Rattle.records.proofs.Got.Laws as G′
+use Rattle.records.proofs.RecordRead as G
+use Rattle.records.proofs.RecordRead.Laws as G′
 use Rattle.records.proofs.Reader.new as new
 use Rattle.records.proofs.Reader.new.Symbol as new-def
 use Rattle.records.proofs.Reader.new.Met as new-thm
@@ -182,11 +182,11 @@ module _ {M : Type 1} (𝓤 : URA M) (H : Heap 𝓤) (A : Atoms 𝓤) (W : Given
   goes-next : (r : Reader) (u : Val) → ent 𝓤 (⋆ 𝓤 H A (‵ (B (κ, tt) .own r (u ∷ [])) ∷ Token ∷ [])) (Next 𝓤 H A mem run .pre (to-next r u))
   goes-next r u = qed W (‵ (B (κ, tt) .own r (u ∷ [])) ∷ Token ∷ []) ∵ nothing ! $ move ! (1 ∷ 0 ∷ []) $ fjoin ! $ move ! (1 ∷ 0 ∷ []) $ join ! $ frame ! $ done !
 
-  next-said : (r : Reader) (g : Got) → ent 𝓤 (ensured 𝓤 H A next.ended (next.clauses 𝓤 H A mem run) (κ, tt) (r, tt) tt g) (fact 𝓤 (g ≡ after r))
+  next-said : (r : Reader) (g : RecordRead) → ent 𝓤 (ensured 𝓤 H A next.ended (next.clauses 𝓤 H A mem run) (κ, tt) (r, tt) tt g) (fact 𝓤 (g ≡ after r))
   next-said r g = exE 𝓤 _ (λ ws. snd∗ 𝓤 (sem 𝓤 H A (lasts next.ended (κ, tt) (r, tt) ws)) (fact 𝓤 (g ≡ after r)))
 
   -- of what `next` handed back, what the reader in it owns goes to the next call
-  goes-rest : (g : Got) → ent 𝓤 (⋆ 𝓤 H A (‵ (BG (κ, tt) .own g (G′.lowered g ∷ [])) ∷ Token ∷ [])) (Next 𝓤 H A mem run .pre (to-next (g .rest) (T′.lowered (g .rest))))
+  goes-rest : (g : RecordRead) → ent 𝓤 (⋆ 𝓤 H A (‵ (BG (κ, tt) .own g (G′.lowered g ∷ [])) ∷ Token ∷ [])) (Next 𝓤 H A mem run .pre (to-next (g .rest) (T′.lowered (g .rest))))
   goes-rest g =
       qed W (‵ (BG (κ, tt) .own g (G′.lowered g ∷ [])) ∷ Token ∷ []) ∵
       use1 W (given (G′.lowered g ∷ [] ≡ G′.lowered g ∷ []) (‵ (all-own (DG .parts) LG vg))) (own-open 𝓤 H A W DG LG vg (G′.lowered g)) $ learn ! (λ _. use1 W (‵ (ownAt (DG .parts) LG 1 (g .rest)) ⊛ ‵ (rest (DG .parts) LG 1 vg)) (own-out 𝓤 H A W (DG .parts) LG 1 vg) $ split ! $
@@ -233,12 +233,12 @@ module _ {M : Type 1} (𝓤 : URA M) (H : Heap 𝓤) (A : Atoms 𝓤) (W : Given
   nearer-wf : WellFounded Nearer
   nearer-wf = InvImage·wf (λ (x : Turn). p₀ .count - x .0) (Nat·lt-wfRel .wf)
 
-  abbrev hand : Turn → Got
+  abbrev hand : Turn → RecordRead
   hand x = after (reader (placeTo xs (x .0)))
 
   -- a result of `next` is at the machine value that is written out
-  spelled : (g : Got) (u : Val) (r : Reader) → Is (BG (κ, tt)) g (u ∷ []) → g ≡ after r → u ∷ [] ≡ G′.lowered (after r) ∷ []
-  spelled g u r is e = LL.tells DG LG g (u ∷ []) is ∙ ap (λ (h : Got). G′.lowered h ∷ []) e
+  spelled : (g : RecordRead) (u : Val) (r : Reader) → Is (BG (κ, tt)) g (u ∷ []) → g ≡ after r → u ∷ [] ≡ G′.lowered (after r) ∷ []
+  spelled g u r is e = LL.tells DG LG g (u ∷ []) is ∙ ap (λ (h : RecordRead). G′.lowered h ∷ []) e
 
   -- the machine value that is told of what was read
   told : (p : Rereading) (u : Val) → Is P.the-row p (u ∷ []) → u ∷ [] ≡ mach p ∷ []
@@ -302,13 +302,13 @@ module _ {M : Type 1} (𝓤 : URA M) (H : Heap 𝓤) (A : Atoms 𝓤) (W : Given
           assigns ! (of-opd ! (load ! (from ! (fld ! refl (stop !))) (look-in ! 3 (sub ! 1 refl (whole !))))) (from ! (stop !)) (init ! 8 refl (tt, typed is .1 .1 .0)) $
           use2 W (raw (Next 𝓤 H A mem run .pre (to-next (hand x .rest) (T′.lowered (hand x .rest))))) (goes-rest (hand x)) $
           calls-at-last ! fm (Next 𝓤 H A mem run) known-next (to-next (hand x .rest) (T′.lowered (hand x .rest))) (and-then ! (load ! (from ! (stop !)) (look ! 7 refl)) (no-more !)) (λ u′.
-          use1 W (later (some (λ (g : Got). (Token ⊛ ‵ (BG (κ, tt) .own g (u′ ∷ []))) ⊛ raw (ensured 𝓤 H A next.ended (next.clauses 𝓤 H A mem run) (κ, tt) (hand x .rest, tt) tt g)))) (id⊢ 𝓤 _) $ await ! tt $ pick ! (λ g.
+          use1 W (later (some (λ (g : RecordRead). (Token ⊛ ‵ (BG (κ, tt) .own g (u′ ∷ []))) ⊛ raw (ensured 𝓤 H A next.ended (next.clauses 𝓤 H A mem run) (κ, tt) (hand x .rest, tt) tt g)))) (id⊢ 𝓤 _) $ await ! tt $ pick ! (λ g.
           split ! $ move ! (1 ∷ []) $ use1 W (raw (fact 𝓤 (g ≡ after (hand x .rest)))) (next-said (hand x .rest) g) $ heard ! (g ≡ after (hand x .rest)) (λ e′. split ! $ move ! (1 ∷ []) $
           peeks ! (BG (κ, tt)) (Is (BG (κ, tt))) (shows 𝓤 H A (BG (κ, tt))) g (u′ ∷ []) (λ is′.
           land-last ! (from ! (stop !)) (store ! 3 refl (LL.lawful (G.the-type αᵉ) (G′.the-laws αᵉ) 𝓤 H A W .typed g _ is′ .0)) $
           rewrite ! 3 (λ (w : Val). ‵ (fat fullShare gotTy l₃ 0 w)) (ap only (spelled g u′ (hand x .rest) is′ e′)) refl $
           rewrite ! 0 (λ (us : List Val). ‵ (BG (κ, tt) .own g us)) (spelled g u′ (hand x .rest) is′ e′) refl $
-          rewrite ! 0 (λ (h : Got). ‵ (BG (κ, tt) .own h (G′.lowered (after (hand x .rest)) ∷ []))) e′ refl $
+          rewrite ! 0 (λ (h : RecordRead). ‵ (BG (κ, tt) .own h (G′.lowered (after (hand x .rest)) ∷ []))) e′ refl $
           forget ! 6 refl $ forget ! 7 refl $ forget ! 8 refl $ again ! Nearer At x (after-turn k u isk e) nearer)))))))))
         where
           p : Rereading
@@ -353,13 +353,13 @@ module _ {M : Type 1} (𝓤 : URA M) (H : Heap 𝓤) (A : Atoms 𝓤) (W : Given
           ∷ ‵ (froom P′.mir l₄ 0) ∷ ‵ (fdies P′.mir l₄) ∷ l3 ∷ ‵ (fdies gotTy l₃) ∷ ‵ (fat fullShare P′.mir l₂ 0 (mach p₀)) ∷ ‵ (fdies P′.mir l₂) ∷ ‵ (fat fullShare logTy l₁ 0 v) ∷ ‵ (fdies logTy l₁) ∷ ‵ (froom P′.mir l₀ 0) ∷ ‵ (fdies P′.mir l₀) ∷ []
 
       -- from what `next` handed back to the loop
-      looped : (g : Got) (w u′ : Val) → g ≡ after (reader 0) → u′ ∷ [] ≡ G′.lowered (after (reader 0)) ∷ []
+      looped : (g : RecordRead) (w u′ : Val) → g ≡ after (reader 0) → u′ ∷ [] ≡ G′.lowered (after (reader 0)) ∷ []
           → Sq W (‵ (BG (κ, tt) .own g (u′ ∷ [])) ∷ Token ∷ ‵ Own ∷ Locals (‵ (fat fullShare readerTy l₅ 0 w)) (‵ (fat fullShare gotTy l₃ 0 u′))) (runs C Λ En body.t-3 (atRet En Post))
       looped g w u′ e h =
           assigns ! (of-opd ! (load ! (from ! (stop !)) (look ! 15 refl))) (from ! (stop !)) (init ! 11 refl (typed-at p₀ is₀)) $ forget ! 9 refl $
           rewrite ! 13 (λ (z : Val). ‵ (fat fullShare gotTy l₃ 0 z)) (ap only h) refl $
           rewrite ! 0 (λ (us : List Val). ‵ (BG (κ, tt) .own g us)) h refl $
-          rewrite ! 0 (λ (k : Got). ‵ (BG (κ, tt) .own k (G′.lowered (after (reader 0)) ∷ []))) e refl $
+          rewrite ! 0 (λ (k : RecordRead). ‵ (BG (κ, tt) .own k (G′.lowered (after (reader 0)) ∷ []))) e refl $
           keep ! (0 ∷ 1 ∷ 2 ∷ 13 ∷ 11 ∷ 9 ∷ 7 ∷ 5 ∷ 3 ∷ 15 ∷ 17 ∷ 19 ∷ 20 ∷ 18 ∷ 16 ∷ 14 ∷ 12 ∷ 10 ∷ 8 ∷ 6 ∷ 4 ∷ []) $
           first ! $ blocks ! $ loops ! 𝓣 Nearer nearer-wf At turns start
 
@@ -369,7 +369,7 @@ module _ {M : Type 1} (𝓤 : URA M) (H : Heap 𝓤) (A : Atoms 𝓤) (W : Given
       called r u e =
           use2 W (raw (Next 𝓤 H A mem run .pre (to-next r u))) (goes-next r u) $
           calls-at ! fm (Next 𝓤 H A mem run) known-next (to-next r u) (and-then ! (load ! (from ! (stop !)) (look ! 8 refl)) (no-more !)) (λ u′.
-          use1 W (later (some (λ (g : Got). (Token ⊛ ‵ (BG (κ, tt) .own g (u′ ∷ []))) ⊛ raw (ensured 𝓤 H A next.ended (next.clauses 𝓤 H A mem run) (κ, tt) (r, tt) tt g)))) (id⊢ 𝓤 _) $ await ! tt $ pick ! (λ g.
+          use1 W (later (some (λ (g : RecordRead). (Token ⊛ ‵ (BG (κ, tt) .own g (u′ ∷ []))) ⊛ raw (ensured 𝓤 H A next.ended (next.clauses 𝓤 H A mem run) (κ, tt) (r, tt) tt g)))) (id⊢ 𝓤 _) $ await ! tt $ pick ! (λ g.
           split ! $ move ! (1 ∷ []) $ use1 W (raw (fact 𝓤 (g ≡ after r))) (next-said r g) $ heard ! (g ≡ after r) (λ e′. split ! $ move ! (1 ∷ []) $
           peeks ! (BG (κ, tt)) (Is (BG (κ, tt))) (shows 𝓤 H A (BG (κ, tt))) g (u′ ∷ []) (λ is′.
           land ! (from ! (stop !)) (init ! 13 refl (LL.lawful (G.the-type αᵉ) (G′.the-laws αᵉ) 𝓤 H A W .typed g _ is′ .0)) $

@@ -9,7 +9,7 @@ use Rattle.packed.proofs.unpack.Lts as lts
 use Rattle.packed.proofs.board_in.Reads as board-in-reads
 use Rattle.packed.proofs.chairs_in.Reads as chairs-in-reads
 use Rattle.packed.proofs.is_set.Reads as is-set-reads
-use Rattle.packed.proofs.mark_in.Reads as mark-in-reads
+use Rattle.packed.proofs.fill_in.Reads as fill-in-reads
 use Rattle.packed.proofs.play_in.Reads as play-in-reads
 use Rattle.packed.proofs.sheet_in.Reads as sheet-in-reads
 use Rattle.packed.proofs.word_at.Reads as word-at-reads
@@ -67,8 +67,8 @@ is-set-requires-2 : tie.Need-is-set-requires-2
 is-set-requires-2 c κs = search needs
 
 -- src/lib.rt:334:15
-mark-in-requires : tie.Need-mark-in-requires
-mark-in-requires c κs = search needs
+fill-in-requires : tie.Need-fill-in-requires
+fill-in-requires c κs = search needs
 
 -- src/lib.rt:318:1
 returns : tie.Need-returns
@@ -92,5 +92,5 @@ unpack-spec =
     is-set-requires
     shared-slice-read-is-set-2
     is-set-requires-2
-    mark-in-requires
+    fill-in-requires
     returns)

@@ -8,7 +8,7 @@ use native.Mathlib.Omega.{arith}
 use lib.ListN.{length, getD, take, drop, set, length-append, length-set, take-append-drop}
 use lib.Seq.{length-take-le, take-suc, set-append-seam}
 use Rattle.text.specs.Number.{digits}
-use Rattle.writing.specs.Sheet.{over, Wrote}
+use Rattle.writing.specs.AnswerSheet.{over, Wrote}
 use Rattle.text.proofs.Numbers.{digits-one, digits-more}
 use Rattle.writing.proofs.decimal.put_digits.Statement.{statement}
 use Rattle.writing.proofs.decimal.put_digits.Tie as tie
