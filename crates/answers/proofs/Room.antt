@@ -18,9 +18,9 @@ use Rattle.text.specs.Number.{digitsIn, digits}
 use Rattle.writing.specs.Nine.{nineDigits, nineLine}
 use Rattle.writing.proofs.Nine.{nine-count}
 use Rattle.pots.specs.declared.Pot.{Pot}
-use Rattle.answers.specs.declared.Row.{Row}
+use Rattle.answers.specs.declared.PaidRow.{PaidRow}
 use Rattle.answers.specs.declared.Jackpot.{Jackpot}
-use Rattle.answers.specs.declared.Payout.{Payout}
+use Rattle.answers.specs.declared.ShownPayout.{ShownPayout}
 use Rattle.answers.specs.declared.Shown.{Shown}
 use Rattle.answers.specs.Answer.{joined, keyN, keyCode, keyTurn, keyMark, keyPot, keyBack, keyFee, keyJackpot, keySitting, keyPaid, keyUnclaimed, twoBytes, potBytes, rowBytes, stateBytes, jackpotBytes, payoutBytes, tableBytes, answerBytes, longestShared, longestWith}
 use Rattle.answers.specs.Room.{Line, line, lineBytes, potLine, tableLines, rowLines, rowsLines, jackpotLine, jackpotLines, payoutLines, answerLines, mostLinesWith, longestLine}
@@ -31,7 +31,7 @@ pots-lines : (ps : List Pot) → joined lineBytes (map potLine ps) ≡ joined po
 pots-lines [] = refl
 pots-lines (p ∷ ps) = ap (λ (l : List ℕ). potBytes p ++ l) (pots-lines ps)
 
-row-lines : (r : Row) → joined lineBytes (rowLines r) ≡ rowBytes r
+row-lines : (r : PaidRow) → joined lineBytes (rowLines r) ≡ rowBytes r
 unfolding rowBytes twoBytes
 row-lines r = go (eqb (r .sitting) 0)
   where
@@ -40,7 +40,7 @@ row-lines r = go (eqb (r .sitting) 0)
     go true = refl
     go false = ap (λ (l : List ℕ). numberLine keySitting (r .sitting) ++ l) (append-nil (numberLine keyPaid (r .paid)))
 
-rows-lines : (rs : List Row) → joined lineBytes (rowsLines rs) ≡ joined rowBytes rs
+rows-lines : (rs : List PaidRow) → joined lineBytes (rowsLines rs) ≡ joined rowBytes rs
 rows-lines [] = refl
 rows-lines (r ∷ rs) = joined-append lineBytes (rowLines r) (rowsLines rs) ∙ ap₂ _++_ (row-lines r) (rows-lines rs)
 
@@ -55,7 +55,7 @@ jackpot-lines j = go (j .shared)
     go true = append-nil (nineLine keyJackpot (j .amount))
     go false = refl
 
-payout-lines : (p : Payout) → joined lineBytes (payoutLines p) ≡ payoutBytes p
+payout-lines : (p : ShownPayout) → joined lineBytes (payoutLines p) ≡ payoutBytes p
 unfolding payoutBytes
 payout-lines p =
     let fee = line keyFee (p .fee) ∷ [] in
@@ -170,7 +170,7 @@ pots-good : (ps : List Pot) → All Good (map potLine ps)
 pots-good [] = tt
 pots-good (p ∷ ps) = (good keyPot (p .amount) refl (omega arith), pots-good ps)
 
-rows-good : (rs : List Row) → All Good (rowsLines rs)
+rows-good : (rs : List PaidRow) → All Good (rowsLines rs)
 rows-good [] = tt
 rows-good (r ∷ rs) = goods (rowLines r) (rowsLines rs) (go (eqb (r .sitting) 0)) (rows-good rs)
   where
@@ -185,7 +185,7 @@ jackpot-good j = go (j .shared)
     go true = (record { plain = refl; short = omega arith }, tt)
     go false = tt
 
-payout-good : (p : Payout) → All Good (payoutLines p)
+payout-good : (p : ShownPayout) → All Good (payoutLines p)
 payout-good p =
     let fee = line keyFee (p .fee) ∷ [] in
     let won = jackpotLines (p .jackpot) in
@@ -217,7 +217,7 @@ pub record Few (s : Shown) : Type 0 where
   pub rows : length (s .payout .rows) ≤ 10
   pub closed : s .settled ≡ true → s .pots .n ≡ 0
 
-rows-most : (rs : List Row) → length (rowsLines rs) ≤ 2 * length rs
+rows-most : (rs : List PaidRow) → length (rowsLines rs) ≤ 2 * length rs
 rows-most [] = omega arith
 rows-most (r ∷ rs) = omega (arith, length-append (rowLines r) (rowsLines rs), go (eqb (r .sitting) 0), rows-most rs)
   where
@@ -232,7 +232,7 @@ jackpot-one j = go (j .shared)
     go true = refl
     go false = refl
 
-payout-most : (p : Payout) → length (p .rows) ≤ 10 → length (payoutLines p) ≤ 22 + one (p .jackpot .shared)
+payout-most : (p : ShownPayout) → length (p .rows) ≤ 10 → length (payoutLines p) ≤ 22 + one (p .jackpot .shared)
 payout-most p h =
     let fee = line keyFee (p .fee) ∷ [] in
     let won = jackpotLines (p .jackpot) in

@@ -8,9 +8,9 @@ use Rattle.laws.specs.Tests.{pick}
 use Rattle.text.specs.Line.{numberLine}
 use Rattle.writing.specs.Nine.{nineLine}
 use Rattle.pots.specs.declared.Pot.{Pot}
-use Rattle.answers.specs.declared.Row.{Row}
+use Rattle.answers.specs.declared.PaidRow.{PaidRow}
 use Rattle.answers.specs.declared.Jackpot.{Jackpot}
-use Rattle.answers.specs.declared.Payout.{Payout}
+use Rattle.answers.specs.declared.ShownPayout.{ShownPayout}
 use Rattle.answers.specs.declared.Shown.{Shown}
 use Rattle.answers.specs.Answer.{keyN, keyCode, keyTurn, keyMark, keyPot, keyBack, keyFee, keyJackpot, keySitting, keyPaid, keyUnclaimed}
 
@@ -37,10 +37,10 @@ tableLines s =
     ++ (line keyBack (s .back) ∷ [])
 
 -- "fee, then sitting and paid for each dealt-in seat in rising order, then unclaimed"
-abbrev pub rowLines : Row → List Line
+abbrev pub rowLines : PaidRow → List Line
 rowLines r = pick (eqb (r .sitting) 0) [] (line keySitting (r .sitting) ∷ line keyPaid (r .paid) ∷ [])
 
-abbrev pub rowsLines : List Row → List Line
+abbrev pub rowsLines : List PaidRow → List Line
 rowsLines [] = []
 rowsLines (r ∷ rs) = rowLines r ++ rowsLines rs
 
@@ -51,7 +51,7 @@ jackpotLine j = record { key = keyJackpot; number = j .amount; nine = true }
 abbrev pub jackpotLines : Jackpot → List Line
 jackpotLines j = pick (j .shared) (jackpotLine j ∷ []) []
 
-abbrev pub payoutLines : Payout → List Line
+abbrev pub payoutLines : ShownPayout → List Line
 payoutLines p = (line keyFee (p .fee) ∷ []) ++ jackpotLines (p .jackpot) ++ rowsLines (p .rows) ++ (line keyUnclaimed (p .unclaimed) ∷ [])
 
 -- the lines of the answer that shows this (proofs/Room, `answer-lines`: their bytes are the answer's)

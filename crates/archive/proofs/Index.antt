@@ -13,7 +13,7 @@ use Rattle.paper.specs.Paper.{isSheet}
 use Rattle.paper.specs.declared.Sheet.{Sheet}
 use Rattle.paper.specs.declared.Entry.{Entry}
 use Rattle.chairs.specs.declared.Chair.{Chair}
-use Rattle.writing.specs.Sheet.{over}
+use Rattle.writing.specs.AnswerSheet.{over}
 use Rattle.writing.proofs.Sheets.{over-over}
 use Rattle.table.specs.Take.{nextOf}
 use Rattle.table.specs.declared.table.Table.{Table}

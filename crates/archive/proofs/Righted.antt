@@ -29,7 +29,7 @@ use Rattle.blocks.specs.declared.Block.the-variants.{Raw}
 use Rattle.blocks.specs.declared.Parsed.{Parsed}
 use Rattle.blocks.specs.declared.Parsed.the-variants.{Read, OutOfRange}
 use Rattle.blocks.proofs.Entries.{read-is, numbers-back}
-use Rattle.writing.specs.Sheet.{over, writtenOf}
+use Rattle.writing.specs.AnswerSheet.{over, writtenOf}
 use Rattle.writing.specs.declared.Written.{Written}
 use Rattle.writing.specs.declared.Written.the-variants.{Bytes, NoRoom}
 use Rattle.table.specs.Settle.{noPayout}

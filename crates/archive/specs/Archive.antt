@@ -11,7 +11,7 @@ use Rattle.laws.specs.Tests.{pick, one}
 use Rattle.paper.specs.SheetAndEntries.{isSheet, numbersOf}
 use Rattle.paper.specs.declared.Sheet.{Sheet}
 use Rattle.paper.specs.declared.Entry.{Entry}
-use Rattle.writing.specs.Sheet.{over}
+use Rattle.writing.specs.AnswerSheet.{over}
 use Rattle.records.specs.Stored.{recordBytes, rowBytes}
 use Rattle.fresh.specs.Reading.{isHand, stackOf}
 use Rattle.history.specs.History.{run, AllTaken}

@@ -146,7 +146,7 @@ pub record Most (m : ℕ) (s : Seven) : Type 0 where
   pub dealer : s .dealer ≤ m
 
 -- every number of an answer has at most nine digits
-pub record Small (s : Settled) : Type 0 where
+pub record SmallSettled (s : Settled) : Type 0 where
   pub backs : Most 100100000 (s .backs)
   pub staked : s .staked ≤ 800800000
   pub back : s .back ≤ 800800000
@@ -154,7 +154,7 @@ pub record Small (s : Settled) : Type 0 where
   pub lost : s .lost ≤ 800800000
 
 abbrev pub SmallOutcome : Outcome → Type 0
-SmallOutcome (Paid s) = Small s
+SmallOutcome (Paid s) = SmallSettled s
 SmallOutcome OutOfRange = Unit {0}
 SmallOutcome Repeat = Unit {0}
 

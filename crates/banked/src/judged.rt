@@ -18,7 +18,7 @@ use laws::short_of;
 ghost use mathlib.Core.Path.{_≡_};
 ghost use mathlib.Core.Bool.{true};
 ghost use Prim.Native.Nat.{_≤_};
-ghost use Rattle.banked.specs.Rounds.{isFold, stakesOf, backsOf, totalOf, settledOf, wrongNumber, roundCode, outcomeOf, codeOfOutcome, Most, Small, SmallOutcome, Bounded};
+ghost use Rattle.banked.specs.Rounds.{isFold, stakesOf, backsOf, totalOf, settledOf, wrongNumber, roundCode, outcomeOf, codeOfOutcome, Most, SmallSettled, SmallOutcome, Bounded};
 
 // A number for each of the seven wagers.
 pub struct Seven {
@@ -170,7 +170,7 @@ fn wrong_number(r: Round) -> bool
 // A round whose numbers are in their ranges.
 fn settled_of(r: Round) -> Settled
     requires { ⌜ Bounded r ⌝ }
-    ensures { λ s. ⌜ (s ≡ settledOf r) × Small s ⌝ }
+    ensures { λ s. ⌜ (s ≡ settledOf r) × SmallSettled s ⌝ }
 {
     let stakes = stakes_of(r);
     let backs = round_backs(r, stakes);

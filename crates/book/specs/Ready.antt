@@ -6,5 +6,5 @@ use Rattle.book.specs.declared.keeper.Keeper.{Keeper}
 
 pub record Ready (k : Keeper) : Type 0 where
   pub book : Held (k .book)
-  pub room : Room (k .mark)
-  pub lines : k .mark .lines < linesOf (k .opened)
+  pub room : Room (k .fill)
+  pub lines : k .fill .lines < linesOf (k .opened)

@@ -8,7 +8,7 @@ use ledger::Answered;
 use ledger::Book;
 use ledger::answer;
 use ledger::opened;
-use lines::Mark;
+use lines::Fill;
 use lines::empty;
 use lines::gather;
 use lines::lines_of;
@@ -17,7 +17,7 @@ use logs::copy::write_note;
 use output::ahead;
 use paper::STAND_IN;
 use paper::Sheet;
-use text::sheet::Opening;
+use text::sheet::SheetRead;
 use text::sheet::read_sheet;
 ghost use mathlib.Core.Path.{_≡_};
 ghost use Prim.Native.Nat.{_+_, _≤_, _<_, _^_};
@@ -35,7 +35,7 @@ pub struct Keeper {
     pub sheet: Sheet,
     pub book: Book,
     pub count: u32,
-    pub mark: Mark,
+    pub fill: Fill,
 }
 
 // Before the first byte.
@@ -51,7 +51,7 @@ pub fn start() -> Keeper
         sheet: s,
         book: b,
         count: 0,
-        mark: z,
+        fill: z,
     }
 }
 
@@ -62,7 +62,7 @@ fn take_sheet(k: Keeper, lines: &[u8]) -> Keeper
 {
     let z = empty();
     match read_sheet(lines) {
-        Opening::Bad => {
+        SheetRead::Bad => {
             let b = k.book;
             let s = k.sheet;
             Keeper {
@@ -71,10 +71,10 @@ fn take_sheet(k: Keeper, lines: &[u8]) -> Keeper
                 sheet: s,
                 book: b,
                 count: 0,
-                mark: z,
+                fill: z,
             }
         }
-        Opening::Read(s) => {
+        SheetRead::Read(s) => {
             let b = opened(lone(s));
             Keeper {
                 opened: true,
@@ -82,7 +82,7 @@ fn take_sheet(k: Keeper, lines: &[u8]) -> Keeper
                 sheet: s,
                 book: b,
                 count: 0,
-                mark: z,
+                fill: z,
             }
         }
     }
@@ -100,7 +100,7 @@ fn said(as_log: bool, number: u32, a: Answered, out: &mut [u8]) -> usize
 }
 
 // The keeper after some lines, and how many bytes were written about them.
-pub struct Step {
+pub struct KeeperAfter {
     pub keeper: Keeper,
     pub written: usize,
 }
@@ -114,7 +114,7 @@ pub fn take_block(
     log: &mut [u8],
     index: &mut [u8],
     out: &mut [u8],
-) -> Step
+) -> KeeperAfter
     requires { ⌜ Held (k .book) × (block ≡ blockOf (now lines)) ⌝ }
     ensures { λ r. ⌜ Ready (r .keeper) × (r .written ≤ length (now (out .entry))) ⌝ }
 {
@@ -124,14 +124,14 @@ pub fn take_block(
     let a = answer(b, false, lines, block, log, index, out);
     let c = a.book;
     let z = empty();
-    Step {
+    KeeperAfter {
         keeper: Keeper {
             opened: true,
             shut: false,
             sheet: s,
             book: c,
             count: n,
-            mark: z,
+            fill: z,
         },
         written: said(as_log, n, a, out),
     }
@@ -145,7 +145,7 @@ fn take_lines(
     log: &mut [u8],
     index: &mut [u8],
     out: &mut [u8],
-) -> Step
+) -> KeeperAfter
     requires { ⌜ Held (k .book) ⌝ }
     ensures { λ r. ⌜ Ready (r .keeper) × (r .written ≤ length (now (out .entry))) ⌝ }
 {
@@ -153,14 +153,14 @@ fn take_lines(
         return take_block(as_log, k, lines, read_block(lines), log, index, out);
     }
     let d = take_sheet(k, lines);
-    Step {
+    KeeperAfter {
         keeper: d,
         written: 0,
     }
 }
 
 // The keeper with other lines kept.
-fn keeping(k: Keeper, m: Mark) -> Keeper
+fn keeping(k: Keeper, m: Fill) -> Keeper
     requires { ⌜ Held (k .book) × Room m × (m .lines < linesOf (k .opened)) ⌝ }
     ensures { λ r. ⌜ Ready r ⌝ }
 {
@@ -172,7 +172,7 @@ fn keeping(k: Keeper, m: Mark) -> Keeper
         sheet: s,
         book: b,
         count: k.count,
-        mark: m,
+        fill: m,
     }
 }
 
@@ -199,10 +199,10 @@ fn take_kept(
     ensures { λ r. ⌜ Ready (r .keeper) × (from < r .from) × (r .from ≤ length (now (part .entry))) × (r .at ≤ length (now (out .entry))) ⌝ }
 {
     let want = lines_of(k.opened);
-    let m = k.mark;
+    let m = k.fill;
     let g = gather(buf, m, &part[from..], want);
     let next = ahead(from, g.used, part);
-    let kept = g.mark;
+    let kept = g.fill;
     if kept.lines < want {
         let d = keeping(k, kept);
         return Going {
@@ -223,7 +223,7 @@ fn take_kept(
 
 // Whether the sheet was read and nothing of the next block is kept.
 fn awaits_block(k: Keeper) -> bool {
-    let m = k.mark;
+    let m = k.fill;
     both(k.opened, m.count == 0)
 }
 

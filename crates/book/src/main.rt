@@ -32,7 +32,7 @@ fn voice(as_log: bool) -> i32 {
 }
 
 // The keeper after some input, whether reading or writing failed, and whether to go on.
-struct Turn {
+struct Lap {
     keeper: Keeper,
     failed: bool,
     more: bool,
@@ -46,7 +46,7 @@ fn take_part(
     log: &mut [u8],
     index: &mut [u8],
     part: &[u8],
-) -> Turn
+) -> Lap
     requires { ⌜ Ready k × (keptMost ≤ length (now buf)) ⌝ }
     ensures { λ r. ⌜ Ready (r .keeper) ⌝ }
 {
@@ -64,7 +64,7 @@ fn take_part(
         from = g.from;
         at = g.at;
         if keeper.shut {
-            return Turn {
+            return Lap {
                 keeper,
                 failed: false,
                 more: false,
@@ -73,7 +73,7 @@ fn take_part(
     }
     let last = io::write_all(voice(as_log), &out[0..at]);
     let wrote = laws::both(ok, last);
-    Turn {
+    Lap {
         keeper,
         failed: !wrote,
         more: wrote,
@@ -81,14 +81,14 @@ fn take_part(
 }
 
 // One read, and the answers to it. A read that fails is no end of the input: then nothing more is said.
-fn read_some(as_log: bool, k: Keeper, buf: &mut [u8], log: &mut [u8], index: &mut [u8]) -> Turn
+fn read_some(as_log: bool, k: Keeper, buf: &mut [u8], log: &mut [u8], index: &mut [u8]) -> Lap
     requires { ⌜ Ready k × (keptMost ≤ length (now buf)) ⌝ }
     ensures { λ r. ⌜ Ready (r .keeper) ⌝ }
 {
     let mut input = io::large_buffer();
     let got = libc::read(STDIN_FILENO, &mut input);
     if got <= 0 {
-        return Turn {
+        return Lap {
             keeper: k,
             failed: got < 0,
             more: false,
@@ -99,7 +99,7 @@ fn read_some(as_log: bool, k: Keeper, buf: &mut [u8], log: &mut [u8], index: &mu
 }
 
 // Reads to the end of the input, or of a bad sheet. A proved loop has to end, so it counts its turns down from a number that no run uses up.
-fn read_all(as_log: bool, buf: &mut [u8], log: &mut [u8], index: &mut [u8]) -> Turn
+fn read_all(as_log: bool, buf: &mut [u8], log: &mut [u8], index: &mut [u8]) -> Lap
     requires { ⌜ keptMost ≤ length (now buf) ⌝ }
     ensures { λ r. ⌜ Ready (r .keeper) ⌝ }
 {
@@ -114,7 +114,7 @@ fn read_all(as_log: bool, buf: &mut [u8], log: &mut [u8], index: &mut [u8]) -> T
         }
         turns -= 1;
     }
-    Turn {
+    Lap {
         keeper,
         failed: false,
         more: false,
@@ -128,7 +128,7 @@ fn end_block(as_log: bool, k: Keeper, buf: &[u8], log: &mut [u8], index: &mut [u
     requires { ⌜ Ready k × (keptMost ≤ length (now buf)) ⌝ }
     ensures { λ r. ⌜ Held (r .book) ⌝ }
 {
-    let m = k.mark;
+    let m = k.fill;
     let e = m.count;
     if e == 0 {
         return k;

@@ -8,18 +8,18 @@ use native.Mathlib.Omega.{arith}
 use lib.ListN.{length, take, drop}
 use lib.Seq.{take-append-seam}
 use Rattle.laws.specs.Tests.{pick}
-use Rattle.writing.specs.Sheet.{over}
+use Rattle.writing.specs.AnswerSheet.{over}
 use Rattle.paper.specs.declared.Sheet.{Sheet}
 use Rattle.text.specs.TableSheet.{sheetOf}
-use Rattle.text.specs.declared.sheet.Opening.{Opening}
-use Rattle.text.specs.declared.sheet.Opening.the-variants.{Read, Bad}
-use Rattle.lines.specs.declared.Mark.{Mark}
-use Rattle.lines.specs.declared.Got.{Got}
-use Rattle.lines.specs.Kept.{Kept, nothing, Gathered, gatherOf, keptIn, markOf, gotOf, Room, linesOf}
-use Rattle.lines.proofs.Keeps.{kept-back, mark-back}
+use Rattle.text.specs.declared.sheet.SheetRead.{SheetRead}
+use Rattle.text.specs.declared.sheet.SheetRead.the-variants.{Read, Bad}
+use Rattle.lines.specs.declared.Fill.{Fill}
+use Rattle.lines.specs.declared.Progress.{Progress}
+use Rattle.lines.specs.Kept.{Kept, nothing, Gathered, gatherOf, keptIn, fillOf, progressOf, Room, linesOf}
+use Rattle.lines.proofs.Keeps.{kept-back, fill-back}
 use Rattle.copier.specs.declared.Copier.{Copier}
 use Rattle.copier.specs.declared.Fed.{Fed}
-use Rattle.copier.specs.declared.Step.{Step}
+use Rattle.copier.specs.declared.CopierAfter.{CopierAfter}
 use Rattle.copier.specs.Onward.{State, Unread, Open, Shut, Given, still, sheetDone, linesDone, onward}
 use Rattle.copier.specs.Feeding.{stateAt, keptBy, copierIn, Held, Gave, heardOf, FedOn, usedOf, bufferOf}
 use Rattle.copier.proofs.Onward.{shut-onward, kept-onward, ends-onward}
@@ -42,36 +42,36 @@ done-nothing (Open s n) lines = refl
 done-nothing Shut lines = refl
 done-nothing Unread lines = go (sheetOf lines)
   where
-    go : (o : Opening) → sheetDone o .kept ≡ nothing
+    go : (o : SheetRead) → sheetDone o .kept ≡ nothing
     go (Read s) = refl
     go Bad = refl
 
-mark-in : (s : State) (m : Mark) → copierIn s m .mark ≡ m
-mark-in Unread m = refl
-mark-in (Open s n) m = refl
-mark-in Shut m = refl
+fill-in : (s : State) (m : Fill) → copierIn s m .fill ≡ m
+fill-in Unread m = refl
+fill-in (Open s n) m = refl
+fill-in Shut m = refl
 
 -- ---- a copier whose sheet is not bad, by whether its sheet was read
 
-abbrev pub copierAt : Bool → Sheet → ℕ → Mark → Copier
-copierAt o s n m = record { opened = o; shut = false; sheet = s; count = n; mark = m }
+abbrev pub copierAt : Bool → Sheet → ℕ → Fill → Copier
+copierAt o s n m = record { opened = o; shut = false; sheet = s; count = n; fill = m }
 
--- it is its own with another mark too
-own-mark : (o : Bool) (s : Sheet) (n : ℕ) (m k : Mark) → copierAt o s n m ≡ copierIn (stateAt o s n) m → copierAt o s n k ≡ copierIn (stateAt o s n) k
-own-mark true s n m k e = refl
-own-mark false s n m k e = same (ap (λ (c : Copier). c .sheet) e) (ap (λ (c : Copier). c .count) e)
+-- it is its own with another fill too
+own-fill : (o : Bool) (s : Sheet) (n : ℕ) (m k : Fill) → copierAt o s n m ≡ copierIn (stateAt o s n) m → copierAt o s n k ≡ copierIn (stateAt o s n) k
+own-fill true s n m k e = refl
+own-fill false s n m k e = same (ap (λ (c : Copier). c .sheet) e) (ap (λ (c : Copier). c .count) e)
   where
     same : {t u : Sheet} {i j : ℕ} → t ≡ u → i ≡ j → copierAt false t i k ≡ copierAt false u j k
     same p q = cc
 
-module _ (o : Bool) (s : Sheet) (n : ℕ) (m : Mark) (h : Held (copierAt o s n m)) where
+module _ (o : Bool) (s : Sheet) (n : ℕ) (m : Fill) (h : Held (copierAt o s n m)) where
   own : copierAt o s n m ≡ copierIn (stateAt o s n) m
   own = h .own ∙ ap (λ (x : State). copierIn x m) (state-else (copierAt o s n m) refl)
 
-  own-with : (k : Mark) → copierAt o s n k ≡ copierIn (stateAt o s n) k
-  own-with k = own-mark o s n m k own
+  own-with : (k : Fill) → copierAt o s n k ≡ copierIn (stateAt o s n) k
+  own-with k = own-fill o s n m k own
 
-  pub held-with : (k : Mark) → Room k → k .lines < linesOf o → Held (copierAt o s n k)
+  pub held-with : (k : Fill) → Room k → k .lines < linesOf o → Held (copierAt o s n k)
   held-with k r l = record { own = own-with k ∙ ap (λ (x : State). copierIn x k) (sym (state-else (copierAt o s n k) refl)); room = r; lines = l }
 
 -- ---- by way of the buffer
@@ -84,68 +84,68 @@ fed-by {c} {buf} {part} {copy} {notes} {buf2} {copy2} {notes2} {r} x e g k = rec
   kept = k ∙ ap (λ (y : Given). y .kept) (sym e);
 }
 
-module _ (o : Bool) (s : Sheet) (n : ℕ) (m : Mark) (h : Held (copierAt o s n m)) (buf part copy notes buf2 : List ℕ) {got : Got} {want : ℕ} (w : want ≡ linesOf o)
-    (e : got ≡ gotOf (gatherOf want (keptIn m buf) part)) (f : buf2 ≡ over (gatherOf want (keptIn m buf) part .kept .bytes) buf) where
+module _ (o : Bool) (s : Sheet) (n : ℕ) (m : Fill) (h : Held (copierAt o s n m)) (buf part copy notes buf2 : List ℕ) {got : Progress} {want : ℕ} (w : want ≡ linesOf o)
+    (e : got ≡ progressOf (gatherOf want (keptIn m buf) part)) (f : buf2 ≡ over (gatherOf want (keptIn m buf) part .kept .bytes) buf) where
   abbrev g : Gathered
   g = gatherOf (linesOf o) (keptIn m buf) part
 
-  got-is : got ≡ gotOf g
-  got-is = e ∙ ap (λ (i : ℕ). gotOf (gatherOf i (keptIn m buf) part)) w
+  got-is : got ≡ progressOf g
+  got-is = e ∙ ap (λ (i : ℕ). progressOf (gatherOf i (keptIn m buf) part)) w
 
   buf-is : buf2 ≡ over (g .kept .bytes) buf
   buf-is = f ∙ ap (λ (i : ℕ). over (gatherOf i (keptIn m buf) part .kept .bytes) buf) w
 
   pub used-is : (got .used ≡ usedOf (copierAt o s n m) buf part) × (buf2 ≡ bufferOf (copierAt o s n m) buf part)
   unfolding usedOf bufferOf
-  used-is = (ap (λ (x : Got). x .used) got-is, buf-is)
+  used-is = (ap (λ (x : Progress). x .used) got-is, buf-is)
 
-  mark-is : got .mark ≡ markOf (g .kept)
-  mark-is = ap (λ (x : Got). x .mark) got-is
+  fill-is : got .fill ≡ fillOf (g .kept)
+  fill-is = ap (λ (x : Progress). x .fill) got-is
 
   heard-is : heardOf (copierAt o s n m) buf part (got .used) ≡ onward (stateAt o s n) (keptIn m buf) (take (g .used) part)
   heard-is =
       ap (λ (x : State). onward x (keptIn m buf) (take (got .used) part)) (state-else (copierAt o s n m) refl)
-      ∙ ap (λ (i : ℕ). onward (stateAt o s n) (keptIn m buf) (take i part)) (ap (λ (x : Got). x .used) got-is)
+      ∙ ap (λ (i : ℕ). onward (stateAt o s n) (keptIn m buf) (take i part)) (ap (λ (x : Progress). x .used) got-is)
 
-  pub fed-kept : got .mark .lines < want
-      → FedOn (copierAt o s n m) buf part copy notes buf2 copy notes (record { copier = copierAt o s n (got .mark); used = got .used; written = 0; noted = 0 })
+  pub fed-kept : got .fill .lines < want
+      → FedOn (copierAt o s n m) buf part copy notes buf2 copy notes (record { copier = copierAt o s n (got .fill); used = got .used; written = 0; noted = 0 })
   fed-kept l =
       fed-by (still (stateAt o s n) (g .kept))
-      (heard-is ∙ kept-heard o s n (keptIn m buf) part (omega (arith, w, ap (λ (x : Mark). x .lines) mark-is)))
+      (heard-is ∙ kept-heard o s n (keptIn m buf) part (omega (arith, w, ap (λ (x : Fill). x .lines) fill-is)))
       (record {
-        copier = own-with o s n m h (got .mark) ∙ ap (copierIn (stateAt o s n)) mark-is;
+        copier = own-with o s n m h (got .fill) ∙ ap (copierIn (stateAt o s n)) fill-is;
         copied = record { count = refl; sheet = refl };
         said = record { count = refl; sheet = refl };
       })
-      (ap (λ (x : Mark). keptIn x buf2) mark-is ∙ ap (keptIn (markOf (g .kept))) buf-is ∙ kept-back (g .kept) buf)
+      (ap (λ (x : Fill). keptIn x buf2) fill-is ∙ ap (keptIn (fillOf (g .kept))) buf-is ∙ kept-back (g .kept) buf)
 
-  pub fed-whole : {t : Step} {copy2 notes2 : List ℕ} → want ≤ got .mark .lines
-      → Gave (linesDone (stateAt o s n) (take (got .mark .count - 0) (drop 0 buf2))) copy notes copy2 notes2 (t .copier) (t .written) (t .noted)
+  pub fed-whole : {t : CopierAfter} {copy2 notes2 : List ℕ} → want ≤ got .fill .lines
+      → Gave (linesDone (stateAt o s n) (take (got .fill .count - 0) (drop 0 buf2))) copy notes copy2 notes2 (t .copier) (t .written) (t .noted)
       → FedOn (copierAt o s n m) buf part copy notes buf2 copy2 notes2 (record { copier = t .copier; used = got .used; written = t .written; noted = t .noted })
   fed-whole {t} {copy2} {notes2} l v =
-      let i : got .mark .count - 0 ≡ length (g .kept .bytes) = omega (arith, ap (λ (x : Mark). x .count) mark-is) in
-      let bytes : take (got .mark .count - 0) (drop 0 buf2) ≡ g .kept .bytes =
+      let i : got .fill .count - 0 ≡ length (g .kept .bytes) = omega (arith, ap (λ (x : Fill). x .count) fill-is) in
+      let bytes : take (got .fill .count - 0) (drop 0 buf2) ≡ g .kept .bytes =
       ap (λ (j : ℕ). take j buf2) i ∙ ap (take (length (g .kept .bytes))) buf-is ∙ take-append-seam (g .kept .bytes) (drop (length (g .kept .bytes)) buf) in
       let x : Given = linesDone (stateAt o s n) (g .kept .bytes) in
       let u : Gave x copy notes copy2 notes2 (t .copier) (t .written) (t .noted) =
       subst (λ (y : List ℕ). Gave (linesDone (stateAt o s n) y) copy notes copy2 notes2 (t .copier) (t .written) (t .noted)) bytes v in
       fed-by x
-      (heard-is ∙ ends-heard o s n (keptIn m buf) part (h .lines) (omega (arith, w, ap (λ (y : Mark). y .lines) mark-is)))
+      (heard-is ∙ ends-heard o s n (keptIn m buf) part (h .lines) (omega (arith, w, ap (λ (y : Fill). y .lines) fill-is)))
       u
-      (ap (λ (d : Copier). keptIn (d .mark) buf2) (u .copier)
-      ∙ ap (λ (k : Mark). keptIn k buf2) (mark-in (x .state) (markOf (x .kept)))
-      ∙ ap (λ (k : Kept). keptIn (markOf k) buf2) (done-nothing (stateAt o s n) (g .kept .bytes))
+      (ap (λ (d : Copier). keptIn (d .fill) buf2) (u .copier)
+      ∙ ap (λ (k : Fill). keptIn k buf2) (fill-in (x .state) (fillOf (x .kept)))
+      ∙ ap (λ (k : Kept). keptIn (fillOf k) buf2) (done-nothing (stateAt o s n) (g .kept .bytes))
       ∙ sym (done-nothing (stateAt o s n) (g .kept .bytes)))
 
 -- ---- behind a bad sheet
 
-pub fed-shut : (c : Copier) (buf part copy notes : List ℕ) → Held c → c .mark .count ≤ length buf → c .shut ≡ true
+pub fed-shut : (c : Copier) (buf part copy notes : List ℕ) → Held c → c .fill .count ≤ length buf → c .shut ≡ true
     → FedOn c buf part copy notes buf copy notes (record { copier = c; used = length part; written = 0; noted = 0 })
 fed-shut c buf part copy notes h l e =
     fed-by (still Shut (keptBy c buf))
     (ap (λ (x : State). onward x (keptBy c buf) (take (length part) part)) (state-shut c e) ∙ shut-onward (keptBy c buf) (take (length part) part))
     (record {
-      copier = h .own ∙ ap (λ (x : State). copierIn x (c .mark)) (state-shut c e) ∙ ap (copierIn Shut) (mark-back (c .mark) buf l);
+      copier = h .own ∙ ap (λ (x : State). copierIn x (c .fill)) (state-shut c e) ∙ ap (copierIn Shut) (fill-back (c .fill) buf l);
       copied = record { count = refl; sheet = refl };
       said = record { count = refl; sheet = refl };
     })
@@ -160,10 +160,10 @@ used-shut c buf part e = (
 
 -- ---- a copier that is not shut, field by field
 
-pub copier-is : (c : Copier) → c .shut ≡ false → c ≡ copierAt (c .opened) (c .sheet) (c .count) (c .mark)
-copier-is c e = ap (λ (s : Bool). record { opened = c .opened; shut = s; sheet = c .sheet; count = c .count; mark = c .mark }) e
+pub copier-is : (c : Copier) → c .shut ≡ false → c ≡ copierAt (c .opened) (c .sheet) (c .count) (c .fill)
+copier-is c e = ap (λ (s : Bool). record { opened = c .opened; shut = s; sheet = c .sheet; count = c .count; fill = c .fill }) e
 
-pub held-as : (c : Copier) → c .shut ≡ false → Held c → Held (copierAt (c .opened) (c .sheet) (c .count) (c .mark))
+pub held-as : (c : Copier) → c .shut ≡ false → Held c → Held (copierAt (c .opened) (c .sheet) (c .count) (c .fill))
 held-as c e h = subst Held (copier-is c e) h
 
 pub fed-as : {c d : Copier} {buf part copy notes buf2 copy2 notes2 : List ℕ} {r : Fed} → c ≡ d → FedOn d buf part copy notes buf2 copy2 notes2 r

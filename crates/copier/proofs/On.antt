@@ -16,9 +16,9 @@ use Rattle.laws.proofs.Tests.{test, both-true}
 use Rattle.laws.proofs.Sums.{le-or-lt}
 use Rattle.text.proofs.Parts.{part-is}
 use Rattle.writing.proofs.Sheets.{then}
-use Rattle.lines.specs.declared.Mark.{Mark}
-use Rattle.lines.specs.Kept.{Kept, keptMost, markOf}
-use Rattle.lines.proofs.Keeps.{mark-back}
+use Rattle.lines.specs.declared.Fill.{Fill}
+use Rattle.lines.specs.Kept.{Kept, keptMost, fillOf}
+use Rattle.lines.proofs.Keeps.{fill-back}
 use Rattle.logs.specs.FairCopy.{noteMost}
 use Rattle.copier.specs.declared.Copier.{Copier}
 use Rattle.copier.specs.declared.Fed.{Fed}
@@ -26,7 +26,7 @@ use Rattle.copier.specs.Onward.{State, Unread, Open, Shut, Given, andThe
 use Rattle.copier.specs.Feeding.{stateOf, keptBy, copierIn, Held, Gave, heardOf, FedOn, HeardTo, roomFor, goesOn}
 use Rattle.copier.proofs.Onward.{onward-append}
 
-state-in : (s : State) (m : Mark) → stateOf (copierIn s m) ≡ s
+state-in : (s : State) (m : Fill) → stateOf (copierIn s m) ≡ s
 unfolding stateOf
 state-in Unread m = refl
 state-in (Open s n) m = refl
@@ -48,7 +48,7 @@ fed-state : {c : Copier} {buf part copy notes buf2 copy2 notes2 : List ℕ} (r :
     → stateOf (r .copier) ≡ heardOf c buf part (r .used) .state
 fed-state {c} {buf} {part} r f =
     let x : Given = heardOf c buf part (r .used) in
-    ap stateOf (f .gave .copier) ∙ state-in (x .state) (markOf (x .kept))
+    ap stateOf (f .gave .copier) ∙ state-in (x .state) (fillOf (x .kept))
 
 -- ---- the test
 
@@ -91,7 +91,7 @@ on-start c buf part copy notes h n = record {
   first = λ e. (refl, refl);
   fed = record {
     gave = record {
-      copier = h .own ∙ ap (copierIn (stateOf c)) (mark-back (c .mark) buf (omega (arith, h .room .most)));
+      copier = h .own ∙ ap (copierIn (stateOf c)) (fill-back (c .fill) buf (omega (arith, h .room .most)));
       copied = record { count = refl; sheet = refl };
       said = record { count = refl; sheet = refl };
     };

@@ -14,8 +14,8 @@ use Rattle.laws.specs.Tests.{pick}
 use Rattle.laws.proofs.Sums.{le-or-lt}
 use Rattle.paper.specs.declared.Sheet.{Sheet}
 use Rattle.text.specs.TableSheet.{sheetLines, sheetOf, sheetEnd}
-use Rattle.text.specs.declared.sheet.Opening.{Opening}
-use Rattle.text.specs.declared.sheet.Opening.the-variants.{Read, Bad}
+use Rattle.text.specs.declared.sheet.SheetRead.{SheetRead}
+use Rattle.text.specs.declared.sheet.SheetRead.the-variants.{Read, Bad}
 use Rattle.text.proofs.Lines.{after-lines-no-longer}
 use Rattle.blocks.specs.Block.{restOf, blockOf}
 use Rattle.blocks.specs.declared.Block.{Block}
@@ -136,10 +136,10 @@ pub record Fair (log : List ℕ) (x : Given) : Type 0 where
   pub copy : x .copy ≡ fairCopy log
   pub notes : x .notes ≡ leftOut log
 
-abbrev FairBy : Opening → List ℕ → Given → Type 0
+abbrev FairBy : SheetRead → List ℕ → Given → Type 0
 FairBy o log x = (x .copy ≡ fairFrom o log) × (x .notes ≡ saidFrom o log)
 
-opened-onward : (o : Opening) (log : List ℕ) → FairBy o log (closed (andThen (sheetDone o) (onward (sheetDone o .state) (sheetDone o .kept) (sheetEnd log))))
+opened-onward : (o : SheetRead) (log : List ℕ) → FairBy o log (closed (andThen (sheetDone o) (onward (sheetDone o .state) (sheetDone o .kept) (sheetEnd log))))
 unfolding sheetEnd
 opened-onward (Read s) log =
     let y : Given = onward (Open s 0) nothing (sheetEnd log) in
@@ -167,7 +167,7 @@ fair-heard log = fair-by log (closed (onward Unread nothing log)) (⊎-elim
     ∙ ap (λ (l : List ℕ). andThen (sheetDone (sheetOf log)) (onward (sheetDone (sheetOf log) .state) (sheetDone (sheetOf log) .kept) l)) (k .1) in
     subst (λ (x : Given). FairBy (sheetOf log) log (closed x)) (sym all) (opened-onward (sheetOf log) log))
     (λ h.
-    subst (λ (o : Opening). FairBy o log (closed (onward Unread nothing log))) (sym (sheet-open log h))
+    subst (λ (o : SheetRead). FairBy o log (closed (onward Unread nothing log))) (sym (sheet-open log h))
     (subst (λ (x : Given). FairBy Bad log (closed x)) (sym (open-onward Unread log refl h)) (refl, refl)))
     (le-or-lt sheetLines (lfs log)))
 

@@ -15,15 +15,15 @@ use Rattle.paper.specs.declared.Sheet.{Sheet}
 use Rattle.paper.specs.declared.Entry.{Entry}
 use Rattle.text.specs.Codes.{eleven}
 use Rattle.text.specs.TableSheet.{sheetOf, sheetEnd}
-use Rattle.text.specs.declared.sheet.Opening.{Opening}
+use Rattle.text.specs.declared.sheet.SheetRead.{SheetRead}
 use Rattle.text.proofs.SheetLaws.{sheet-is}
 use Rattle.blocks.specs.Block.{blockOf, restOf}
 use Rattle.blocks.specs.Entry.{parsedOf}
 use Rattle.blocks.specs.declared.Block.{Block}
 use Rattle.blocks.specs.declared.Block.the-variants.{Raw, Malformed, Nothing}
 use Rattle.blocks.specs.declared.Parsed.{Parsed}
-use Rattle.writing.specs.Sheet.{Wrote, over, fits, sheetAfter}
-use Rattle.lines.specs.Kept.{nothing, markOf}
+use Rattle.writing.specs.AnswerSheet.{Wrote, over, fits, sheetAfter}
+use Rattle.lines.specs.Kept.{nothing, fillOf}
 use Rattle.lines.proofs.Keeps.{empty-room}
 use Rattle.logs.specs.declared.Put.the-variants.{Bytes, NoRoom}
 use Rattle.logs.specs.declared.copy.Copied.{Copied}
@@ -34,7 +34,7 @@ use Rattle.logs.proofs.SheetText.{sheet-back}
 use Rattle.copier.specs.declared.Copier.{Copier}
 use Rattle.copier.specs.Onward.{State, Unread, Open, Shut, Given, still, blockDone, sheetDone, linesDone, closing}
 use Rattle.copier.specs.Feeding.{stateAt, stateOf, keptBy, copierIn, Held, Gave}
-use Rattle.text.specs.declared.sheet.Opening.the-variants as opening
+use Rattle.text.specs.declared.sheet.SheetRead.the-variants as read-as
 use Rattle.blocks.specs.declared.Parsed.the-variants as parsed
 
 -- ---- a block's copy is no longer than the block
@@ -77,7 +77,7 @@ module _ (s : Sheet) (log buffer : List ℕ) (h : length log ≤ length buffer) 
       (record { count = ap (λ (x : Copied). x .written) q; sheet = f ∙ copy-fits }, ap (λ (x : Copied). x .code) q)
 
 -- and a sheet's no longer than the sheet
-module _ (log : List ℕ) (s : Sheet) (e : sheetOf log ≡ opening.Read s) (buffer : List ℕ) (h : length log ≤ length buffer) where
+module _ (log : List ℕ) (s : Sheet) (e : sheetOf log ≡ read-as.Read s) (buffer : List ℕ) (h : length log ≤ length buffer) where
   pub sheet-copied : {k : Copied} {new : List ℕ} → k ≡ copiedAs (putOf (isSheet s) (sheetText s) buffer) → new ≡ putAfter (isSheet s) (sheetText s) buffer
       → Wrote (sheetText s) buffer new (k .written)
   sheet-copied {k} {new} f g =
@@ -97,14 +97,14 @@ module _ (log : List ℕ) (s : Sheet) (e : sheetOf log ≡ opening.Read s) (buff
 
 -- ---- whole lines
 
-pub held-in : (s : State) → Held (copierIn s (markOf nothing))
+pub held-in : (s : State) → Held (copierIn s (fillOf nothing))
 unfolding stateOf
 held-in Unread = record { own = refl; room = empty-room; lines = omega arith }
 held-in (Open s n) = record { own = refl; room = empty-room; lines = omega arith }
 held-in Shut = record { own = refl; room = empty-room; lines = omega arith }
 
 -- with nothing kept a copier in a state is held
-pub made : {d : Copier} (s : State) → d ≡ copierIn s (markOf nothing) → (d ≡ copierIn s (markOf nothing)) × Held d
+pub made : {d : Copier} (s : State) → d ≡ copierIn s (fillOf nothing) → (d ≡ copierIn s (fillOf nothing)) × Held d
 made {d} s e = (e, subst Held (sym e) (held-in s))
 
 note-room : (n code room : ℕ) → noteMost ≤ room → noteIn n code room ≡ noteOf n code
@@ -112,29 +112,29 @@ note-room n code room h = ap (λ (t : Bool). pick (eqb code taken) [] (pick t (n
 
 pub block-gave : (s : Sheet) (count : ℕ) (block copy notes : List ℕ) → length block ≤ length copy → noteMost ≤ length notes
     → {n : ℕ} {k : Copied} {d : Copier} {copy2 notes2 : List ℕ} {noted : ℕ} → n ≡ nextNumber count → k ≡ copiedOf s block copy
-    → copy2 ≡ sheetAfter (blockCopy s block) copy → Wrote (noteIn n (k .code) (length notes)) notes notes2 noted → d ≡ copierIn (Open s n) (markOf nothing)
+    → copy2 ≡ sheetAfter (blockCopy s block) copy → Wrote (noteIn n (k .code) (length notes)) notes notes2 noted → d ≡ copierIn (Open s n) (fillOf nothing)
     → Gave (blockDone s count block) copy notes copy2 notes2 d (k .written) noted
 block-gave s count block copy notes h r {n} {k} {d} {copy2} {notes2} {noted} e f g w q =
     let b = block-copied s block copy h f g in
     record {
-      copier = q ∙ ap (λ (i : ℕ). copierIn (Open s i) (markOf nothing)) e;
+      copier = q ∙ ap (λ (i : ℕ). copierIn (Open s i) (fillOf nothing)) e;
       copied = b .0;
       said = subst (λ (l : List ℕ). Wrote l notes notes2 noted)
           (note-room n (k .code) (length notes) r ∙ ap (λ (i : ℕ). noteOf i (k .code)) e ∙ ap (noteOf (nextNumber count)) (b .1)) w;
     }
 
-module _ (block copy notes : List ℕ) {o : Opening} (e : o ≡ sheetOf block) where
-  pub bad-gave : {notes2 : List ℕ} {d : Copier} {r : ℕ} → o ≡ opening.Bad → Wrote eleven notes notes2 r → d ≡ copierIn Shut (markOf nothing)
+module _ (block copy notes : List ℕ) {o : SheetRead} (e : o ≡ sheetOf block) where
+  pub bad-gave : {notes2 : List ℕ} {d : Copier} {r : ℕ} → o ≡ read-as.Bad → Wrote eleven notes notes2 r → d ≡ copierIn Shut (fillOf nothing)
       → Gave (linesDone Unread block) copy notes copy notes2 d 0 r
   bad-gave {notes2} {d} {r} q w g =
-      subst (λ (x : Opening). Gave (sheetDone x) copy notes copy notes2 d 0 r) (sym q ∙ e)
+      subst (λ (x : SheetRead). Gave (sheetDone x) copy notes copy notes2 d 0 r) (sym q ∙ e)
       (record { copier = g; copied = record { count = refl; sheet = refl }; said = w })
 
-  pub read-gave : {s : Sheet} {k : Copied} {copy2 : List ℕ} {d : Copier} → o ≡ opening.Read s → length block ≤ length copy
-      → k ≡ copiedAs (putOf (isSheet s) (sheetText s) copy) → copy2 ≡ putAfter (isSheet s) (sheetText s) copy → d ≡ copierIn (Open s 0) (markOf nothing)
+  pub read-gave : {s : Sheet} {k : Copied} {copy2 : List ℕ} {d : Copier} → o ≡ read-as.Read s → length block ≤ length copy
+      → k ≡ copiedAs (putOf (isSheet s) (sheetText s) copy) → copy2 ≡ putAfter (isSheet s) (sheetText s) copy → d ≡ copierIn (Open s 0) (fillOf nothing)
       → Gave (linesDone Unread block) copy notes copy2 notes d (k .written) 0
   read-gave {s} {k} {copy2} {d} q h f g c =
-      subst (λ (x : Opening). Gave (sheetDone x) copy notes copy2 notes d (k .written) 0) (sym q ∙ e)
+      subst (λ (x : SheetRead). Gave (sheetDone x) copy notes copy2 notes d (k .written) 0) (sym q ∙ e)
       (record { copier = c; copied = sheet-copied block s (sym e ∙ q) copy h f g; said = record { count = refl; sheet = refl } })
 
 pub gave-as : (s : Sheet) (count : ℕ) (block : List ℕ) {o p : Bool} {copy notes copy2 notes2 : List ℕ} {w n : ℕ} {d : Copier} → p ≡ o
@@ -173,21 +173,21 @@ module _ (c : Copier) (buf copy notes : List ℕ) where
   open-is : c .shut ≡ false → c .opened ≡ true → stateOf c ≡ Open (c .sheet) (c .count)
   open-is e f = state-else c e ∙ ap (λ (b : Bool). stateAt b (c .sheet) (c .count)) f
 
-  size : c .mark .count ≤ length buf → length (take (c .mark .count) buf) ≡ c .mark .count
-  size h = omega (arith, length-take (c .mark .count) buf)
+  size : c .fill .count ≤ length buf → length (take (c .fill .count) buf) ≡ c .fill .count
+  size h = omega (arith, length-take (c .fill .count) buf)
 
-  pub close-none : c .mark .count ≤ length buf → c .shut ≡ false → c .opened ≡ true → c .mark .count ≡ 0 → Closes copy notes 0 0 closing-is
+  pub close-none : c .fill .count ≤ length buf → c .shut ≡ false → c .opened ≡ true → c .fill .count ≡ 0 → Closes copy notes 0 0 closing-is
   close-none h e f g =
       closed-by (Open (c .sheet) (c .count)) (open-is e f)
-      (subst (λ (b : Bool). Closes copy notes 0 0 (pick b (still (Open (c .sheet) (c .count)) nothing) (blockDone (c .sheet) (c .count) (take (c .mark .count) buf))))
-      (sym (eq-eqb (length (take (c .mark .count) buf)) 0 (size h ∙ g))) (none (Open (c .sheet) (c .count))))
+      (subst (λ (b : Bool). Closes copy notes 0 0 (pick b (still (Open (c .sheet) (c .count)) nothing) (blockDone (c .sheet) (c .count) (take (c .fill .count) buf))))
+      (sym (eq-eqb (length (take (c .fill .count) buf)) 0 (size h ∙ g))) (none (Open (c .sheet) (c .count))))
 
-  pub close-block : {d : Copier} {copy2 notes2 : List ℕ} {w n : ℕ} → c .mark .count ≤ length buf → c .shut ≡ false → c .opened ≡ true → (c .mark .count ≡ 0 → ⊥)
-      → Gave (blockDone (c .sheet) (c .count) (take (c .mark .count - 0) (drop 0 buf))) copy notes copy2 notes2 d w n → w ≤ length copy → n ≤ length notes
+  pub close-block : {d : Copier} {copy2 notes2 : List ℕ} {w n : ℕ} → c .fill .count ≤ length buf → c .shut ≡ false → c .opened ≡ true → (c .fill .count ≡ 0 → ⊥)
+      → Gave (blockDone (c .sheet) (c .count) (take (c .fill .count - 0) (drop 0 buf))) copy notes copy2 notes2 d w n → w ≤ length copy → n ≤ length notes
       → Closes copy2 notes2 w n closing-is
   close-block {d} {copy2} {notes2} {w} {n} h e f g p wl nl =
-      let i : c .mark .count - 0 ≡ c .mark .count = omega arith in
-      let log : List ℕ = take (c .mark .count) buf in
+      let i : c .fill .count - 0 ≡ c .fill .count = omega arith in
+      let log : List ℕ = take (c .fill .count) buf in
       let q : Gave (blockDone (c .sheet) (c .count) log) copy notes copy2 notes2 d w n =
       subst (λ (j : ℕ). Gave (blockDone (c .sheet) (c .count) (take j buf)) copy notes copy2 notes2 d w n) i p in
       closed-by (Open (c .sheet) (c .count)) (open-is e f)

@@ -6,11 +6,11 @@ use mathlib.Core.Bool.{Bool, true, false}
 use lib.ListN.{length, take, drop}
 use lib.Dec.{ltb, leb}
 use Rattle.laws.specs.Tests.{pick, both}
-use Rattle.writing.specs.Sheet.{over, Wrote}
+use Rattle.writing.specs.AnswerSheet.{over, Wrote}
 use Rattle.paper.specs.Paper.{standIn}
 use Rattle.paper.specs.declared.Sheet.{Sheet}
-use Rattle.lines.specs.declared.Mark.{Mark}
-use Rattle.lines.specs.Kept.{Kept, nothing, Gathered, gatherOf, keptIn, markOf, Room, keptMost, linesOf}
+use Rattle.lines.specs.declared.Fill.{Fill}
+use Rattle.lines.specs.Kept.{Kept, nothing, Gathered, gatherOf, keptIn, fillOf, Room, keptMost, linesOf}
 use Rattle.logs.specs.FairCopy.{noteMost}
 use Rattle.copier.specs.declared.Copier.{Copier}
 use Rattle.copier.specs.declared.Fed.{Fed}
@@ -26,29 +26,29 @@ unfoldable pub stateOf : Copier → State
 stateOf c = pick (c .shut) Shut (stateAt (c .opened) (c .sheet) (c .count))
 
 abbrev pub keptBy : Copier → List ℕ → Kept
-keptBy c buf = keptIn (c .mark) buf
+keptBy c buf = keptIn (c .fill) buf
 
--- the copier in a state, with a mark of what is kept; where it has no sheet of its own a stand-in is there
-abbrev pub copierIn : State → Mark → Copier
-copierIn Unread m = record { opened = false; shut = false; sheet = standIn; count = 0; mark = m }
-copierIn (Open s n) m = record { opened = true; shut = false; sheet = s; count = n; mark = m }
-copierIn Shut m = record { opened = false; shut = true; sheet = standIn; count = 0; mark = m }
+-- the copier in a state, with the buffer's fill; where it has no sheet of its own a stand-in is there
+abbrev pub copierIn : State → Fill → Copier
+copierIn Unread m = record { opened = false; shut = false; sheet = standIn; count = 0; fill = m }
+copierIn (Open s n) m = record { opened = true; shut = false; sheet = s; count = n; fill = m }
+copierIn Shut m = record { opened = false; shut = true; sheet = standIn; count = 0; fill = m }
 
 -- what it keeps
 pub record Held (c : Copier) : Type 0 where
-  pub own : c ≡ copierIn (stateOf c) (c .mark)
-  pub room : Room (c .mark)
-  pub lines : c .mark .lines < linesOf (c .opened)
+  pub own : c ≡ copierIn (stateOf c) (c .fill)
+  pub room : Room (c .fill)
+  pub lines : c .fill .lines < linesOf (c .opened)
 
 -- before the first byte
 abbrev pub startOf : Copier
-startOf = copierIn Unread (markOf nothing)
+startOf = copierIn Unread (fillOf nothing)
 
 -- ---- what a call does
 
 -- what was given to bytes is what a call says and has written: the copier, the front of the copy and the front of the notes, each with the count of its bytes
 pub record Gave (x : Given) (copy notes copy2 notes2 : List ℕ) (d : Copier) (written noted : ℕ) : Type 0 where
-  pub copier : d ≡ copierIn (x .state) (markOf (x .kept))
+  pub copier : d ≡ copierIn (x .state) (fillOf (x .kept))
   pub copied : Wrote (x .copy) copy copy2 written
   pub said : Wrote (x .notes) notes notes2 noted
 

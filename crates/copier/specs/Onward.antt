@@ -10,8 +10,8 @@ use Rattle.laws.specs.Tests.{pick}
 use Rattle.paper.specs.declared.Sheet.{Sheet}
 use Rattle.text.specs.TableSheet.{sheetOf}
 use Rattle.text.specs.Codes.{eleven}
-use Rattle.text.specs.declared.sheet.Opening.{Opening}
-use Rattle.text.specs.declared.sheet.Opening.the-variants.{Read, Bad}
+use Rattle.text.specs.declared.sheet.SheetRead.{SheetRead}
+use Rattle.text.specs.declared.sheet.SheetRead.the-variants.{Read, Bad}
 use Rattle.lines.specs.Kept.{Kept, nothing, keepOf, linesOf}
 use Rattle.logs.specs.LogText.{sheetText}
 use Rattle.logs.specs.FairCopy.{blockCode, blockCopy, nextNumber, noteOf}
@@ -47,7 +47,7 @@ blockDone s count block = record {
 }
 
 -- a sheet is copied, or is bad and shuts the copier
-abbrev pub sheetDone : Opening → Given
+abbrev pub sheetDone : SheetRead → Given
 sheetDone (Read s) = record { state = Open s 0; kept = nothing; copy = sheetText s; notes = [] }
 sheetDone Bad = record { state = Shut; kept = nothing; copy = []; notes = eleven }
 

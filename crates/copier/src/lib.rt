@@ -1,6 +1,6 @@
 // A log copied fair as it comes in parts: the unfinished sheet or block is kept, each line cut after 33 bytes, and copied or noted as left out at its last LF.
 use laws::both;
-use lines::Mark;
+use lines::Fill;
 use lines::empty;
 use lines::gather;
 use lines::lines_of;
@@ -11,8 +11,8 @@ use logs::copy::next_number;
 use logs::copy::write_note;
 use paper::STAND_IN;
 use paper::Sheet;
-use text::sheet::Opening;
 use text::sheet::ROOM;
+use text::sheet::SheetRead;
 use text::sheet::read_sheet;
 use writing::put_bytes;
 ghost use mathlib.Core.Path.{_≡_};
@@ -20,9 +20,9 @@ ghost use mathlib.Core.Bool.{false};
 ghost use mathlib.Core.Logic.{_⊎_};
 ghost use Prim.Native.Nat.{_+_, _-_, _≤_, _<_};
 ghost use lib.ListN.{length};
-ghost use Rattle.writing.specs.Sheet.{Wrote};
+ghost use Rattle.writing.specs.AnswerSheet.{Wrote};
 ghost use Rattle.text.specs.Codes.{eleven};
-ghost use Rattle.lines.specs.Kept.{nothing, markOf, keptMost};
+ghost use Rattle.lines.specs.Kept.{nothing, fillOf, keptMost};
 ghost use Rattle.logs.specs.FairCopy.{noteMost};
 ghost use Rattle.copier.specs.Onward.{Unread, Open, Shut, linesDone, closing};
 ghost use Rattle.copier.specs.Feeding.{stateAt, stateOf, keptBy, copierIn, Held, startOf, Gave, FedOn, usedOf, bufferOf, roomFor, goesOn};
@@ -33,7 +33,7 @@ pub struct Copier {
     pub shut: bool,
     pub sheet: Sheet,
     pub count: u32,
-    pub mark: Mark,
+    pub fill: Fill,
 }
 
 // The copier after a part of the log, how many of its bytes are used up, and how many bytes of the copy and of the notes are written.
@@ -45,7 +45,7 @@ pub struct Fed {
 }
 
 // Whole lines: the copier after them, with nothing kept.
-pub struct Step {
+pub struct CopierAfter {
     pub copier: Copier,
     pub written: usize,
     pub noted: usize,
@@ -62,13 +62,13 @@ pub fn start() -> Copier
         shut: false,
         sheet: s,
         count: 0,
-        mark: z,
+        fill: z,
     }
 }
 
 // Behind the sheet or a block, with nothing kept.
 fn behind(s: Sheet, count: u32) -> Copier
-    ensures { λ r. ⌜ (r ≡ copierIn (Open s count) (markOf nothing)) × Held r ⌝ }
+    ensures { λ r. ⌜ (r ≡ copierIn (Open s count) (fillOf nothing)) × Held r ⌝ }
 {
     let z = empty();
     Copier {
@@ -76,13 +76,13 @@ fn behind(s: Sheet, count: u32) -> Copier
         shut: false,
         sheet: s,
         count,
-        mark: z,
+        fill: z,
     }
 }
 
 // Behind a bad sheet.
 fn closed_down() -> Copier
-    ensures { λ r. ⌜ (r ≡ copierIn Shut (markOf nothing)) × Held r ⌝ }
+    ensures { λ r. ⌜ (r ≡ copierIn Shut (fillOf nothing)) × Held r ⌝ }
 {
     let s = STAND_IN;
     let z = empty();
@@ -91,7 +91,7 @@ fn closed_down() -> Copier
         shut: true,
         sheet: s,
         count: 0,
-        mark: z,
+        fill: z,
     }
 }
 
@@ -104,7 +104,7 @@ fn note_bad(notes: &mut [u8]) -> usize
 }
 
 // A block behind the first `count`.
-fn whole_block(s: Sheet, count: u32, block: &[u8], copy: &mut [u8], notes: &mut [u8]) -> Step
+fn whole_block(s: Sheet, count: u32, block: &[u8], copy: &mut [u8], notes: &mut [u8]) -> CopierAfter
     requires { ⌜ (length (now block) ≤ length (now copy)) × (noteMost ≤ length (now notes)) ⌝ }
     ensures gave { λ r. ⌜ Gave (linesDone (Open s count) (now (block .entry))) (now (copy .entry)) (now (notes .entry)) (now (copy .exit)) (now (notes .exit)) (r .copier) (r .written) (r .noted) ⌝ }
     ensures held { λ r. ⌜ Held (r .copier) × (r .written ≤ length (now (copy .entry))) × (r .noted ≤ length (now (notes .entry))) ⌝ }
@@ -113,7 +113,7 @@ fn whole_block(s: Sheet, count: u32, block: &[u8], copy: &mut [u8], notes: &mut 
     let k = copy_block(s, block, copy);
     let noted = write_note(n, k.code, notes);
     let d = behind(s, n);
-    Step {
+    CopierAfter {
         copier: d,
         written: k.written,
         noted,
@@ -121,24 +121,24 @@ fn whole_block(s: Sheet, count: u32, block: &[u8], copy: &mut [u8], notes: &mut 
 }
 
 // The sheet: it is copied, or is bad, and nothing will be copied.
-fn whole_sheet(block: &[u8], copy: &mut [u8], notes: &mut [u8]) -> Step
+fn whole_sheet(block: &[u8], copy: &mut [u8], notes: &mut [u8]) -> CopierAfter
     requires { ⌜ (length (now block) ≤ length (now copy)) × (noteMost ≤ length (now notes)) ⌝ }
     ensures gave { λ r. ⌜ Gave (linesDone Unread (now (block .entry))) (now (copy .entry)) (now (notes .entry)) (now (copy .exit)) (now (notes .exit)) (r .copier) (r .written) (r .noted) ⌝ }
     ensures held { λ r. ⌜ Held (r .copier) × (r .written ≤ length (now (copy .entry))) × (r .noted ≤ length (now (notes .entry))) ⌝ }
 {
     match read_sheet(block) {
-        Opening::Bad => {
+        SheetRead::Bad => {
             let d = closed_down();
-            Step {
+            CopierAfter {
                 copier: d,
                 written: 0,
                 noted: note_bad(notes),
             }
         }
-        Opening::Read(s) => {
+        SheetRead::Read(s) => {
             let k = copy_sheet(s, copy);
             let d = behind(s, 0);
-            Step {
+            CopierAfter {
                 copier: d,
                 written: k.written,
                 noted: 0,
@@ -155,7 +155,7 @@ fn whole(
     block: &[u8],
     copy: &mut [u8],
     notes: &mut [u8],
-) -> Step
+) -> CopierAfter
     requires { ⌜ (length (now block) ≤ length (now copy)) × (noteMost ≤ length (now notes)) ⌝ }
     ensures gave { λ r. ⌜ Gave (linesDone (stateAt opened s count) (now (block .entry))) (now (copy .entry)) (now (notes .entry)) (now (copy .exit)) (now (notes .exit)) (r .copier) (r .written) (r .noted) ⌝ }
     ensures held { λ r. ⌜ Held (r .copier) × (r .written ≤ length (now (copy .entry))) × (r .noted ≤ length (now (notes .entry))) ⌝ }
@@ -171,20 +171,20 @@ fn feed_kept(
     opened: bool,
     s: Sheet,
     count: u32,
-    m: Mark,
+    m: Fill,
     buf: &mut [u8],
     part: &[u8],
     copy: &mut [u8],
     notes: &mut [u8],
 ) -> Fed
-    requires { ⌜ Held (record { opened = opened; shut = false; sheet = s; count = count; mark = m }) × (keptMost ≤ length (now buf)) × (keptMost ≤ length (now copy)) × (noteMost ≤ length (now notes)) ⌝ }
-    ensures fed { λ r. ⌜ FedOn (record { opened = opened; shut = false; sheet = s; count = count; mark = m }) (now (buf .entry)) (now (part .entry)) (now (copy .entry)) (now (notes .entry)) (now (buf .exit)) (now (copy .exit)) (now (notes .exit)) r ⌝ }
-    ensures used { λ r. ⌜ (r .used ≡ usedOf (record { opened = opened; shut = false; sheet = s; count = count; mark = m }) (now (buf .entry)) (now (part .entry))) × (now (buf .exit) ≡ bufferOf (record { opened = opened; shut = false; sheet = s; count = count; mark = m }) (now (buf .entry)) (now (part .entry))) ⌝ }
+    requires { ⌜ Held (record { opened = opened; shut = false; sheet = s; count = count; fill = m }) × (keptMost ≤ length (now buf)) × (keptMost ≤ length (now copy)) × (noteMost ≤ length (now notes)) ⌝ }
+    ensures fed { λ r. ⌜ FedOn (record { opened = opened; shut = false; sheet = s; count = count; fill = m }) (now (buf .entry)) (now (part .entry)) (now (copy .entry)) (now (notes .entry)) (now (buf .exit)) (now (copy .exit)) (now (notes .exit)) r ⌝ }
+    ensures used { λ r. ⌜ (r .used ≡ usedOf (record { opened = opened; shut = false; sheet = s; count = count; fill = m }) (now (buf .entry)) (now (part .entry))) × (now (buf .exit) ≡ bufferOf (record { opened = opened; shut = false; sheet = s; count = count; fill = m }) (now (buf .entry)) (now (part .entry))) ⌝ }
     ensures held { λ r. ⌜ Held (r .copier) × (r .used ≤ length (now (part .entry))) × (0 < length (now (part .entry)) → 0 < r .used) × (r .written ≤ length (now (copy .entry))) × (r .noted ≤ length (now (notes .entry))) ⌝ }
 {
     let want = lines_of(opened);
     let g = gather(buf, m, part, want);
-    let k = g.mark;
+    let k = g.fill;
     let n = k.lines;
     if n < want {
         let d = Copier {
@@ -192,7 +192,7 @@ fn feed_kept(
             shut: false,
             sheet: s,
             count: count,
-            mark: k,
+            fill: k,
         };
         return Fed {
             copier: d,
@@ -228,7 +228,7 @@ pub fn feed(c: Copier, buf: &mut [u8], part: &[u8], copy: &mut [u8], notes: &mut
         };
     }
     let s = c.sheet;
-    let m = c.mark;
+    let m = c.fill;
     feed_kept(c.opened, s, c.count, m, buf, part, copy, notes)
 }
 
@@ -298,7 +298,7 @@ pub fn close(c: Copier, buf: &[u8], copy: &mut [u8], notes: &mut [u8]) -> Closed
             noted: 0,
         };
     }
-    let m = c.mark;
+    let m = c.fill;
     let e = m.count;
     if c.opened {
         if e == 0 {

@@ -48,10 +48,10 @@ module _ (l : List ℕ) (five : 5 ≤ length l) (ranks : Ranks (map rank l)) (no
   ranks-best = plain-top (map rank l) (omega (arith, length-map l rank, five))
 
   -- a choice is worth what its ranks are, or is a straight that is not above the row found
-  abbrev Row : List ℕ → Type 0
-  Row c = (t : ℕ) × (0 < t) × (t ≤ foot) × (valueOf ranking52 c ≡ hand 4 (rowed t)) × ((plainOf (map rank c)) .class ≡ 8)
+  abbrev InARow : List ℕ → Type 0
+  InARow c = (t : ℕ) × (0 < t) × (t ≤ foot) × (valueOf ranking52 c ≡ hand 4 (rowed t)) × ((plainOf (map rank c)) .class ≡ 8)
 
-  kind : (c : List ℕ) → List·Memᴰ c (choices 5 l) → (valueOf ranking52 c ≡ plainOf (map rank c)) ⊎ Row c
+  kind : (c : List ℕ) → List·Memᴰ c (choices 5 l) → (valueOf ranking52 c ≡ plainOf (map rank c)) ⊎ InARow c
   kind c i =
       ⊎-elim
       (λ (p : inRow (compared c) ≡ true).
@@ -71,7 +71,7 @@ module _ (l : List ℕ) (five : 5 ≤ length l) (ranks : Ranks (map rank l)) (no
       (λ (v : valueOf ranking52 (c .0) ≡ plainOf (map rank (c .0))).
       subst (λ (w : Hand). beatsBy ranking52 w r ≡ false) (sym v)
       (unbeaten ranking52 (plainOf (map rank (c .0))) plain r (ranks-best .top (plainOf (map rank (c .0))) (Memᴰ·map plainOf (ranks-chosen l (c .0) (c .1)))) p))
-      (λ (v : Row (c .0)). subst (λ (w : Hand). beatsBy ranking52 w r ≡ false) (sym (v .3)) (s (v .0) (v .1) (v .2)))
+      (λ (v : InARow (c .0)). subst (λ (w : Hand). beatsBy ranking52 w r ≡ false) (sym (v .3)) (s (v .0) (v .1) (v .2)))
       (kind (c .0) (c .1)))
 
   -- the choice of which the best by ranks is the worth
@@ -96,7 +96,7 @@ module _ (l : List ℕ) (five : 5 ≤ length l) (ranks : Ranks (map rank l)) (no
         among =
             ⊎-elim
             (λ (v : valueOf ranking52 (plain-from .0) ≡ plainOf (map rank (plain-from .0))). Memᴰ·cast (sym (v ∙ plain-from .2)) (Memᴰ·map (valueOf ranking52) (plain-from .1)))
-            (λ (v : Row (plain-from .0)).
+            (λ (v : InARow (plain-from .0)).
             absurd (omega (arith, low (omega (arith, v .1, v .2)), v .4, ap (λ (h : Hand). h .class) (plain-from .2))))
             (kind (plain-from .0) (plain-from .1));
         top = none-beats plain (beats-irrefl ranking52 plain) (λ t a b. class-under (hand 4 (rowed t)) plain (omega (arith, low (omega (arith, a, b)))) (omega arith));

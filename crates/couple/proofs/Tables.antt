@@ -17,21 +17,21 @@ use Rattle.text.specs.Line.{numberLine}
 use Rattle.text.specs.Codes.{eleven}
 use Rattle.text.specs.declared.Number.{Number}
 use Rattle.text.specs.declared.Number.the-variants.{Value, Bad}
-use Rattle.text.specs.declared.sheet.Opening.{Opening}
-use Rattle.text.specs.declared.sheet.Opening.the-variants as opening
+use Rattle.text.specs.declared.sheet.SheetRead.{SheetRead}
+use Rattle.text.specs.declared.sheet.SheetRead.the-variants as read-as
 use Rattle.text.proofs.Lines.{line-count}
 use Rattle.text.proofs.Numbers.{count-most}
-use Rattle.writing.specs.Sheet.{Wrote, over}
+use Rattle.writing.specs.AnswerSheet.{Wrote, over}
 use Rattle.table.specs.declared.table.Table.{Table}
 use Rattle.table.specs.Take.{freshTable, Sound}
 use Rattle.pool.specs.Jackpot.{most, fitsIn, fedBy, openedWith}
 use Rattle.pool.specs.declared.Pool.{Pool}
-use Rattle.pool.specs.declared.Opening as opens
+use Rattle.pool.specs.declared.PoolOpened as opens
 use Rattle.laws.proofs.Tests.{test}
 use mathlib.Core.Logic.{_⊎_, inl, inr}
 use Rattle.frames.specs.Frames.{tableKey}
 use Rattle.couple.specs.declared.Pair.{Pair}
-use Rattle.couple.specs.declared.Step.{Step}
+use Rattle.couple.specs.declared.PairAfter.{PairAfter}
 use Rattle.couple.specs.Couple.{isSecond, placeOf, tableAt, withTable, startOf, shownBytes, poolKey, houseKey, lastBytes, Given, still, refused, poolDone, sheetDone, Gave, Good}
 
 -- ---- a table by its place
@@ -153,9 +153,9 @@ pub refuse-gave : (p : Pair) {out new : List ℕ} {w : ℕ} → Wrote eleven out
     → Gave (refused p) out new (record { shut = true; tables = p .tables; pool = p .pool; house = p .house }) w
 refuse-gave p w = record { pair = refl; wrote = w }
 
-pub opened-held : {o : opens.Opening} (v : ℕ) → o ≡ openedWith v → o .code ≡ taken → o .pool .held ≤ most
+pub opened-held : {o : opens.PoolOpened} (v : ℕ) → o ≡ openedWith v → o .code ≡ taken → o .pool .held ≤ most
 unfolding openedWith
-opened-held {o} v e c = subst (λ (x : opens.Opening). x .pool .held ≤ most) (sym e) (go (test (ltb most v)))
+opened-held {o} v e c = subst (λ (x : opens.PoolOpened). x .pool .held ≤ most) (sym e) (go (test (ltb most v)))
   where
     go : (ltb most v ≡ true) ⊎ (ltb most v ≡ false) → pick (ltb most v) 0 v ≤ most
     go (inl t) = subst (λ (b : Bool). pick b 0 v ≤ most) (sym t) (omega arith)
@@ -180,12 +180,12 @@ module _ (p : Pair) {n : Number} where
   pub pool-bad : {x : Number} {q : Pair} {out new : List ℕ} {w : ℕ} → n ≡ x → n ≡ Bad → Gave (refused p) out new q w → Gave (poolDone p x) out new q w
   pool-bad {x} {q} {out} {new} {w} e f g = subst (λ (y : Number). Gave (poolDone p y) out new q w) (sym f ∙ e) g
 
-module _ (p : Pair) (due : ℕ) {o x : Opening} {q : Pair} {out new : List ℕ} {w : ℕ} (e : o ≡ x) where
-  pub sheet-bad : o ≡ opening.Bad → Gave (refused p) out new q w → Gave (sheetDone p due x) out new q w
-  sheet-bad f g = subst (λ (y : Opening). Gave (sheetDone p due y) out new q w) (sym f ∙ e) g
+module _ (p : Pair) (due : ℕ) {o x : SheetRead} {q : Pair} {out new : List ℕ} {w : ℕ} (e : o ≡ x) where
+  pub sheet-bad : o ≡ read-as.Bad → Gave (refused p) out new q w → Gave (sheetDone p due x) out new q w
+  sheet-bad f g = subst (λ (y : SheetRead). Gave (sheetDone p due y) out new q w) (sym f ∙ e) g
 
-  pub sheet-gave : {s : Sheet} → o ≡ opening.Read s → Gave (sheetDone p due (opening.Read s)) out new q w → Gave (sheetDone p due x) out new q w
-  sheet-gave f g = subst (λ (y : Opening). Gave (sheetDone p due y) out new q w) (sym f ∙ e) g
+  pub sheet-gave : {s : Sheet} → o ≡ read-as.Read s → Gave (sheetDone p due (read-as.Read s)) out new q w → Gave (sheetDone p due x) out new q w
+  sheet-gave f g = subst (λ (y : SheetRead). Gave (sheetDone p due y) out new q w) (sym f ∙ e) g
 
 -- a table that a sheet opens
 pub sheet-with : (p : Pair) (due : ℕ) (s : Sheet) {second : Bool} {t : Table} {ts : List Table} → Good p → second ≡ isSecond due → (t ≡ freshTable s) × Sound t → ts ≡ withTable (p .tables) second t

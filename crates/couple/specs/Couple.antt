@@ -15,15 +15,15 @@ use Rattle.text.specs.Codes.{eleven}
 use Rattle.text.specs.TableSheet.{sheetOf}
 use Rattle.text.specs.declared.Number.{Number}
 use Rattle.text.specs.declared.Number.the-variants.{Value, Bad}
-use Rattle.text.specs.declared.sheet.Opening.{Opening}
-use Rattle.writing.specs.Sheet.{Wrote}
+use Rattle.text.specs.declared.sheet.SheetRead.{SheetRead}
+use Rattle.writing.specs.AnswerSheet.{Wrote}
 use Rattle.table.specs.declared.table.Table.{Table}
 use Rattle.table.specs.Take.{freshTable, Sound}
 use Rattle.pool.specs.Jackpot.{most, fedBy, openedWith}
 use Rattle.pool.specs.declared.Pool.{Pool}
 use Rattle.frames.specs.Frames.{tableKey, strayDue}
 use Rattle.couple.specs.declared.Pair.{Pair}
-use Rattle.text.specs.declared.sheet.Opening.the-variants as opening
+use Rattle.text.specs.declared.sheet.SheetRead.the-variants as read-as
 
 -- ---- the tables: table 1 stands first
 
@@ -95,9 +95,9 @@ abbrev pub poolDone : Pair → Number → Given
 poolDone p (Value v) = pick (eqb (openedWith v .code) taken) (still (record { shut = p .shut; tables = p .tables; pool = openedWith v .pool; house = p .house })) (refused p)
 poolDone p Bad = refused p
 
-abbrev pub sheetDone : Pair → ℕ → Opening → Given
-sheetDone p due (opening.Read s) = still (record { shut = p .shut; tables = withTable (p .tables) (isSecond due) (freshTable s); pool = p .pool; house = p .house })
-sheetDone p due opening.Bad = refused p
+abbrev pub sheetDone : Pair → ℕ → SheetRead → Given
+sheetDone p due (read-as.Read s) = still (record { shut = p .shut; tables = withTable (p .tables) (isSecond due) (freshTable s); pool = p .pool; house = p .house })
+sheetDone p due read-as.Bad = refused p
 
 -- ---- what a call says
 

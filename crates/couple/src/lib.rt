@@ -13,7 +13,7 @@ use table::table::Table;
 use table::take::new_table;
 use text::Number;
 use text::read_key_number;
-use text::sheet::Opening;
+use text::sheet::SheetRead;
 use text::sheet::read_sheet;
 use writing::put_bytes;
 use writing::write_number_line;
@@ -21,7 +21,7 @@ ghost use mathlib.Core.Path.{_≡_};
 ghost use mathlib.Core.Bool.{true};
 ghost use Prim.Native.Nat.{_+_, _-_, _≤_, _<_};
 ghost use lib.ListN.{length};
-ghost use Rattle.writing.specs.Sheet.{Wrote};
+ghost use Rattle.writing.specs.AnswerSheet.{Wrote};
 ghost use Rattle.text.specs.Line.{lineNumber};
 ghost use Rattle.text.specs.TableSheet.{sheetOf};
 ghost use Rattle.paper.specs.Paper.{isSheet};
@@ -42,7 +42,7 @@ pub struct Pair {
 }
 
 // The pair after a piece, and how many bytes were written to it.
-pub struct Step {
+pub struct PairAfter {
     pub pair: Pair,
     pub written: usize,
 }
@@ -122,7 +122,7 @@ pub fn put_shown(out: &mut [u8], only: u8, due: u8, answer: &[u8]) -> usize
 }
 
 // The opening is bad.
-pub fn refuse(p: Pair, out: &mut [u8]) -> Step
+pub fn refuse(p: Pair, out: &mut [u8]) -> PairAfter
     requires { ⌜ Good p × (roomMost ≤ length (now out)) ⌝ }
     ensures gave { λ r. ⌜ Gave (refused p) (now (out .entry)) (now (out .exit)) (r .pair) (r .written) ⌝ }
     ensures good { λ r. ⌜ Good (r .pair) ⌝ }
@@ -135,7 +135,7 @@ pub fn refuse(p: Pair, out: &mut [u8]) -> Step
         pool,
         house: p.house,
     };
-    Step {
+    PairAfter {
         pair,
         written: put_bytes(out, b"code=11\n"),
     }
@@ -156,7 +156,7 @@ fn with_pool(p: Pair, pool: Pool) -> Pair
 }
 
 // The first line of the opening.
-pub fn open_line(p: Pair, lines: &[u8], out: &mut [u8]) -> Step
+pub fn open_line(p: Pair, lines: &[u8], out: &mut [u8]) -> PairAfter
     requires { ⌜ Good p × (roomMost ≤ length (now out)) ⌝ }
     ensures gave { λ r. ⌜ Gave (poolDone p (lineNumber poolKey (now (lines .entry)))) (now (out .entry)) (now (out .exit)) (r .pair) (r .written) ⌝ }
     ensures good { λ r. ⌜ Good (r .pair) ⌝ }
@@ -166,7 +166,7 @@ pub fn open_line(p: Pair, lines: &[u8], out: &mut [u8]) -> Step
             let o = open_pool(v);
             if o.code == TAKEN {
                 let pool = o.pool;
-                return Step {
+                return PairAfter {
                     pair: with_pool(p, pool),
                     written: 0,
                 };
@@ -194,14 +194,14 @@ fn with_sheet(p: Pair, due: u8, s: Sheet) -> Pair
 }
 
 // A sheet of the opening.
-pub fn open_sheet(p: Pair, due: u8, lines: &[u8], out: &mut [u8]) -> Step
+pub fn open_sheet(p: Pair, due: u8, lines: &[u8], out: &mut [u8]) -> PairAfter
     requires { ⌜ Good p × (roomMost ≤ length (now out)) ⌝ }
     ensures gave { λ r. ⌜ Gave (sheetDone p due (sheetOf (now (lines .entry)))) (now (out .entry)) (now (out .exit)) (r .pair) (r .written) ⌝ }
     ensures good { λ r. ⌜ Good (r .pair) ⌝ }
 {
     match read_sheet(lines) {
-        Opening::Bad => refuse(p, out),
-        Opening::Read(s) => Step {
+        SheetRead::Bad => refuse(p, out),
+        SheetRead::Read(s) => PairAfter {
             pair: with_sheet(p, due, s),
             written: 0,
         },
@@ -209,12 +209,12 @@ pub fn open_sheet(p: Pair, due: u8, lines: &[u8], out: &mut [u8]) -> Step
 }
 
 // Lines of no table.
-pub fn of_none(p: Pair, only: u8, out: &mut [u8]) -> Step
+pub fn of_none(p: Pair, only: u8, out: &mut [u8]) -> PairAfter
     requires { ⌜ Good p × (only ≤ 2) × (roomMost ≤ length (now out)) ⌝ }
     ensures gave { λ r. ⌜ Gave (strayDone only p) (now (out .entry)) (now (out .exit)) (r .pair) (r .written) ⌝ }
     ensures good { λ r. ⌜ Good (r .pair) ⌝ }
 {
-    Step {
+    PairAfter {
         pair: p,
         written: put_shown(out, only, STRAY, b"n=0\ncode=1\nturn=0\nmark=0\nback=0\n"),
     }

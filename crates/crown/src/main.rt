@@ -3,7 +3,7 @@ use libc::STDIN_FILENO;
 use libc::STDOUT_FILENO;
 use output::ahead;
 use output::flush;
-use rounds::Mark;
+use rounds::Fill;
 use rounds::close;
 use rounds::empty;
 use rounds::feed;
@@ -15,26 +15,33 @@ ghost use Rattle.rounds.specs.RoundParts.{Held};
 // Answers are written out where less than an answer's room, 216 bytes, is left behind them.
 const ENOUGH: usize = 65000;
 
-struct Served {
-    mark: Mark,
+struct ServedTo {
+    fill: Fill,
     from: usize,
     at: usize,
     ok: bool,
 }
 
 // The bytes of a part up to the end of a block, or what is left of the part.
-fn serve_one(m: Mark, buf: &mut [u8], part: &[u8], from: usize, out: &mut [u8], at: usize) -> Served
+fn serve_one(
+    m: Fill,
+    buf: &mut [u8],
+    part: &[u8],
+    from: usize,
+    out: &mut [u8],
+    at: usize,
+) -> ServedTo
     requires { ⌜ Held m × (544 ≤ length (now buf)) × (from < length (now part)) × (at ≤ length (now out)) × (length (now out) ≡ 65536) ⌝ }
-    ensures { λ r. ⌜ Held (r .mark) × (from < r .from) × (r .from ≤ length (now (part .entry))) × (r .at ≤ length (now (out .entry))) ⌝ }
+    ensures { λ r. ⌜ Held (r .fill) × (from < r .from) × (r .from ≤ length (now (part .entry))) × (r .at ≤ length (now (out .entry))) ⌝ }
 {
     let w = flush(STDOUT_FILENO, &out[0..at], ENOUGH);
     let k = w.at;
     let f = feed(m, buf, &part[from..], &mut out[k..]);
     let next = ahead(from, f.used, part);
     let end = ahead(k, f.written, out);
-    let d = f.mark;
-    Served {
-        mark: d,
+    let d = f.fill;
+    ServedTo {
+        fill: d,
         from: next,
         at: end,
         ok: w.ok,
@@ -42,28 +49,28 @@ fn serve_one(m: Mark, buf: &mut [u8], part: &[u8], from: usize, out: &mut [u8], 
 }
 
 // What is kept after some input, whether a write failed, and whether to go on.
-struct Turn {
-    mark: Mark,
+struct Lap {
+    fill: Fill,
     failed: bool,
     more: bool,
 }
 
 // Answers every block that ends in this part of the input, in one write where the answers fit.
-fn serve(m: Mark, buf: &mut [u8], part: &[u8]) -> Turn
+fn serve(m: Fill, buf: &mut [u8], part: &[u8]) -> Lap
     requires { ⌜ Held m × (544 ≤ length (now buf)) ⌝ }
-    ensures { λ r. ⌜ Held (r .mark) ⌝ }
+    ensures { λ r. ⌜ Held (r .fill) ⌝ }
 {
     let mut out = io::large_buffer();
-    let mut mark = m;
+    let mut fill = m;
     let mut from: usize = 0;
     let mut at: usize = 0;
     while from < part.len() {
-        let s = serve_one(mark, buf, part, from, &mut out, at);
-        let d = s.mark;
-        mark = d;
+        let s = serve_one(fill, buf, part, from, &mut out, at);
+        let d = s.fill;
+        fill = d;
         if !s.ok {
-            return Turn {
-                mark,
+            return Lap {
+                fill,
                 failed: true,
                 more: false,
             };
@@ -72,23 +79,23 @@ fn serve(m: Mark, buf: &mut [u8], part: &[u8]) -> Turn
         at = s.at;
     }
     let ok = io::write_all(STDOUT_FILENO, &out[0..at]);
-    Turn {
-        mark,
+    Lap {
+        fill,
         failed: !ok,
         more: ok,
     }
 }
 
 // One read, and the answers to it.
-fn read_some(m: Mark, buf: &mut [u8]) -> Turn
+fn read_some(m: Fill, buf: &mut [u8]) -> Lap
     requires { ⌜ Held m × (544 ≤ length (now buf)) ⌝ }
-    ensures { λ r. ⌜ Held (r .mark) ⌝ }
+    ensures { λ r. ⌜ Held (r .fill) ⌝ }
 {
     let mut input = io::large_buffer();
     let got = libc::read(STDIN_FILENO, &mut input);
     if got <= 0 {
-        return Turn {
-            mark: m,
+        return Lap {
+            fill: m,
             failed: false,
             more: false,
         };
@@ -98,30 +105,30 @@ fn read_some(m: Mark, buf: &mut [u8]) -> Turn
 }
 
 // Reads to the end of the input. A proved loop has to end, so it counts its turns down from a number that no run uses up.
-fn read_all(buf: &mut [u8]) -> Turn
+fn read_all(buf: &mut [u8]) -> Lap
     requires { ⌜ 544 ≤ length (now buf) ⌝ }
-    ensures { λ r. ⌜ Held (r .mark) ⌝ }
+    ensures { λ r. ⌜ Held (r .fill) ⌝ }
 {
-    let mut mark = empty();
+    let mut fill = empty();
     let mut turns = u64::MAX;
     while turns > 0 {
-        let t = read_some(mark, buf);
-        let d = t.mark;
-        mark = d;
+        let t = read_some(fill, buf);
+        let d = t.fill;
+        fill = d;
         if !t.more {
             return t;
         }
         turns -= 1;
     }
-    Turn {
-        mark,
+    Lap {
+        fill,
         failed: false,
         more: false,
     }
 }
 
 // The input has ended: a block that is not whole is answered too.
-fn end(m: Mark, buf: &[u8])
+fn end(m: Fill, buf: &[u8])
     requires { ⌜ Held m × (544 ≤ length (now buf)) ⌝ }
 {
     let mut out = [0u8; 216];
@@ -133,7 +140,7 @@ fn main() {
     let mut buf = [0u8; 544];
     let t = read_all(&mut buf);
     if !t.failed {
-        let m = t.mark;
+        let m = t.fill;
         end(m, &buf);
     }
 }

@@ -14,7 +14,7 @@ use Rattle.laws.specs.Tests.{pick}
 use Rattle.text.specs.Line.{lineNumber, afterLine, valueOf}
 use Rattle.blocks.specs.Block.{blockOf, blockFrom, lineKind}
 use Rattle.blocks.specs.Entry.{parsedOf}
-use Rattle.writing.specs.Sheet.{fits, writtenOf, sheetAfter, over}
+use Rattle.writing.specs.AnswerSheet.{fits, writtenOf, sheetAfter, over}
 use Rattle.blocks.specs.Codes.{codeOfBlock}
 use Rattle.text.proofs.Numbers.{number-back}
 use Rattle.text.specs.declared.Number.{Number}
@@ -44,10 +44,10 @@ use Rattle.pots.specs.declared.Pots.{Pots}
 use Rattle.pots.proofs.PotLevels.{pots-and-back}
 use Rattle.laws.proofs.Places.{store-front}
 use Rattle.pots.proofs.Hands.{none-lost, map-length, paid-and-unclaimed}
-use Rattle.answers.specs.declared.Row.{Row}
-use Rattle.answers.specs.declared.Payout.{Payout}
+use Rattle.answers.specs.declared.PaidRow.{PaidRow}
+use Rattle.answers.specs.declared.ShownPayout.{ShownPayout}
 use Rattle.answers.specs.declared.Shown.{Shown}
-use Rattle.answers.specs.Answer.{SmallRow, Small, answerBytes}
+use Rattle.answers.specs.Answer.{SmallPaidRow, SmallShown, answerBytes}
 use Rattle.desk.specs.declared.Judged.{Judged}
 use Rattle.desk.specs.declared.Answered.{Answered}
 use Rattle.desk.specs.Desk.{rowsOf, payoutShown, shownOf, refusedAt, noBlock, judgeParsed, judgeBlock, judgedOf, judgedBytes, blockBytes, answeredFrom, answeredOf, numberOfBlock, SmallPaid, Closed}
@@ -55,23 +55,23 @@ use Rattle.chairs.specs.declared.What.the-variants as what
 
 -- ---- rows of sittings and what they are paid, one by one
 
-abbrev rowAt : List ℕ → List ℕ → ℕ → Row
+abbrev rowAt : List ℕ → List ℕ → ℕ → PaidRow
 rowAt ss ps i = record { sitting = getD ss i 0; paid = getD ps i 0 }
 
-pub rows-turn : (a all : List Row) (ss ps : List ℕ) (i : ℕ) → i < length a → i < length ss → i < length ps
+pub rows-turn : (a all : List PaidRow) (ss ps : List ℕ) (i : ℕ) → i < length a → i < length ss → i < length ps
     → take i a ++ rowsOf (drop i ss) (drop i ps) ≡ all → take (i + 1) (set a i (rowAt ss ps i)) ++ rowsOf (drop (i + 1) ss) (drop (i + 1) ps) ≡ all
 rows-turn a all ss ps i l m n e =
     let q : rowAt ss ps i ∷ rowsOf (drop (i + 1) ss) (drop (i + 1) ps) ≡ rowsOf (drop i ss) (drop i ps) =
     rw (add-one i, drop-cons ss i 0 m, drop-cons ps i 0 n) in
-    store-front a i (rowAt ss ps i) (rowsOf (drop (i + 1) ss) (drop (i + 1) ps)) l ∙ ap (λ (k : List Row). take i a ++ k) q ∙ e
+    store-front a i (rowAt ss ps i) (rowsOf (drop (i + 1) ss) (drop (i + 1) ps)) l ∙ ap (λ (k : List PaidRow). take i a ++ k) q ∙ e
 
-pub rows-done : (a all : List Row) (ss ps : List ℕ) (i : ℕ) → length a ≤ i → length ss ≤ i → take i a ++ rowsOf (drop i ss) (drop i ps) ≡ all → a ≡ all
+pub rows-done : (a all : List PaidRow) (ss ps : List ℕ) (i : ℕ) → length a ≤ i → length ss ≤ i → take i a ++ rowsOf (drop i ss) (drop i ps) ≡ all → a ≡ all
 rows-done a all ss ps i l m e =
-    sym (take-all i a l) ∙ sym (nil (take i a)) ∙ ap (λ (k : List Row). take i a ++ k) (sym (ap (λ (k : List ℕ). rowsOf k (drop i ps)) (drop-of-length-le ss m))) ∙ e
+    sym (take-all i a l) ∙ sym (nil (take i a)) ∙ ap (λ (k : List PaidRow). take i a ++ k) (sym (ap (λ (k : List ℕ). rowsOf k (drop i ps)) (drop-of-length-le ss m))) ∙ e
   where
-    nil : (b : List Row) → b ++ [] ≡ b
+    nil : (b : List PaidRow) → b ++ [] ≡ b
     nil [] = refl
-    nil (x ∷ b) = ap (λ (k : List Row). x ∷ k) (nil b)
+    nil (x ∷ b) = ap (λ (k : List PaidRow). x ∷ k) (nil b)
 
 -- ---- a padded list of pots has no larger pot than their sum
 
@@ -320,13 +320,13 @@ pub nothing-answered : (t : Table) (sheet : List ℕ)
 unfolding answeredOf blockBytes judgedOf blockOf
 nothing-answered t sheet = (ap (answeredFrom t (noBlock t)) (writes-none sheet), keeps-all sheet)
 
-rows-small : (ss ps : List ℕ) (k : ℕ) → ((i : ℕ) → getD ss i 0 < 10 ^ 9) → ((i : ℕ) → getD ps i 0 < 10 ^ 9) → SmallRow (getD (rowsOf ss ps) k (record { sitting = 0; paid = 0 }))
+rows-small : (ss ps : List ℕ) (k : ℕ) → ((i : ℕ) → getD ss i 0 < 10 ^ 9) → ((i : ℕ) → getD ps i 0 < 10 ^ 9) → SmallPaidRow (getD (rowsOf ss ps) k (record { sitting = 0; paid = 0 }))
 rows-small [] ps k h q = record { sitting = omega arith; paid = omega arith }
 rows-small (s ∷ ss) [] k h q = record { sitting = omega arith; paid = omega arith }
 rows-small (s ∷ ss) (p ∷ ps) zero h q = record { sitting = h 0; paid = q 0 }
 rows-small (s ∷ ss) (p ∷ ps) (suc k) h q = rows-small ss ps k (λ i. h (suc i)) (λ i. q (suc i))
 
-shown-small : (n code : ℕ) (t : Table) (p : Paid) → Sound t → n < 10 ^ 9 → code < 256 → SmallPaid p → length (potsNow t) ≤ 9 → Closed t p → Small (shownOf n code t p)
+shown-small : (n code : ℕ) (t : Table) (p : Paid) → Sound t → n < 10 ^ 9 → code < 256 → SmallPaid p → length (potsNow t) ≤ 9 → Closed t p → SmallShown (shownOf n code t p)
 unfolding shownOf potsNow backNow
 shown-small n code t p r a b w d z =
     let ts = totalsOf t in
@@ -345,16 +345,16 @@ shown-small n code t p r a b w d z =
       payout = record { fee = w .fee; jackpot = omega arith; rows = λ k. rows-small (p .sittings) (p .paid) k (w .sittings) (w .paid); unclaimed = w .unclaimed };
     }
 
-pub made-shown : (n code : ℕ) (t : Table) (p : Paid) {ps : Pots} {back k : ℕ} {po : Payout}
+pub made-shown : (n code : ℕ) (t : Table) (p : Paid) {ps : Pots} {back k : ℕ} {po : ShownPayout}
     → (ps .n ≡ length (potsNow t)) × (ps .list ≡ padded 9 (potsNow t)) × (ps .n ≤ 9)
     → back ≡ backNow t → po ≡ payoutShown p → (k ≡ code) × (k < 256) → Sound t → n < 10 ^ 9 → SmallPaid p → Closed t p
     → (_≡_ {A = Shown} (record { n = n; code = k; turn = t .play .turn; mark = t .play .mark; pots = ps; back = back; settled = p .settled; payout = po }) (shownOf n code t p))
-    × Small (record { n = n; code = k; turn = t .play .turn; mark = t .play .mark; pots = ps; back = back; settled = p .settled; payout = po })
+    × SmallShown (record { n = n; code = k; turn = t .play .turn; mark = t .play .mark; pots = ps; back = back; settled = p .settled; payout = po })
 unfolding shownOf
 made-shown n code t p {ps} {back} {k} {po} v b o kc r h w z =
     let e : _≡_ {A = Shown} (record { n = n; code = k; turn = t .play .turn; mark = t .play .mark; pots = ps; back = back; settled = p .settled; payout = po }) (shownOf n code t p) =
     rw (kc .0, o, b) (ap (λ (z : Pots). record { n = n; code = code; turn = t .play .turn; mark = t .play .mark; pots = z; back = backNow t; settled = p .settled; payout = payoutShown p }) (pots-eq ps (v .0) (v .1))) in
-    (e, subst Small (sym e) (shown-small n code t p r h (omega arith) w (omega arith) z))
+    (e, subst SmallShown (sym e) (shown-small n code t p r h (omega arith) w (omega arith) z))
   where
     pots-eq : (z : Pots) {a : ℕ} {f : List Pot} → z .n ≡ a → z .list ≡ f → z ≡ record { n = a; list = f }
     pots-eq z e f = rw (e, f)

@@ -10,9 +10,9 @@ use Rattle.paper.specs.declared.Sheet.{Sheet}
 use Rattle.paper.proofs.Sheets.{good-ranged}
 use Rattle.text.specs.TableSheet.{sheetOf}
 use Rattle.text.proofs.SheetLaws.{sheet-is}
-use Rattle.text.specs.declared.sheet.Opening.{Opening}
-use Rattle.text.specs.declared.sheet.Opening.the-variants.{Read, Bad}
-use Rattle.desk.specs.Log.{lone, loneOpening, openedOf}
+use Rattle.text.specs.declared.sheet.SheetRead.{SheetRead}
+use Rattle.text.specs.declared.sheet.SheetRead.the-variants.{Read, Bad}
+use Rattle.desk.specs.Log.{lone, loneRead, openedOf}
 
 -- a sheet stays one with no drop
 pub lone-is : (s : Sheet) → isSheet s ≡ true → isSheet (lone s) ≡ true
@@ -31,11 +31,11 @@ lone-is s e =
     (le-leb (s .drop) 1000 (good-ranged s e .drop)) e
 
 -- a good opening is the log's sheet with no drop
-abbrev sheetIn : Opening → Sheet
+abbrev sheetIn : SheetRead → Sheet
 sheetIn (Read s) = s
 sheetIn Bad = standIn
 
-abbrev isRead : Opening → Bool
+abbrev isRead : SheetRead → Bool
 isRead (Read s) = true
 isRead Bad = false
 
@@ -47,7 +47,7 @@ opened : (log : List ℕ) (s : Sheet) → openedOf log ≡ Read s → Lone s
 unfolding openedOf
 opened log s e = go (sheetOf log) refl e
   where
-    go : (o : Opening) → sheetOf log ≡ o → loneOpening o ≡ Read s → Lone s
+    go : (o : SheetRead) → sheetOf log ≡ o → loneRead o ≡ Read s → Lone s
     go (Read u) q r = subst Lone (ap sheetIn r) (record { good = lone-is u (sheet-is log u q); drop = refl })
     go Bad q r = absurd (false≢true (ap isRead r))
 
@@ -58,10 +58,10 @@ pub opened-lone : (log : List ℕ) (s : Sheet) → openedOf log ≡ Read s → s
 opened-lone log s e = opened log s e .drop
 
 -- what code reads: the sheet of the log, with no drop
-pub opened-read : (log : List ℕ) {o : Opening} {s u : Sheet} → o ≡ sheetOf log → o ≡ Read s → u ≡ lone s → Read u ≡ openedOf log
+pub opened-read : (log : List ℕ) {o : SheetRead} {s u : Sheet} → o ≡ sheetOf log → o ≡ Read s → u ≡ lone s → Read u ≡ openedOf log
 unfolding openedOf
-opened-read log e f g = ap Read g ∙ ap loneOpening (sym f ∙ e)
+opened-read log e f g = ap Read g ∙ ap loneRead (sym f ∙ e)
 
-pub opened-bad : (log : List ℕ) {o : Opening} → o ≡ sheetOf log → o ≡ Bad → Bad ≡ openedOf log
+pub opened-bad : (log : List ℕ) {o : SheetRead} → o ≡ sheetOf log → o ≡ Bad → Bad ≡ openedOf log
 unfolding openedOf
-opened-bad log e f = ap loneOpening (sym f ∙ e)
+opened-bad log e f = ap loneRead (sym f ∙ e)

@@ -18,7 +18,7 @@ use Rattle.blocks.specs.declared.Block.{Block}
 use Rattle.blocks.specs.declared.Block.the-variants.{Raw, Malformed, Nothing}
 use Rattle.blocks.specs.declared.Parsed.{Parsed}
 use Rattle.blocks.specs.declared.Parsed.the-variants.{Read, OutOfRange}
-use Rattle.writing.specs.Sheet.{sheetAfter}
+use Rattle.writing.specs.AnswerSheet.{sheetAfter}
 use Rattle.paper.specs.declared.Entry.{Entry}
 use Rattle.paper.specs.declared.Entry.the-variants.{Sit, Leave, Hand, Hole, Fold, Check, Call, Wager, Board, Dead, Settle, Void}
 use Rattle.chairs.specs.Chairs.{columnOf, closeAll}

@@ -13,15 +13,15 @@ use borrow.Author.Tests.{eq-eqb, ne-eqb, eqb-false, leb-true, le-leb}
 use borrow.Rule.Slice.PartMut.{midOf, putMid}
 use Rattle.laws.specs.Tests.{pick}
 use Rattle.blocks.specs.Block.{restOf}
-use Rattle.writing.specs.Sheet.{Wrote, over, fits, sheetAfter}
+use Rattle.writing.specs.AnswerSheet.{Wrote, over, fits, sheetAfter}
 use Rattle.writing.proofs.Sheets.{then}
 use Rattle.text.proofs.Parts.{part-is}
 use Rattle.blocks.proofs.Blocks.{rest-shorter}
 use Rattle.text.proofs.Lines.{after-lines-no-longer}
 use Rattle.text.specs.TableSheet.{sheetLines, sheetEnd}
 use Rattle.paper.specs.declared.Sheet.{Sheet}
-use Rattle.text.specs.declared.sheet.Opening.{Opening}
-use Rattle.text.specs.declared.sheet.Opening.the-variants.{Read, Bad}
+use Rattle.text.specs.declared.sheet.SheetRead.{SheetRead}
+use Rattle.text.specs.declared.sheet.SheetRead.the-variants.{Read, Bad}
 use Rattle.writing.specs.declared.Written.the-variants.{Bytes, NoRoom}
 use Rattle.table.specs.declared.table.Table.{Table}
 use Rattle.table.specs.Take.{Sound, freshTable}
@@ -185,11 +185,11 @@ module _ {t : Table} {log out : List ℕ} {table : Table} {left now : List ℕ} 
 
 -- ---- the two answers of running a log
 
-pub run-bad : (log : List ℕ) (o : Opening) (room : ℕ) → o ≡ openedOf log → o ≡ Bad → outputIn log room ≡ fitting eleven room
+pub run-bad : (log : List ℕ) (o : SheetRead) (room : ℕ) → o ≡ openedOf log → o ≡ Bad → outputIn log room ≡ fitting eleven room
 unfolding outputIn
 run-bad log o room p q = rw (← p, q)
 
-pub run-good : (log : List ℕ) (o : Opening) (s : Sheet) (room : ℕ) {t : Table} {left : List ℕ} → o ≡ openedOf log → o ≡ Read s → t ≡ freshTable s → left ≡ sheetEnd log
+pub run-good : (log : List ℕ) (o : SheetRead) (s : Sheet) (room : ℕ) {t : Table} {left : List ℕ} → o ≡ openedOf log → o ≡ Read s → t ≡ freshTable s → left ≡ sheetEnd log
     → outputIn log room ≡ answersIn t left room
 unfolding outputIn
 run-good log o s room p q e f = rw (← p, q, e, f)
@@ -203,7 +203,7 @@ pub run-enough : (log : List ℕ) (room : ℕ) → length (outputOf log) ≤ roo
 unfolding outputIn outputOf answersIn
 run-enough log room h = go (openedOf log) h
   where
-    go : (o : Opening) → length (outputFrom o log) ≤ room → outputInFrom o log room ≡ outputFrom o log
+    go : (o : SheetRead) → length (outputFrom o log) ≤ room → outputInFrom o log room ≡ outputFrom o log
     go Bad i = rw (le-leb 8 room i)
     go (Read s) i =
         let e = fuel-free (length log) (length (sheetEnd log)) (freshTable s) (sheetEnd log) (end-within log) (omega arith) in

@@ -8,7 +8,7 @@ use lib.ListN.{length, getD}
 use Rattle.laws.specs.Tests.{pick}
 use Rattle.blocks.specs.Block.{blockOf}
 use Rattle.blocks.specs.Entry.{parsedOf}
-use Rattle.writing.specs.Sheet.{writtenOf, sheetAfter}
+use Rattle.writing.specs.AnswerSheet.{writtenOf, sheetAfter}
 use Rattle.blocks.specs.declared.Block.{Block}
 use Rattle.blocks.specs.declared.Block.the-variants.{Raw, Malformed, Nothing}
 use Rattle.blocks.specs.declared.Parsed.{Parsed}
@@ -22,16 +22,16 @@ use Rattle.table.specs.declared.table.Payout.{Payout as Paid}
 use Rattle.table.specs.Settle.{potsNow, backNow, noPayout}
 use Rattle.table.specs.Take.{codeOf, nextOf, payoutOf}
 use Rattle.pots.specs.Runs.{padded}
-use Rattle.answers.specs.declared.Row.{Row}
+use Rattle.answers.specs.declared.PaidRow.{PaidRow}
 use Rattle.answers.specs.declared.Jackpot.{Jackpot}
-use Rattle.answers.specs.declared.Payout.{Payout}
+use Rattle.answers.specs.declared.ShownPayout.{ShownPayout}
 use Rattle.answers.specs.declared.Shown.{Shown}
 use Rattle.answers.specs.Answer.{answerBytes}
 use Rattle.desk.specs.declared.Judged.{Judged}
 use Rattle.desk.specs.declared.Answered.{Answered}
 
 -- a row for each seat: the sitting dealt in there, or 0, and what it is paid
-abbrev pub rowsOf : List ℕ → List ℕ → List Row
+abbrev pub rowsOf : List ℕ → List ℕ → List PaidRow
 rowsOf [] ps = []
 rowsOf (s ∷ ss) [] = []
 rowsOf (s ∷ ss) (p ∷ ps) = record { sitting = s; paid = p } ∷ rowsOf ss ps
@@ -40,7 +40,7 @@ rowsOf (s ∷ ss) (p ∷ ps) = record { sitting = s; paid = p } ∷ rowsOf ss ps
 abbrev pub noJackpot : Jackpot
 noJackpot = record { shared = false; amount = 0 }
 
-abbrev pub payoutShown : Paid → Payout
+abbrev pub payoutShown : Paid → ShownPayout
 payoutShown p = record { fee = p .fee; jackpot = noJackpot; rows = rowsOf (p .sittings) (p .paid); unclaimed = p .unclaimed }
 
 -- what the answer to a block with this number and code shows of the table after it, and of what the block paid

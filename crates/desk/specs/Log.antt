@@ -11,8 +11,8 @@ use Rattle.blocks.specs.Block.{restOf}
 use Rattle.paper.specs.declared.Sheet.{Sheet}
 use Rattle.text.specs.TableSheet.{sheetOf, sheetEnd}
 pub use Rattle.text.specs.Codes.{eleven}
-use Rattle.text.specs.declared.sheet.Opening.{Opening}
-use Rattle.text.specs.declared.sheet.Opening.the-variants.{Read, Bad}
+use Rattle.text.specs.declared.sheet.SheetRead.{SheetRead}
+use Rattle.text.specs.declared.sheet.SheetRead.the-variants.{Read, Bad}
 use Rattle.table.specs.declared.table.Table.{Table}
 use Rattle.table.specs.Take.{freshTable}
 use Rattle.desk.specs.Desk.{judgedOf, blockBytes}
@@ -36,15 +36,15 @@ lone s = record {
   drop = 0;
 }
 
-abbrev pub loneOpening : Opening → Opening
-loneOpening (Read s) = Read (lone s)
-loneOpening Bad = Bad
+abbrev pub loneRead : SheetRead → SheetRead
+loneRead (Read s) = Read (lone s)
+loneRead Bad = Bad
 
 -- the sheet that a lone table goes by
-unfoldable pub openedOf : List ℕ → Opening
-openedOf log = loneOpening (sheetOf log)
+unfoldable pub openedOf : List ℕ → SheetRead
+openedOf log = loneRead (sheetOf log)
 
-abbrev pub outputFrom : Opening → List ℕ → List ℕ
+abbrev pub outputFrom : SheetRead → List ℕ → List ℕ
 outputFrom (Read s) log = blocksFrom (length log) (freshTable s) (sheetEnd log)
 outputFrom Bad log = eleven
 
@@ -70,7 +70,7 @@ blocksIn (suc k) t log room =
 unfoldable pub answersIn : Table → List ℕ → ℕ → List ℕ
 answersIn t log room = blocksIn (length log) t log room
 
-abbrev pub outputInFrom : Opening → List ℕ → ℕ → List ℕ
+abbrev pub outputInFrom : SheetRead → List ℕ → ℕ → List ℕ
 outputInFrom (Read s) log room = answersIn (freshTable s) (sheetEnd log) room
 outputInFrom Bad log room = fitting eleven room
 

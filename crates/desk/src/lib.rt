@@ -1,8 +1,8 @@
 // One block at the desk: read, taken at the table, answered.
 use answers::Jackpot;
-use answers::Payout;
-use answers::Row;
+use answers::PaidRow;
 use answers::Shown;
+use answers::ShownPayout;
 use answers::answer_len;
 use answers::write_answer;
 use blocks::Block;
@@ -16,9 +16,9 @@ ghost use mathlib.Core.Path.{_≡_};
 ghost use Prim.Native.Nat.{ℕ, _+_, _-_, _*_, _≤_, _<_, _^_};
 ghost use mathlib.Core.List.{List, [], _∷_, _++_};
 ghost use lib.ListN.{length, take, drop, getD};
-ghost use Rattle.writing.specs.Sheet.{sheetAfter, writtenOf};
+ghost use Rattle.writing.specs.AnswerSheet.{sheetAfter, writtenOf};
 ghost use Rattle.blocks.specs.Block.{blockOf, restOf};
-ghost use Rattle.answers.specs.Answer.{Small};
+ghost use Rattle.answers.specs.Answer.{SmallShown};
 ghost use Rattle.table.specs.Take.{Sound};
 ghost use Rattle.desk.specs.Desk.{rowsOf, payoutShown, shownOf, judgeParsed, refusedAt, noBlock, judgeBlock, judgedOf, judgedBytes, blockBytes, answeredFrom, answeredOf, numberOfBlock, SmallPaid, Closed};
 ghost use Rattle.desk.specs.Room.{roomOf};
@@ -32,17 +32,17 @@ fn wide(x: u8) -> u32
 }
 
 // A row for each seat: the sitting dealt in there, and what it is paid.
-fn rows_of(sittings: [u32; 10], paid: [u32; 10]) -> [Row; 10]
+fn rows_of(sittings: [u32; 10], paid: [u32; 10]) -> [PaidRow; 10]
     ensures { λ r. ⌜ r ≡ rowsOf sittings paid ⌝ }
 {
-    let none = Row {
+    let none = PaidRow {
         sitting: 0,
         paid: 0,
     };
     let mut rows = [none; 10];
     let mut i: usize = 0;
     while i < 10 {
-        let r = Row {
+        let r = PaidRow {
             sitting: sittings[i],
             paid: paid[i],
         };
@@ -53,7 +53,7 @@ fn rows_of(sittings: [u32; 10], paid: [u32; 10]) -> [Row; 10]
 }
 
 // What an answer shows of a payout at a table that shares no pool.
-fn payout_shown(p: table::table::Payout) -> Payout
+fn payout_shown(p: table::table::Payout) -> ShownPayout
     ensures { λ r. ⌜ r ≡ payoutShown p ⌝ }
 {
     let sittings = p.sittings;
@@ -62,7 +62,7 @@ fn payout_shown(p: table::table::Payout) -> Payout
         shared: false,
         amount: 0,
     };
-    Payout {
+    ShownPayout {
         fee: p.fee,
         jackpot: none,
         rows: rows_of(sittings, paid),
@@ -73,7 +73,7 @@ fn payout_shown(p: table::table::Payout) -> Payout
 // What an answer shows of a table, and of what a settle that was taken paid.
 pub fn shown_of(n: u32, code: u8, t: Table, paid: table::table::Payout) -> Shown
     requires { ⌜ Sound t × (n < 10 ^ 9) × SmallPaid paid × Closed t paid ⌝ }
-    ensures { λ r. ⌜ (r ≡ shownOf n code t paid) × Small r ⌝ }
+    ensures { λ r. ⌜ (r ≡ shownOf n code t paid) × SmallShown r ⌝ }
 {
     let stands = table::settle::stands_now(t);
     let ps = stands.pots;

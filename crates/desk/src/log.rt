@@ -4,14 +4,14 @@ use blocks::rest;
 use paper::Sheet;
 use table::table::Table;
 use table::take::new_table;
-use text::sheet::Opening;
+use text::sheet::SheetRead;
 use text::sheet::after_sheet;
 use text::sheet::read_sheet;
 ghost use mathlib.Core.Path.{_≡_};
 ghost use Prim.Native.Nat.{ℕ, _+_, _-_, _*_, _≤_, _<_, _^_};
 ghost use mathlib.Core.List.{List, [], _∷_, _++_};
 ghost use lib.ListN.{length, take, drop, getD};
-ghost use Rattle.writing.specs.Sheet.{Wrote};
+ghost use Rattle.writing.specs.AnswerSheet.{Wrote};
 ghost use Rattle.table.specs.Take.{Sound};
 ghost use Rattle.desk.specs.Log.{answersIn, lone, openedOf, outputIn, eleven, fitting};
 
@@ -44,12 +44,12 @@ pub fn lone(s: Sheet) -> Sheet
 }
 
 // The sheet that a lone table goes by.
-pub fn read_opening(log: &[u8]) -> Opening
+pub fn read_lone_sheet(log: &[u8]) -> SheetRead
     ensures { λ r. ⌜ r ≡ openedOf (now (log .entry)) ⌝ }
 {
     match read_sheet(log) {
-        Opening::Read(s) => Opening::Read(lone(s)),
-        Opening::Bad => Opening::Bad,
+        SheetRead::Read(s) => SheetRead::Read(lone(s)),
+        SheetRead::Bad => SheetRead::Bad,
     }
 }
 
@@ -67,8 +67,8 @@ pub fn refuse_sheet(out: &mut [u8]) -> usize
 pub fn run(log: &[u8], out: &mut [u8]) -> usize
     ensures { λ r. ⌜ Wrote (outputIn (now (log .entry)) (length (now (out .entry)))) (now (out .entry)) (now (out .exit)) r ⌝ }
 {
-    match read_opening(log) {
-        Opening::Bad => refuse_sheet(out),
-        Opening::Read(s) => blocks(new_table(s), after_sheet(log), out),
+    match read_lone_sheet(log) {
+        SheetRead::Bad => refuse_sheet(out),
+        SheetRead::Read(s) => blocks(new_table(s), after_sheet(log), out),
     }
 }

@@ -2,7 +2,7 @@
 // and how many elements there are. What nothing here can prove stands in that header: the pointer is to so many elements, and no lent array overlaps another.
 use desk::log::run;
 ghost use lib.ListN.{length};
-ghost use Rattle.writing.specs.Sheet.{Wrote};
+ghost use Rattle.writing.specs.AnswerSheet.{Wrote};
 ghost use Rattle.desk.specs.Log.{outputIn};
 
 // A whole log, sheet and entries: its answers at the front of the lent bytes, and how many bytes they are. A block whose answer finds no room is refused with 12:

@@ -33,7 +33,7 @@ fn write_out(copy: &[u8], notes: &[u8]) -> bool {
     laws::both(a, b)
 }
 
-struct Served {
+struct ServedTo {
     copier: Copier,
     from: usize,
     ok: bool,
@@ -47,7 +47,7 @@ fn serve_one(
     from: usize,
     copy: &mut [u8],
     notes: &mut [u8],
-) -> Served
+) -> ServedTo
     requires { ⌜ Held c × (keptMost ≤ length (now buf)) × (from < length (now part)) × (keptMost ≤ length (now copy)) × (noteMost ≤ length (now notes)) ⌝ }
     ensures heard { λ r. ⌜ HeardTo c (now (buf .entry)) (now (part .entry)) from (r .copier) (now (buf .exit)) (r .from) ⌝ }
     ensures held { λ r. ⌜ Held (r .copier) × (from < r .from) × (r .from ≤ length (now (part .entry))) ⌝ }
@@ -57,7 +57,7 @@ fn serve_one(
     let n = f.written;
     let m = f.noted;
     let d = f.copier;
-    Served {
+    ServedTo {
         copier: d,
         from: next,
         ok: write_out(&copy[0..n], &notes[0..m]),
@@ -65,14 +65,14 @@ fn serve_one(
 }
 
 // The copier after some input, whether reading or writing failed, and whether to go on.
-struct Turn {
+struct Lap {
     copier: Copier,
     failed: bool,
     more: bool,
 }
 
 // Copies every block that ends in this part of the input, in one write where the copies fit. Unless a write failed, the copier has heard every byte of it.
-fn serve(c: Copier, buf: &mut [u8], part: &[u8]) -> Turn
+fn serve(c: Copier, buf: &mut [u8], part: &[u8]) -> Lap
     requires { ⌜ Held c × (keptMost ≤ length (now buf)) ⌝ }
     ensures heard { λ r. ⌜ (r .failed ≡ false → HeardTo c (now (buf .entry)) (now (part .entry)) 0 (r .copier) (now (buf .exit)) (length (now (part .entry)))) ⌝ }
     ensures held { λ r. ⌜ Held (r .copier) ⌝ }
@@ -86,7 +86,7 @@ fn serve(c: Copier, buf: &mut [u8], part: &[u8]) -> Turn
         let d = s.copier;
         copier = d;
         if !s.ok {
-            return Turn {
+            return Lap {
                 copier,
                 failed: true,
                 more: false,
@@ -94,7 +94,7 @@ fn serve(c: Copier, buf: &mut [u8], part: &[u8]) -> Turn
         }
         from = s.from;
     }
-    Turn {
+    Lap {
         copier,
         failed: false,
         more: !copier.shut,

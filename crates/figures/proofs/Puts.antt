@@ -9,9 +9,9 @@ use lib.ListN.{length, take, drop, set, length-append, length-drop, take-append-
 use lib.Seq.{take-at, drop-append-add, drop-drop, length-take-le, set-split}
 use borrow.Rule.Slice.PartMut.{midOf, putMid}
 use Rattle.laws.specs.Tests.{pick}
-use Rattle.writing.specs.Sheet.{Wrote}
+use Rattle.writing.specs.AnswerSheet.{Wrote}
 use Rattle.text.proofs.Parts.{part-is, part-back}
-use Rattle.figures.specs.Sheet.{Put}
+use Rattle.figures.specs.Placing.{Put}
 
 -- a writer that was lent the part from the place on
 pub put-part : {bs l t : List ℕ} {a b : ℕ} → a + length bs ≤ length l → Wrote bs (midOf a (length l - a) l) t b → Put bs a l (putMid a (length l - a) l t) (a + b)

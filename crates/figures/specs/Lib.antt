@@ -1,6 +1,6 @@
 -- What one row of the picture is, and what stands in it.
-pub mod Sheet
+pub mod Placing
 pub mod Words
 pub mod Grouped
 pub mod Lamp
-pub mod Row
+pub mod ScreenRow

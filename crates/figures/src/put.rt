@@ -4,7 +4,7 @@ ghost use mathlib.Core.List.{[]};
 ghost use Prim.Native.Nat.{_+_, _≤_};
 ghost use lib.ListN.{length};
 ghost use Rattle.laws.specs.Tests.{pick};
-ghost use Rattle.figures.specs.Sheet.{Put};
+ghost use Rattle.figures.specs.Placing.{Put};
 
 // These bytes, and the place behind them.
 pub fn put(out: &mut [u8], at: usize, bytes: &[u8]) -> usize

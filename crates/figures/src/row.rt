@@ -10,9 +10,9 @@ ghost use mathlib.Core.List.{[]};
 ghost use Prim.Native.Nat.{_+_, _≤_, _<_};
 ghost use lib.ListN.{length, getD};
 ghost use Rattle.laws.specs.Tests.{pick};
-ghost use Rattle.figures.specs.Sheet.{Put};
+ghost use Rattle.figures.specs.Placing.{Put};
 ghost use Rattle.figures.specs.Words.{rule, labels, words, refusals};
-ghost use Rattle.figures.specs.Row.{halfRow, litOf, cellOf, leftOf, wordsRow, amountOf, lampCell, countedOf};
+ghost use Rattle.figures.specs.ScreenRow.{halfRow, litOf, cellOf, leftOf, wordsRow, amountOf, lampCell, countedOf};
 
 struct Label {
     text: [u8; 12],

@@ -11,13 +11,13 @@ use lib.Dec.{eqb, ltb}
 use borrow.Author.Tests.{ltb-true, ltb-false, lt-ltb, le-ltb, eq-eqb, ne-eqb, eqb-true}
 use Rattle.laws.specs.Tests.{pick}
 use Rattle.laws.proofs.Tests.{test}
-use Rattle.writing.specs.Sheet.{over}
+use Rattle.writing.specs.AnswerSheet.{over}
 use Rattle.text.specs.declared.Number.{Number}
 use Rattle.text.specs.declared.Number.the-variants.{Value, Bad}
 use Rattle.text.specs.TableSheet.{sheetLines}
-use Rattle.lines.specs.declared.Mark.{Mark}
-use Rattle.lines.specs.declared.Got.{Got}
-use Rattle.lines.specs.Kept.{Kept, nothing, Gathered, gatherOf, keepAll, keptIn, markOf, gotOf, Room, keptMost}
+use Rattle.lines.specs.declared.Fill.{Fill}
+use Rattle.lines.specs.declared.Progress.{Progress}
+use Rattle.lines.specs.Kept.{Kept, nothing, Gathered, gatherOf, keepAll, keptIn, fillOf, progressOf, Room, keptMost}
 use Rattle.lines.proofs.Keeps.{empty-room}
 use Rattle.lines.proofs.Cut.{cap, kept-bytes}
 use Rattle.lines.proofs.Gathers.{gather-keeps}
@@ -163,16 +163,16 @@ line-goes due lines table d t = ⊎-elim
     go true = other-goes due lines d
     go false = table-goes due lines table t
 
-held-next : (x : Next) (k : Mark) → GoesOn (k .lines) x → Room k → Held (record { due = x .due; mark = pick (x .keeps) k (markOf nothing) })
+held-next : (x : Next) (k : Fill) → GoesOn (k .lines) x → Room k → Held (record { due = x .due; fill = pick (x .keeps) k (fillOf nothing) })
 held-next x k h r = ⊎-elim
-    (λ e. subst (λ (t : Bool). Held (record { due = x .due; mark = pick t k (markOf nothing) })) (sym e) (record { room = r; due = h .0; lines = h .1 e }))
-    (λ e. subst (λ (t : Bool). Held (record { due = x .due; mark = pick t k (markOf nothing) })) (sym e) (record { room = empty-room; due = h .0; lines = omega (arith, wanted-range (x .due) .0) }))
+    (λ e. subst (λ (t : Bool). Held (record { due = x .due; fill = pick t k (fillOf nothing) })) (sym e) (record { room = r; due = h .0; lines = h .1 e }))
+    (λ e. subst (λ (t : Bool). Held (record { due = x .due; fill = pick t k (fillOf nothing) })) (sym e) (record { room = empty-room; due = h .0; lines = omega (arith, wanted-range (x .due) .0) }))
     (test (x .keeps))
 
-pub started : {z : Mark} → z ≡ markOf nothing → (record { due = 0; mark = z } ≡ startOf) × Held (record { due = 0; mark = z })
+pub started : {z : Fill} → z ≡ fillOf nothing → (record { due = 0; fill = z } ≡ startOf) × Held (record { due = 0; fill = z })
 started {z} e = (
-  ap (λ (m : Mark). record { due = 0; mark = m }) e,
-  subst (λ (m : Mark). Held (record { due = 0; mark = m })) (sym e) (record { room = empty-room; due = omega arith; lines = omega (arith, wanted-range 0 .0) }),
+  ap (λ (m : Fill). record { due = 0; fill = m }) e,
+  subst (λ (m : Fill). Held (record { due = 0; fill = m })) (sym e) (record { room = empty-room; due = omega arith; lines = omega (arith, wanted-range 0 .0) }),
 )
 
 -- ---- `hear`
@@ -183,63 +183,63 @@ gathers-longer want k part =
     let bs : List ℕ = take (gatherOf want k part .used) part in
     omega (arith, ap (λ (x : Kept). length (x .bytes)) (gather-keeps want k part), ap length (kept-bytes k bs), length-append (k .bytes) (cap (k .width) bs))
 
-module _ (f : Frame) (buf part : List ℕ) (h : Held f) (size : keptMost ≤ length buf) {got : Got} {buf2 : List ℕ}
-    (e : got ≡ gotOf (gatherOf (f .mark .lines + 1) (keptIn (f .mark) buf) part))
-    (q : buf2 ≡ over (gatherOf (f .mark .lines + 1) (keptIn (f .mark) buf) part .kept .bytes) buf) (room : Room (got .mark)) where
+module _ (f : Frame) (buf part : List ℕ) (h : Held f) (size : keptMost ≤ length buf) {got : Progress} {buf2 : List ℕ}
+    (e : got ≡ progressOf (gatherOf (f .fill .lines + 1) (keptIn (f .fill) buf) part))
+    (q : buf2 ≡ over (gatherOf (f .fill .lines + 1) (keptIn (f .fill) buf) part .kept .bytes) buf) (room : Room (got .fill)) where
   abbrev g : Gathered
-  g = gatherOf (f .mark .lines + 1) (keptIn (f .mark) buf) part
+  g = gatherOf (f .fill .lines + 1) (keptIn (f .fill) buf) part
 
   abbrev from : ℕ
-  from = f .mark .count - f .mark .width
+  from = f .fill .count - f .fill .width
 
-  mark-is : got .mark ≡ markOf (g .kept)
-  mark-is = ap (λ (x : Got). x .mark) e
+  fill-is : got .fill ≡ fillOf (g .kept)
+  fill-is = ap (λ (x : Progress). x .fill) e
 
-  pub from-within : from ≤ got .mark .count
+  pub from-within : from ≤ got .fill .count
   from-within =
-      omega (arith, gathers-longer (f .mark .lines + 1) (keptIn (f .mark) buf) part, length-take (f .mark .count) buf, h .room .most, size, ap (λ (m : Mark). m .count) mark-is)
+      omega (arith, gathers-longer (f .fill .lines + 1) (keptIn (f .fill) buf) part, length-take (f .fill .count) buf, h .room .most, size, ap (λ (m : Fill). m .count) fill-is)
 
-  pub heard-kept : got .mark .lines ≤ f .mark .lines
-      → (record { frame = record { due = f .due; mark = got .mark }; used = got .used; what = 0; of = f .due; count = 0 } ≡ heardAs f g) × Held (record { due = f .due; mark = got .mark })
+  pub heard-kept : got .fill .lines ≤ f .fill .lines
+      → (record { frame = record { due = f .due; fill = got .fill }; used = got .used; what = 0; of = f .due; count = 0 } ≡ heardAs f g) × Held (record { due = f .due; fill = got .fill })
   unfolding heardAs
   heard-kept l =
-      let n : ltb (f .mark .lines) (g .kept .lines) ≡ false = le-ltb (f .mark .lines) (g .kept .lines) (omega (arith, l, ap (λ (m : Mark). m .lines) mark-is)) in
+      let n : ltb (f .fill .lines) (g .kept .lines) ≡ false = le-ltb (f .fill .lines) (g .kept .lines) (omega (arith, l, ap (λ (m : Fill). m .lines) fill-is)) in
       let next : Next = lastLine (f .due) (g .kept) from in (
-        ap (λ (x : Got). record { frame = record { due = f .due; mark = x .mark }; used = x .used; what = 0; of = f .due; count = 0 }) e
+        ap (λ (x : Progress). record { frame = record { due = f .due; fill = x .fill }; used = x .used; what = 0; of = f .due; count = 0 }) e
             ∙ sym (ap (λ (t : Bool). pick t (wholeHeard f g next) (keptHeard f g)) n),
         record { room = room; due = h .due; lines = omega (arith, l, h .lines) },
       )
 
   -- the line that has come, where it lies
-  line-is : take (got .mark .count - from) (drop from buf2) ≡ drop from (g .kept .bytes)
+  line-is : take (got .fill .count - from) (drop from buf2) ≡ drop from (g .kept .bytes)
   line-is =
       let bytes : List ℕ = g .kept .bytes in
       let rest : List ℕ = drop (length bytes) buf in
-      let c : got .mark .count ≡ length bytes = ap (λ (m : Mark). m .count) mark-is in
+      let c : got .fill .count ≡ length bytes = ap (λ (m : Fill). m .count) fill-is in
       let w : from ≤ length bytes = omega (arith, from-within, c) in
-      ap (λ (l : List ℕ). take (got .mark .count - from) (drop from l)) q
-      ∙ ap (take (got .mark .count - from)) (drop-append-le from bytes rest w)
-      ∙ take-at (drop from bytes) rest (got .mark .count - from) (length-drop from bytes ∙ omega (arith, c))
+      ap (λ (l : List ℕ). take (got .fill .count - from) (drop from l)) q
+      ∙ ap (take (got .fill .count - from)) (drop-append-le from bytes rest w)
+      ∙ take-at (drop from bytes) rest (got .fill .count - from) (length-drop from bytes ∙ omega (arith, c))
 
-  module _ {table : ℕ} {next : Next} {mark : Mark} (t : (table ≡ tableOf (take (got .mark .count - from) (drop from buf2))) × (table ≤ 2))
-      (n : next ≡ lineNext (f .due) (got .mark .lines) table) (m : mark ≡ pick (next .keeps) (got .mark) (markOf nothing)) where
+  module _ {table : ℕ} {next : Next} {fill : Fill} (t : (table ≡ tableOf (take (got .fill .count - from) (drop from buf2))) × (table ≤ 2))
+      (n : next ≡ lineNext (f .due) (got .fill .lines) table) (m : fill ≡ pick (next .keeps) (got .fill) (fillOf nothing)) where
     next-is : next ≡ lastLine (f .due) (g .kept) from
     next-is =
         n
-        ∙ ap (λ (i : ℕ). lineNext (f .due) i table) (ap (λ (x : Mark). x .lines) mark-is)
+        ∙ ap (λ (i : ℕ). lineNext (f .due) i table) (ap (λ (x : Fill). x .lines) fill-is)
         ∙ ap (lineNext (f .due) (g .kept .lines)) (t .0 ∙ ap tableOf line-is)
 
-    pub heard-whole : f .mark .lines < got .mark .lines
-        → (record { frame = record { due = next .due; mark = mark }; used = got .used; what = next .what; of = f .due; count = got .mark .count } ≡ heardAs f g)
-        × Held (record { due = next .due; mark = mark })
+    pub heard-whole : f .fill .lines < got .fill .lines
+        → (record { frame = record { due = next .due; fill = fill }; used = got .used; what = next .what; of = f .due; count = got .fill .count } ≡ heardAs f g)
+        × Held (record { due = next .due; fill = fill })
     unfolding heardAs
     heard-whole l =
-        let y : ltb (f .mark .lines) (g .kept .lines) ≡ true = lt-ltb (f .mark .lines) (g .kept .lines) (omega (arith, l, ap (λ (x : Mark). x .lines) mark-is)) in
+        let y : ltb (f .fill .lines) (g .kept .lines) ≡ true = lt-ltb (f .fill .lines) (g .kept .lines) (omega (arith, l, ap (λ (x : Fill). x .lines) fill-is)) in
         let last : Next = lastLine (f .due) (g .kept) from in (
-          ap (λ (x : Mark). record { frame = record { due = next .due; mark = x }; used = got .used; what = next .what; of = f .due; count = got .mark .count }) m
-              ∙ ap (λ (x : Got). record { frame = record { due = next .due; mark = pick (next .keeps) (x .mark) (markOf nothing) }; used = x .used; what = next .what; of = f .due; count = x .mark .count }) e
+          ap (λ (x : Fill). record { frame = record { due = next .due; fill = x }; used = got .used; what = next .what; of = f .due; count = got .fill .count }) m
+              ∙ ap (λ (x : Progress). record { frame = record { due = next .due; fill = pick (next .keeps) (x .fill) (fillOf nothing) }; used = x .used; what = next .what; of = f .due; count = x .fill .count }) e
               ∙ ap (wholeHeard f g) next-is
               ∙ sym (ap (λ (b : Bool). pick b (wholeHeard f g last) (keptHeard f g)) y),
-          subst (λ (x : Mark). Held (record { due = next .due; mark = x })) (sym m)
-              (held-next next (got .mark) (subst (GoesOn (got .mark .lines)) (sym n) (line-goes (f .due) (got .mark .lines) table (h .due) (t .1))) room),
+          subst (λ (x : Fill). Held (record { due = next .due; fill = x })) (sym m)
+              (held-next next (got .fill) (subst (GoesOn (got .fill .lines)) (sym n) (line-goes (f .due) (got .fill .lines) table (h .due) (t .1))) room),
         )

@@ -13,8 +13,8 @@ use borrow.Author.Tests.{ltb-true, ltb-false, lt-ltb, le-ltb, le-leb, lt-leb}
 use Rattle.laws.specs.Tests.{pick}
 use Rattle.laws.specs.Lists.{whole}
 use Rattle.laws.proofs.Tests.{test}
-use Rattle.writing.specs.Sheet.{over}
-use Rattle.lines.specs.Kept.{Kept, nothing, keepOf, Gathered, gatherOf, keptIn, markOf}
+use Rattle.writing.specs.AnswerSheet.{over}
+use Rattle.lines.specs.Kept.{Kept, nothing, keepOf, Gathered, gatherOf, keptIn, fillOf}
 use Rattle.lines.proofs.Keeps.{kept-back}
 use Rattle.lines.proofs.Cut.{keep-lf, keep-in, keep-out}
 use Rattle.lines.proofs.Gathers.{gather-ends, gather-goes, lines-lf, lines-on}
@@ -116,9 +116,9 @@ module _ (due n : ℕ) where
 
 -- what a call says and leaves in the buffer, as what bytes lead to
 abbrev pub saidBy : Heard → List ℕ → Framed
-saidBy r buf = record { due = r .frame .due; kept = keptIn (r .frame .mark) buf; pieces = pieceOf (r .what) (r .of) (take (r .count) buf) }
+saidBy r buf = record { due = r .frame .due; kept = keptIn (r .frame .fill) buf; pieces = pieceOf (r .what) (r .of) (take (r .count) buf) }
 
-kept-on : (keeps : Bool) (k : Kept) (buf : List ℕ) → keptIn (pick keeps (markOf k) (markOf nothing)) (over (k .bytes) buf) ≡ pick keeps k nothing
+kept-on : (keeps : Bool) (k : Kept) (buf : List ℕ) → keptIn (pick keeps (fillOf k) (fillOf nothing)) (over (k .bytes) buf) ≡ pick keeps k nothing
 kept-on true k buf = kept-back k buf
 kept-on false k buf = refl
 
@@ -133,22 +133,22 @@ kept-said : (f : Frame) (x : Gathered) (buf : List ℕ) → saidBy (keptHeard f 
 kept-said f x buf = ap (λ (k : Kept). record { due = f .due; kept = k; pieces = [] }) (kept-back (x .kept) buf)
 
 -- with the bytes that it uses up a call does what they do one by one
-pub hear-onward : (f : Frame) (buf part : List ℕ) → f .mark .count ≤ length buf
-    → let x : Gathered = gatherOf (f .mark .lines + 1) (keptIn (f .mark) buf) part in
-    saidBy (heardAs f x) (over (x .kept .bytes) buf) ≡ onward (f .due) (keptIn (f .mark) buf) (take (heardAs f x .used) part)
+pub hear-onward : (f : Frame) (buf part : List ℕ) → f .fill .count ≤ length buf
+    → let x : Gathered = gatherOf (f .fill .lines + 1) (keptIn (f .fill) buf) part in
+    saidBy (heardAs f x) (over (x .kept .bytes) buf) ≡ onward (f .due) (keptIn (f .fill) buf) (take (heardAs f x .used) part)
 unfolding heardAs
 hear-onward f buf part h =
-    let k : Kept = keptIn (f .mark) buf in
-    let x : Gathered = gatherOf (f .mark .lines + 1) k part in
-    let from : ℕ = f .mark .count - f .mark .width in
-    let s : lineStart k ≡ from = ap (λ (i : ℕ). i - f .mark .width) (omega (arith, length-take (f .mark .count) buf)) in
+    let k : Kept = keptIn (f .fill) buf in
+    let x : Gathered = gatherOf (f .fill .lines + 1) k part in
+    let from : ℕ = f .fill .count - f .fill .width in
+    let s : lineStart k ≡ from = ap (λ (i : ℕ). i - f .fill .width) (omega (arith, length-take (f .fill .count) buf)) in
     let next : Next = lastLine (f .due) (x .kept) from in
     let P : Heard → Type 0 = λ (r : Heard). saidBy r (over (x .kept .bytes) buf) ≡ onward (f .due) k (take (r .used) part) in
     ⊎-elim
     (λ e.
     subst (λ (t : Bool). P (pick t (wholeHeard f x next) (keptHeard f x))) (sym e)
-    (whole-said f x next buf ∙ sym (line-done (f .due) (f .mark .lines) from k part refl s (ltb-true (f .mark .lines) (x .kept .lines) e))))
+    (whole-said f x next buf ∙ sym (line-done (f .due) (f .fill .lines) from k part refl s (ltb-true (f .fill .lines) (x .kept .lines) e))))
     (λ e.
     subst (λ (t : Bool). P (pick t (wholeHeard f x next) (keptHeard f x))) (sym e)
-    (kept-said f x buf ∙ sym (line-kept (f .due) (f .mark .lines) k part refl (ltb-false (f .mark .lines) (x .kept .lines) e))))
-    (test (ltb (f .mark .lines) (x .kept .lines)))
+    (kept-said f x buf ∙ sym (line-kept (f .due) (f .fill .lines) k part refl (ltb-false (f .fill .lines) (x .kept .lines) e))))
+    (test (ltb (f .fill .lines) (x .kept .lines)))

@@ -13,8 +13,8 @@ use Rattle.text.specs.declared.Number.{Number}
 use Rattle.text.specs.declared.Number.the-variants.{Value, Bad}
 use Rattle.text.specs.Line.{lineNumber}
 use Rattle.text.specs.TableSheet.{sheetLines}
-use Rattle.lines.specs.declared.Mark.{Mark}
-use Rattle.lines.specs.Kept.{Kept, nothing, keepOf, Gathered, markOf, Room}
+use Rattle.lines.specs.declared.Fill.{Fill}
+use Rattle.lines.specs.Kept.{Kept, nothing, keepOf, Gathered, fillOf, Room}
 use Rattle.frames.specs.declared.Frame.{Frame}
 use Rattle.frames.specs.declared.Next.{Next}
 use Rattle.frames.specs.declared.Heard.{Heard}
@@ -173,16 +173,16 @@ partsOf due k (p ∷ ps) = andThen (onward due k p) (partsOf (onward due k p .du
 -- ---- what a call says
 
 abbrev pub startOf : Frame
-startOf = record { due = poolDue; mark = markOf nothing }
+startOf = record { due = poolDue; fill = fillOf nothing }
 
 pub record Held (f : Frame) : Type 0 where
-  pub room : Room (f .mark)
+  pub room : Room (f .fill)
   pub due : f .due ≤ lastDue
-  pub lines : f .mark .lines < wanted (f .due)
+  pub lines : f .fill .lines < wanted (f .due)
 
 abbrev pub wholeHeard : Frame → Gathered → Next → Heard
 wholeHeard f g x = record {
-  frame = record { due = x .due; mark = pick (x .keeps) (markOf (g .kept)) (markOf nothing) };
+  frame = record { due = x .due; fill = pick (x .keeps) (fillOf (g .kept)) (fillOf nothing) };
   used = g .used;
   what = x .what;
   of = f .due;
@@ -190,11 +190,11 @@ wholeHeard f g x = record {
 }
 
 abbrev pub keptHeard : Frame → Gathered → Heard
-keptHeard f g = record { frame = record { due = f .due; mark = markOf (g .kept) }; used = g .used; what = noneWhole; of = f .due; count = 0 }
+keptHeard f g = record { frame = record { due = f .due; fill = fillOf (g .kept) }; used = g .used; what = noneWhole; of = f .due; count = 0 }
 
 -- after the bytes up to the next LF, or all of a part
 unfoldable pub heardAs : Frame → Gathered → Heard
 heardAs f g =
-    pick (ltb (f .mark .lines) (g .kept .lines))
-    (wholeHeard f g (lastLine (f .due) (g .kept) (f .mark .count - f .mark .width)))
+    pick (ltb (f .fill .lines) (g .kept .lines))
+    (wholeHeard f g (lastLine (f .due) (g .kept) (f .fill .count - f .fill .width)))
     (keptHeard f g)

@@ -1,6 +1,6 @@
 // What the input of two tables is cut into (request No. 7, the program `pair`): the opening, blocks of a table, whole or cut short, and lines of no table. Bytes come
 // in parts: the unfinished lines are kept in a lent buffer, and a line is looked at as its LF arrives.
-use lines::Mark;
+use lines::Fill;
 use lines::empty;
 use lines::gather;
 use text::Number;
@@ -10,8 +10,8 @@ ghost use mathlib.Core.Path.{_≡_};
 ghost use Prim.Native.Nat.{_+_, _-_, _≤_, _<_};
 ghost use lib.ListN.{length};
 ghost use Rattle.laws.specs.Tests.{pick};
-ghost use Rattle.writing.specs.Sheet.{over};
-ghost use Rattle.lines.specs.Kept.{nothing, markOf, gatherOf, keptIn, Room, keptMost};
+ghost use Rattle.writing.specs.AnswerSheet.{over};
+ghost use Rattle.lines.specs.Kept.{nothing, fillOf, gatherOf, keptIn, Room, keptMost};
 ghost use Rattle.frames.specs.Frames.{tableIn, tableOf, wanted, lastDue, keptNext, tableNext, otherNext, lineNext, endWhat, startOf, Held, heardAs};
 
 // What is due: 0 the pool's line, 1 and 2 the sheets of the tables, 3 a `table` line, 4 a `table` line within a run of lines of no table, 5 and 6 the lines of a block
@@ -39,7 +39,7 @@ pub const MISSING: u8 = 4;
 // What is due, and what is kept of its lines.
 pub struct Frame {
     pub due: u8,
-    pub mark: Mark,
+    pub fill: Fill,
 }
 
 // What is due next, whether the lines are kept on, and what was made whole.
@@ -63,7 +63,7 @@ pub fn start() -> Frame
     ensures { λ r. ⌜ (r ≡ startOf) × Held r ⌝ }
 {
     let z = empty();
-    Frame { due: POOL, mark: z }
+    Frame { due: POOL, fill: z }
 }
 
 // 1 or 2 where a number is a table's, else 0.
@@ -180,8 +180,8 @@ fn line_next(due: u8, lines: usize, table: u8) -> Next
 }
 
 // What is kept on, or nothing.
-fn kept_mark(keeps: bool, m: Mark) -> Mark
-    ensures { λ r. ⌜ r ≡ pick keeps m (markOf nothing) ⌝ }
+fn kept_fill(keeps: bool, m: Fill) -> Fill
+    ensures { λ r. ⌜ r ≡ pick keeps m (fillOf nothing) ⌝ }
 {
     if keeps {
         return m;
@@ -192,18 +192,18 @@ fn kept_mark(keeps: bool, m: Mark) -> Mark
 // The bytes of a part up to the next LF, or all of them.
 pub fn hear(f: Frame, buf: &mut [u8], part: &[u8]) -> Heard
     requires { ⌜ Held f × (keptMost ≤ length (now buf)) ⌝ }
-    ensures heard { λ r. ⌜ r ≡ heardAs f (gatherOf (f .mark .lines + 1) (keptIn (f .mark) (now (buf .entry))) (now (part .entry))) ⌝ }
-    ensures kept { λ r. ⌜ now (buf .exit) ≡ over (gatherOf (f .mark .lines + 1) (keptIn (f .mark) (now (buf .entry))) (now (part .entry)) .kept .bytes) (now (buf .entry)) ⌝ }
+    ensures heard { λ r. ⌜ r ≡ heardAs f (gatherOf (f .fill .lines + 1) (keptIn (f .fill) (now (buf .entry))) (now (part .entry))) ⌝ }
+    ensures kept { λ r. ⌜ now (buf .exit) ≡ over (gatherOf (f .fill .lines + 1) (keptIn (f .fill) (now (buf .entry))) (now (part .entry)) .kept .bytes) (now (buf .entry)) ⌝ }
     ensures held { λ r. ⌜ Held (r .frame) × (r .used ≤ length (now (part .entry))) × (0 < length (now (part .entry)) → 0 < r .used) × (r .count ≤ keptMost) ⌝ }
 {
-    let m = f.mark;
+    let m = f.fill;
     let from = m.count - m.width;
     let n = m.lines;
     let g = gather(buf, m, part, n + 1);
-    let k = g.mark;
+    let k = g.fill;
     let due = f.due;
     if k.lines <= n {
-        let d = Frame { due, mark: k };
+        let d = Frame { due, fill: k };
         return Heard {
             frame: d,
             used: g.used,
@@ -217,7 +217,7 @@ pub fn hear(f: Frame, buf: &mut [u8], part: &[u8]) -> Heard
     let x = line_next(due, k.lines, t);
     let d = Frame {
         due: x.due,
-        mark: kept_mark(x.keeps, k),
+        fill: kept_fill(x.keeps, k),
     };
     Heard {
         frame: d,

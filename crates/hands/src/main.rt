@@ -251,7 +251,7 @@ fn answer(w: Wish, l: Line, cards: &mut [u8], out: &mut [u8], at: usize) -> usiz
     put(out, end, 10)
 }
 
-struct Served {
+struct ServedTo {
     line: Line,
     at: usize,
 }
@@ -269,18 +269,18 @@ fn flush(answers: &[u8]) -> usize
 }
 
 // A byte of the input: an LF ends a line, which is answered.
-fn serve_byte(w: Wish, l: Line, cards: &mut [u8], b: u8, out: &mut [u8], at: usize) -> Served
+fn serve_byte(w: Wish, l: Line, cards: &mut [u8], b: u8, out: &mut [u8], at: usize) -> ServedTo
     requires { ⌜ (l .have ≤ length (now cards)) × (at ≤ length (now out)) × (length (now out) ≡ 65536) ⌝ }
     ensures { λ r. ⌜ (r .line .have ≤ length (now (cards .entry))) × (r .at ≤ length (now (out .entry))) ⌝ }
 {
     if b != 10 {
         let line = take_byte(l, cards, b);
-        return Served { line, at };
+        return ServedTo { line, at };
     }
     let k = flush(&out[0..at]);
     let end = answer(w, l, cards, out, k);
     let line = fresh();
-    Served { line, at: end }
+    ServedTo { line, at: end }
 }
 
 // Answers every line that ends in this part of the input, in one write where the answers fit.
@@ -303,27 +303,27 @@ fn serve(w: Wish, l: Line, cards: &mut [u8], part: &[u8]) -> Line
     line
 }
 
-struct Turn {
+struct Lap {
     line: Line,
     more: bool,
 }
 
 // One read, and the answers to it.
-fn read_some(w: Wish, l: Line, cards: &mut [u8]) -> Turn
+fn read_some(w: Wish, l: Line, cards: &mut [u8]) -> Lap
     requires { ⌜ l .have ≤ length (now cards) ⌝ }
     ensures { λ r. ⌜ r .line .have ≤ length (now (cards .entry)) ⌝ }
 {
     let mut input = io::large_buffer();
     let got = libc::read(STDIN_FILENO, &mut input);
     if got <= 0 {
-        return Turn {
+        return Lap {
             line: l,
             more: false,
         };
     }
     let n = io::count(got, &input);
     let line = serve(w, l, cards, &input[..n]);
-    Turn { line, more: true }
+    Lap { line, more: true }
 }
 
 // Reads to the end of the input. A proved loop has to end, so it counts its turns down from a number that no run uses up.

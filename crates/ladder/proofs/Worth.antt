@@ -14,7 +14,7 @@ use Rattle.laws.proofs.Tests.{test}
 use Rattle.cards.specs.Cards.{rank, ordered, lowered, inRow, oneSuit}
 use Rattle.cards.specs.Hands.{ranking52, hand, holdings, classOf, ranksOf, classOfCards, valueOf}
 use Rattle.cards.specs.Falls.{fall}
-use Rattle.ladder.specs.Weigh.{weigh, rankIn, timesIn, Small}
+use Rattle.ladder.specs.Weigh.{weigh, rankIn, timesIn, SmallRanks}
 use Rattle.cards.specs.Reading.{anyAbove}
 use Rattle.cards.specs.declared.Hand.{Hand}
 use Rattle.ladder.proofs.Weighed.{fall-ordered, ranks-ordered, times-ordered}
@@ -42,11 +42,11 @@ no-card-above l e = at-all (λ c. c ≤ 51) l below
         (λ (q : ltb 51 c ≡ false). ltb-false 51 c q)
         (test (ltb 51 c))
 
-small-ranks : (l : List ℕ) → All (λ c. c ≤ 51) l → Small (map rank l)
+small-ranks : (l : List ℕ) → All (λ c. c ≤ 51) l → SmallRanks (map rank l)
 small-ranks [] a = tt
 small-ranks (c ∷ l) a = (omega (arith, a .0), small-ranks l (a .1))
 
-as-ordered : (flush : Bool) (rs : List ℕ) → Small rs → worthAs flush (ordered rs) (holdings rs) ≡ worthOf flush rs
+as-ordered : (flush : Bool) (rs : List ℕ) → SmallRanks rs → worthAs flush (ordered rs) (holdings rs) ≡ worthOf flush rs
 unfolding worthOf worthBy
 as-ordered flush rs s =
     ap₂ (worthAs flush) (sym (ranks-ordered rs s)) (sym (times-ordered rs s)) ∙ ap (λ (ws : List ℕ). worthBy flush ws) (sym (fall-ordered rs s))

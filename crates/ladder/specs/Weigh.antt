@@ -15,5 +15,5 @@ abbrev pub timesIn : ℕ → ℕ
 timesIn w = w / 256
 
 -- each is below 256
-abbrev pub Small : List ℕ → Type 0
-Small l = Below 256 l
+abbrev pub SmallRanks : List ℕ → Type 0
+SmallRanks l = Below 256 l

@@ -16,7 +16,7 @@ use Rattle.blocks.specs.declared.Block.{Block}
 use Rattle.blocks.specs.declared.Block.the-variants.{Raw, Malformed, Nothing}
 use Rattle.blocks.specs.declared.Parsed.{Parsed}
 use Rattle.blocks.specs.declared.Parsed.the-variants.{Read, OutOfRange}
-use Rattle.writing.specs.Sheet.{writtenOf, sheetAfter}
+use Rattle.writing.specs.AnswerSheet.{writtenOf, sheetAfter}
 use Rattle.writing.specs.declared.Written.{Written}
 use Rattle.writing.specs.declared.Written.the-variants.{Bytes, NoRoom}
 use Rattle.table.specs.Take.{Sound}

@@ -12,7 +12,7 @@ use Rattle.paper.specs.SheetAndEntries.{made}
 use Rattle.paper.specs.declared.Numbers.{Numbers}
 use Rattle.blocks.specs.declared.Block.{Block}
 use Rattle.blocks.specs.declared.Block.the-variants.{Raw, Malformed, Nothing}
-use Rattle.writing.specs.Sheet.{fits, writtenOf, sheetAfter}
+use Rattle.writing.specs.AnswerSheet.{fits, writtenOf, sheetAfter}
 use Rattle.writing.specs.declared.Written.{Written}
 use Rattle.writing.specs.declared.Written.the-variants.{Bytes, NoRoom}
 use Rattle.answers.specs.Answer.{answerBytes}

@@ -11,7 +11,7 @@ use Rattle.paper.specs.SheetAndEntries.{made}
 use Rattle.paper.specs.declared.Numbers.{Numbers}
 use Rattle.blocks.specs.declared.Block.{Block}
 use Rattle.blocks.specs.declared.Block.the-variants.{Raw, Malformed, Nothing}
-use Rattle.writing.specs.Sheet.{writtenOf, sheetAfter}
+use Rattle.writing.specs.AnswerSheet.{writtenOf, sheetAfter}
 use Rattle.table.specs.declared.table.Table.{Table}
 use Rattle.records.specs.Stored.{recordSize, rowSize}
 use Rattle.desk.specs.Desk.{judgeBlock, refusedAt, judgedBytes}

@@ -5,7 +5,7 @@ use mathlib.Core.List.{List}
 use Rattle.laws.specs.Tests.{pick}
 use Rattle.paper.specs.declared.Numbers.{Numbers}
 use Rattle.blocks.specs.Block.{blockOf}
-use Rattle.writing.specs.Sheet.{writtenOf, sheetAfter}
+use Rattle.writing.specs.AnswerSheet.{writtenOf, sheetAfter}
 use Rattle.table.specs.declared.table.Table.{Table}
 use Rattle.records.specs.Stored.{entryIn, putRecord}
 use Rattle.fresh.specs.Reading.{indexTo}

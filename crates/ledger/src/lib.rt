@@ -29,7 +29,7 @@ ghost use Prim.Native.Nat.{_+_, _-_, _≤_, _<_, _^_};
 ghost use lib.ListN.{length};
 ghost use Rattle.paper.specs.Paper.{isSheet};
 ghost use Rattle.blocks.specs.Block.{blockOf};
-ghost use Rattle.writing.specs.Sheet.{sheetAfter, writtenOf};
+ghost use Rattle.writing.specs.AnswerSheet.{sheetAfter, writtenOf};
 ghost use Rattle.table.specs.Take.{Sound};
 ghost use Rattle.desk.specs.Desk.{judgedBytes, numberOfBlock, SmallPaid, Closed};
 ghost use Rattle.ledger.specs.Keeping.{openedOf, Held, wasTaken, handsAfter, logAfter, indexKept, answeredAs};

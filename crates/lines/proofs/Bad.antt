@@ -16,7 +16,7 @@ use Rattle.text.specs.Number.{numberOf, wellFormed}
 use Rattle.text.specs.TableSheet.{sheetLines, sheetKeys, sheetNumber, isValue, sheetOf}
 use Rattle.text.specs.declared.Number.{Number}
 use Rattle.text.specs.declared.Number.the-variants as number
-use Rattle.text.specs.declared.sheet.Opening.the-variants as opening
+use Rattle.text.specs.declared.sheet.SheetRead.the-variants as read-as
 use Rattle.text.proofs.SheetLaws.{good-not, sheet-bad}
 use Rattle.blocks.specs.Block.{kindOf, lineKind, blockFrom, blockOf}
 use Rattle.blocks.specs.declared.Block.the-variants.{Raw, Malformed, Nothing}
@@ -181,7 +181,7 @@ bad-block (b ∷ bs) h l e =
     long-block (s .line) (b ∷ bs) (omega (arith, s .among)) (omega arith) (s .long)
 
 -- and a sheet is bad
-pub bad-sheet : (raw : List ℕ) → keepAll nothing raw .bad ≡ true → lfs raw ≤ sheetLines → afterLines sheetLines raw ≡ [] → sheetOf raw ≡ opening.Bad
+pub bad-sheet : (raw : List ℕ) → keepAll nothing raw .bad ≡ true → lfs raw ≤ sheetLines → afterLines sheetLines raw ≡ [] → sheetOf raw ≡ read-as.Bad
 unfolding sheetNumber
 bad-sheet raw h l e =
     let s = spoilt sheetLines raw h l e in

@@ -15,7 +15,7 @@ use Rattle.laws.proofs.Tests.{test}
 use Rattle.laws.proofs.Sums.{le-or-lt}
 use Rattle.text.specs.Line.{afterLines}
 use Rattle.text.specs.TableSheet.{sheetLines}
-use Rattle.lines.specs.Kept.{Kept, nothing, badOf, keepOf, keepAll, Gathered, further, gatherOf, markOf, Room, linesOf}
+use Rattle.lines.specs.Kept.{Kept, nothing, badOf, keepOf, keepAll, Gathered, further, gatherOf, fillOf, Room, linesOf}
 use Rattle.lines.proofs.Keeps.{bad-when}
 use Rattle.lines.proofs.Cut.{lfs, lfs-append, kept-lines, keep-lf, keep-in, keep-out, after-lf, after-on}
 
@@ -150,11 +150,11 @@ bad-stays k (b ∷ bs) h = bad-stays (keepOf k b) bs (bad-on k b h)
 
 -- ---- what is kept fits the buffer
 
-pub keep-room : (k : Kept) (b : ℕ) → Room (markOf k) → k .lines < sheetLines → Room (markOf (keepOf k b))
+pub keep-room : (k : Kept) (b : ℕ) → Room (fillOf k) → k .lines < sheetLines → Room (fillOf (keepOf k b))
 keep-room k b r h = ⊎-elim
     (λ e.
     let n = length-append (k .bytes) (b ∷ []) in
-    subst (λ (x : Kept). Room (markOf x)) (sym (keep-lf k b e)) (record {
+    subst (λ (x : Kept). Room (fillOf x)) (sym (keep-lf k b e)) (record {
       count = omega (arith, n, r .count, r .width);
       least = omega arith;
       bad = λ q. omega (arith, n, r .bad q);
@@ -166,7 +166,7 @@ keep-room k b r h = ⊎-elim
     (λ f.
     let n = length-append (k .bytes) (b ∷ []) in
     let w : k .width < 33 = ltb-true (k .width) 33 f in
-    subst (λ (x : Kept). Room (markOf x)) (sym (keep-in k b e f)) (record {
+    subst (λ (x : Kept). Room (fillOf x)) (sym (keep-in k b e f)) (record {
       count = omega (arith, n, r .count);
       least = omega (arith, n, r .least);
       bad = λ q. ⊎-elim (λ z. omega (arith, n, r .least)) (λ z. omega (arith, n, r .bad z)) (bad-when (k .width) (k .bad) refl q);
@@ -174,15 +174,15 @@ keep-room k b r h = ⊎-elim
       lines = omega (arith, r .lines);
       most = omega (arith, n, r .count, r .width);
     }))
-    (λ f. subst (λ (x : Kept). Room (markOf x)) (sym (keep-out k b e f)) r)
+    (λ f. subst (λ (x : Kept). Room (fillOf x)) (sym (keep-out k b e f)) r)
     (test (ltb (k .width) 33)))
     (test (eqb b 10))
 
-pub gather-room : (want : ℕ) (k : Kept) (part : List ℕ) → want ≤ sheetLines → k .lines < want → Room (markOf k) → Room (markOf (gatherOf want k part .kept))
+pub gather-room : (want : ℕ) (k : Kept) (part : List ℕ) → want ≤ sheetLines → k .lines < want → Room (fillOf k) → Room (fillOf (gatherOf want k part .kept))
 gather-room want k [] w h r = r
 gather-room want k (b ∷ bs) w h r = ⊎-elim
-    (λ e. subst (λ (g : Gathered). Room (markOf (g .kept))) (sym (gather-ends want k b bs e)) (keep-room k b r (omega arith)))
-    (λ e. subst (λ (g : Gathered). Room (markOf (g .kept))) (sym (gather-goes want k b bs e))
+    (λ e. subst (λ (g : Gathered). Room (fillOf (g .kept))) (sym (gather-ends want k b bs e)) (keep-room k b r (omega arith)))
+    (λ e. subst (λ (g : Gathered). Room (fillOf (g .kept))) (sym (gather-goes want k b bs e))
     (gather-room want (keepOf k b) bs w (leb-false want (keepOf k b .lines) e) (keep-room k b r (omega arith))))
     (test (leb want (keepOf k b .lines)))
 

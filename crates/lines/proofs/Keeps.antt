@@ -12,20 +12,20 @@ use lib.Dec.{eqb, ltb}
 use borrow.Author.Tests.{eqb-true, eq-eqb, ne-eqb, lt-ltb, le-ltb, le-leb, lt-leb}
 use Rattle.laws.specs.Tests.{pick}
 use Rattle.laws.proofs.Tests.{test}
-use Rattle.writing.specs.Sheet.{over}
+use Rattle.writing.specs.AnswerSheet.{over}
 use Rattle.lines.proofs.Cut.{keep-lf, keep-in, keep-out}
-use Rattle.lines.specs.declared.Mark.{Mark}
-use Rattle.lines.specs.declared.Got.{Got}
-use Rattle.lines.specs.Kept.{Kept, nothing, badOf, keepOf, Gathered, further, gatherOf, keptIn, markOf, gotOf, Room}
+use Rattle.lines.specs.declared.Fill.{Fill}
+use Rattle.lines.specs.declared.Progress.{Progress}
+use Rattle.lines.specs.Kept.{Kept, nothing, badOf, keepOf, Gathered, further, gatherOf, keptIn, fillOf, progressOf, Room}
 
 -- ---- what is kept is what lies at the buffer's front
 
-pub kept-back : (k : Kept) (buf : List ℕ) → keptIn (markOf k) (over (k .bytes) buf) ≡ k
+pub kept-back : (k : Kept) (buf : List ℕ) → keptIn (fillOf k) (over (k .bytes) buf) ≡ k
 kept-back k buf =
     ap (λ (x : List ℕ). record { bytes = x; lines = k .lines; width = k .width; bad = k .bad }) (take-append-seam (k .bytes) (drop (length (k .bytes)) buf))
 
-pub mark-back : (m : Mark) (buf : List ℕ) → m .count ≤ length buf → m ≡ markOf (keptIn m buf)
-mark-back m buf h =
+pub fill-back : (m : Fill) (buf : List ℕ) → m .count ≤ length buf → m ≡ fillOf (keptIn m buf)
+fill-back m buf h =
     let e : m .count ≡ length (take (m .count) buf) = omega (arith, length-take (m .count) buf) in
     ap (λ (n : ℕ). record { count = n; lines = m .lines; width = m .width; bad = m .bad }) e
 
@@ -53,7 +53,7 @@ bad-when width bad e h = ⊎-elim
     (λ z. inr (sym (ap (λ (b : Bool). pick b true bad) z) ∙ sym e ∙ h))
     (test (eqb width 32))
 
-pub empty-room : Room (markOf nothing)
+pub empty-room : Room (fillOf nothing)
 empty-room = record {
   count = omega arith;
   least = omega arith;
@@ -64,7 +64,7 @@ empty-room = record {
 }
 
 -- no byte is kept and no line is too long
-pub none-kept : (m : Mark) (buf : List ℕ) → Room m → m .lines ≡ 0 → m .width ≡ 0 → keptIn m buf ≡ nothing
+pub none-kept : (m : Fill) (buf : List ℕ) → Room m → m .lines ≡ 0 → m .width ≡ 0 → keptIn m buf ≡ nothing
 none-kept m buf r l w =
     let c : m .count ≡ 0 = omega (arith, r .count) in
     let b : m .bad ≡ false = ⊎-elim (λ e. absurd (omega (arith, r .bad e))) (λ e. e) (test (m .bad)) in
@@ -74,7 +74,7 @@ none-kept m buf r l w =
         → _≡_ {A = Kept} (record { bytes = x; lines = i; width = u; bad = a }) (record { bytes = y; lines = j; width = v; bad = b })
     same p q r s = cc
 
-module _ (m : Mark) (buf : List ℕ) (b : ℕ) (h : m .count < length buf) where
+module _ (m : Fill) (buf : List ℕ) (b : ℕ) (h : m .count < length buf) where
   abbrev more : List ℕ
   more = take (m .count) buf ++ (b ∷ [])
 
@@ -88,8 +88,8 @@ module _ (m : Mark) (buf : List ℕ) (b : ℕ) (h : m .count < length buf) where
       ∙ ap (λ (i : ℕ). more ++ drop i buf) (sym (add-one (m .count)) ∙ size)
 
   -- so much, and the buffer
-  abbrev Is : Mark → List ℕ → Type 0
-  Is r new = (r ≡ markOf (keepOf (keptIn m buf) b)) × (new ≡ over (keepOf (keptIn m buf) b .bytes) buf)
+  abbrev Is : Fill → List ℕ → Type 0
+  Is r new = (r ≡ fillOf (keepOf (keptIn m buf) b)) × (new ≡ over (keepOf (keptIn m buf) b .bytes) buf)
 
   pub keep-end : b ≡ 10 → Is (record { count = m .count + 1; lines = m .lines + 1; width = 0; bad = m .bad }) (set buf (m .count) b)
   unfolding keepOf
@@ -107,7 +107,7 @@ module _ (m : Mark) (buf : List ℕ) (b : ℕ) (h : m .count < length buf) where
 
   pub keep-not : (b ≡ 10 → ⊥) → 33 ≤ m .width → Is m buf
   unfolding keepOf
-  keep-not n w = rw (ne-eqb b 10 n, le-ltb (m .width) 33 w) (mark-back m buf (omega arith), over-own (m .count) buf (omega arith))
+  keep-not n w = rw (ne-eqb b 10 n, le-ltb (m .width) 33 w) (fill-back m buf (omega arith), over-own (m .count) buf (omega arith))
 
 -- nothing that is kept goes
 pub keeps-longer : (k : Kept) (b : ℕ) → length (k .bytes) ≤ length (keepOf k b .bytes)
@@ -132,7 +132,7 @@ module _ (want : ℕ) (k : Kept) (part : List ℕ) (i : ℕ) where
   gather-end h = rw (drop-of-length-le part h)
 
 -- what is gathered is what is gathered from the place i on, behind i bytes that are used up; the buffer has what is kept at its front
-pub record Going (want : ℕ) (g : Gathered) (part buf₀ : List ℕ) (m : Mark) (buf : List ℕ) (i : ℕ) : Type 0 where
+pub record Going (want : ℕ) (g : Gathered) (part buf₀ : List ℕ) (m : Fill) (buf : List ℕ) (i : ℕ) : Type 0 where
   pub inside : i ≤ length part
   pub size : length buf ≡ length buf₀
   pub fits : m .count ≤ length buf
@@ -140,25 +140,25 @@ pub record Going (want : ℕ) (g : Gathered) (part buf₀ : List ℕ) (m : Mark)
   pub kept : g .kept ≡ gatherOf want (keptIn m buf) (drop i part) .kept
   pub used : g .used ≡ i + gatherOf want (keptIn m buf) (drop i part) .used
 
-pub going-start : (want : ℕ) (part buf : List ℕ) (m : Mark) → m .count ≤ length buf → Going want (gatherOf want (keptIn m buf) part) part buf m buf 0
+pub going-start : (want : ℕ) (part buf : List ℕ) (m : Fill) → m .count ≤ length buf → Going want (gatherOf want (keptIn m buf) part) part buf m buf 0
 going-start want part buf m h = record { inside = omega arith; size = refl; fits = h; front = over-own (m .count) buf h; kept = refl; used = omega arith }
 
-module _ {want : ℕ} {g : Gathered} {part buf₀ : List ℕ} {m : Mark} {buf : List ℕ} {i : ℕ} (s : Going want g part buf₀ m buf i) where
+module _ {want : ℕ} {g : Gathered} {part buf₀ : List ℕ} {m : Fill} {buf : List ℕ} {i : ℕ} (s : Going want g part buf₀ m buf i) where
   -- the part is at its end
-  pub going-end : length part ≤ i → (record { mark = m; used = i } ≡ gotOf g) × (buf ≡ over (g .kept .bytes) buf₀)
+  pub going-end : length part ≤ i → (record { fill = m; used = i } ≡ progressOf g) × (buf ≡ over (g .kept .bytes) buf₀)
   going-end h =
       let e : gatherOf want (keptIn m buf) (drop i part) ≡ record { kept = keptIn m buf; used = 0 } = gather-end want (keptIn m buf) part i h in
       let k : g .kept ≡ keptIn m buf = s .kept ∙ ap (λ (x : Gathered). x .kept) e in
       let u : i ≡ g .used = omega (arith, s .used, ap (λ (x : Gathered). x .used) e) in (
-        same-got (mark-back m buf (s .fits) ∙ ap markOf (sym k)) u,
+        same-progress (fill-back m buf (s .fits) ∙ ap fillOf (sym k)) u,
         s .front ∙ ap (λ (x : Kept). over (x .bytes) buf₀) (sym k),
       )
     where
-      same-got : {a b : Mark} {u v : ℕ} → a ≡ b → u ≡ v → _≡_ {A = Got} (record { mark = a; used = u }) (record { mark = b; used = v })
-      same-got p q = cc
+      same-progress : {a b : Fill} {u v : ℕ} → a ≡ b → u ≡ v → _≡_ {A = Progress} (record { fill = a; used = u }) (record { fill = b; used = v })
+      same-progress p q = cc
 
-  module _ {r : Mark} {new : List ℕ} (h : i < length part)
-      (e : r ≡ markOf (keepOf (keptIn m buf) (getD part i 0))) (n : new ≡ over (keepOf (keptIn m buf) (getD part i 0) .bytes) buf) (l : length new ≡ length buf) where
+  module _ {r : Fill} {new : List ℕ} (h : i < length part)
+      (e : r ≡ fillOf (keepOf (keptIn m buf) (getD part i 0))) (n : new ≡ over (keepOf (keptIn m buf) (getD part i 0) .bytes) buf) (l : length new ≡ length buf) where
     abbrev next : Kept
     next = keepOf (keptIn m buf) (getD part i 0)
 
@@ -171,27 +171,27 @@ module _ {want : ℕ} {g : Gathered} {part buf₀ : List ℕ} {m : Mark} {buf : 
         ∙ over-again (take (m .count) buf) (next .bytes) buf₀ (omega (arith, longer, length-take (m .count) buf))
 
     kept-is : keptIn r new ≡ next
-    kept-is = ap (λ (x : Mark). keptIn x new) e ∙ ap (keptIn (markOf next)) new-front ∙ kept-back next buf₀
+    kept-is = ap (λ (x : Fill). keptIn x new) e ∙ ap (keptIn (fillOf next)) new-front ∙ kept-back next buf₀
 
     -- the last line is ended
-    pub going-stop : want ≤ r .lines → (record { mark = r; used = i + 1 } ≡ gotOf g) × (new ≡ over (g .kept .bytes) buf₀)
+    pub going-stop : want ≤ r .lines → (record { fill = r; used = i + 1 } ≡ progressOf g) × (new ≡ over (g .kept .bytes) buf₀)
     going-stop w =
         let f : gatherOf want (keptIn m buf) (drop i part) ≡ record { kept = next; used = 1 } =
-        gather-stop want (keptIn m buf) part i h (omega (arith, ap (λ (x : Mark). x .lines) e)) in
+        gather-stop want (keptIn m buf) part i h (omega (arith, ap (λ (x : Fill). x .lines) e)) in
         let k : g .kept ≡ next = s .kept ∙ ap (λ (x : Gathered). x .kept) f in
         let u : i + 1 ≡ g .used = omega (arith, s .used, ap (λ (x : Gathered). x .used) f) in (
-          same-got (e ∙ ap markOf (sym k)) u,
+          same-progress (e ∙ ap fillOf (sym k)) u,
           new-front ∙ ap (λ (x : Kept). over (x .bytes) buf₀) (sym k),
         )
       where
-        same-got : {a b : Mark} {u v : ℕ} → a ≡ b → u ≡ v → _≡_ {A = Got} (record { mark = a; used = u }) (record { mark = b; used = v })
-        same-got p q = cc
+        same-progress : {a b : Fill} {u v : ℕ} → a ≡ b → u ≡ v → _≡_ {A = Progress} (record { fill = a; used = u }) (record { fill = b; used = v })
+        same-progress p q = cc
 
     -- it is not
     pub going-turn : r .lines < want → r .count ≤ length buf → Going want g part buf₀ r new (i + 1)
     going-turn w c =
         let f : gatherOf want (keptIn m buf) (drop i part) ≡ further (gatherOf want next (drop (i + 1) part)) =
-        gather-on want (keptIn m buf) part i h (omega (arith, ap (λ (x : Mark). x .lines) e)) in
+        gather-on want (keptIn m buf) part i h (omega (arith, ap (λ (x : Fill). x .lines) e)) in
         record {
           inside = omega arith;
           size = l ∙ s .size;

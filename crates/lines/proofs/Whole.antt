@@ -16,7 +16,7 @@ use Rattle.text.specs.Line.{lineLen, lineOf, lineEnded, hasKey, valueOf, afterL
 use Rattle.blocks.specs.Block.{blockOf}
 use Rattle.blocks.specs.Front.{blockEnded}
 use Rattle.text.specs.TableSheet.{sheetLines, sheetKeys, sheetNumber, isValue, sheetOf}
-use Rattle.text.specs.declared.sheet.Opening.the-variants.{Bad}
+use Rattle.text.specs.declared.sheet.SheetRead.the-variants.{Bad}
 use Rattle.text.proofs.SheetLaws.{good-not, sheet-bad, sheet-same}
 use Rattle.lines.specs.Kept.{Kept, nothing, keepAll, Gathered, gatherOf}
 use Rattle.lines.proofs.Cut.{ended, cap, lfs, cap-lf, cap-in, kept-bytes, lfs-lf, lfs-on, ended-is, value-same, cap-lines, cap-value, cap-block, lines-front, lines-lfs, front-line, front-block, lines-none}

@@ -8,8 +8,8 @@ use lib.ListN.{length, take}
 use lib.Dec.{eqb, ltb, leb}
 use Rattle.laws.specs.Tests.{pick}
 use Rattle.text.specs.TableSheet.{sheetLines, sheetRoom}
-use Rattle.lines.specs.declared.Mark.{Mark}
-use Rattle.lines.specs.declared.Got.{Got}
+use Rattle.lines.specs.declared.Fill.{Fill}
+use Rattle.lines.specs.declared.Progress.{Progress}
 
 -- what is kept of unfinished lines: bytes, how many LFs are among them, how many bytes stand behind the last LF, and whether a line has grown past 32 bytes
 pub record Kept : Type 0 where
@@ -52,23 +52,23 @@ abbrev pub gatherOf : ℕ → Kept → List ℕ → Gathered
 gatherOf want k [] = record { kept = k; used = 0 }
 gatherOf want k (b ∷ bs) = pick (leb want (keepOf k b .lines)) (record { kept = keepOf k b; used = 1 }) (further (gatherOf want (keepOf k b) bs))
 
--- ---- as it lies in a lent buffer: the bytes at its front, and a mark of the rest
+-- ---- as it lies in a lent buffer: the bytes at its front, and how far it is filled
 
-abbrev pub keptIn : Mark → List ℕ → Kept
+abbrev pub keptIn : Fill → List ℕ → Kept
 keptIn m buf = record { bytes = take (m .count) buf; lines = m .lines; width = m .width; bad = m .bad }
 
-abbrev pub markOf : Kept → Mark
-markOf k = record { count = length (k .bytes); lines = k .lines; width = k .width; bad = k .bad }
+abbrev pub fillOf : Kept → Fill
+fillOf k = record { count = length (k .bytes); lines = k .lines; width = k .width; bad = k .bad }
 
-abbrev pub gotOf : Gathered → Got
-gotOf g = record { mark = markOf (g .kept); used = g .used }
+abbrev pub progressOf : Gathered → Progress
+progressOf g = record { fill = fillOf (g .kept); used = g .used }
 
 -- the sheet's lines, each with 33 bytes and its LF
 abbrev pub keptMost : ℕ
 keptMost = sheetRoom
 
 -- what is kept fits the buffer; a line that is too long is there
-pub record Room (m : Mark) : Type 0 where
+pub record Room (m : Fill) : Type 0 where
   pub count : m .count ≤ m .lines * 34 + m .width
   pub least : m .width ≤ m .count
   pub bad : m .bad ≡ true → 33 ≤ m .count

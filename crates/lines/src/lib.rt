@@ -3,12 +3,12 @@ use text::sheet::LINES;
 ghost use mathlib.Core.Path.{_≡_};
 ghost use Prim.Native.Nat.{ℕ, _+_, _-_, _*_, _≤_, _<_};
 ghost use lib.ListN.{length};
-ghost use Rattle.writing.specs.Sheet.{over};
+ghost use Rattle.writing.specs.AnswerSheet.{over};
 ghost use Rattle.text.specs.TableSheet.{sheetLines};
-ghost use Rattle.lines.specs.Kept.{nothing, linesOf, badOf, keepOf, gatherOf, keptIn, markOf, gotOf, keptMost, Room};
+ghost use Rattle.lines.specs.Kept.{nothing, linesOf, badOf, keepOf, gatherOf, keptIn, fillOf, progressOf, keptMost, Room};
 
-// How much is kept: its bytes, its LFs, the bytes of the line that is not ended, and whether a line of it has grown past 32 bytes.
-pub struct Mark {
+// How far a lent buffer is filled by what is kept: its bytes, its LFs, the bytes of the line that is not ended, and whether a line of it has grown past 32 bytes.
+pub struct Fill {
     pub count: usize,
     pub lines: usize,
     pub width: usize,
@@ -23,10 +23,10 @@ pub fn lines_of(opened: bool) -> usize
 }
 
 // Nothing is kept.
-pub fn empty() -> Mark
-    ensures { λ r. ⌜ (r ≡ markOf nothing) × Room r ⌝ }
+pub fn empty() -> Fill
+    ensures { λ r. ⌜ (r ≡ fillOf nothing) × Room r ⌝ }
 {
-    Mark {
+    Fill {
         count: 0,
         lines: 0,
         width: 0,
@@ -45,14 +45,14 @@ fn bad_with(width: usize, bad: bool) -> bool
 }
 
 // One byte more.
-fn keep(buf: &mut [u8], m: Mark, b: u8) -> Mark
+fn keep(buf: &mut [u8], m: Fill, b: u8) -> Fill
     requires { ⌜ Room m × (m .lines < sheetLines) × (keptMost ≤ length (now buf)) ⌝ }
-    ensures { λ r. ⌜ (r ≡ markOf (keepOf (keptIn m (now (buf .entry))) b)) × (now (buf .exit) ≡ over (keepOf (keptIn m (now (buf .entry))) b .bytes) (now (buf .entry))) × Room r ⌝ }
+    ensures { λ r. ⌜ (r ≡ fillOf (keepOf (keptIn m (now (buf .entry))) b)) × (now (buf .exit) ≡ over (keepOf (keptIn m (now (buf .entry))) b .bytes) (now (buf .entry))) × Room r ⌝ }
 {
     let at = m.count;
     if b == 10 {
         buf[at] = b;
-        return Mark {
+        return Fill {
             count: at + 1,
             lines: m.lines + 1,
             width: 0,
@@ -61,7 +61,7 @@ fn keep(buf: &mut [u8], m: Mark, b: u8) -> Mark
     }
     if m.width < 33 {
         buf[at] = b;
-        return Mark {
+        return Fill {
             count: at + 1,
             lines: m.lines,
             width: m.width + 1,
@@ -71,28 +71,28 @@ fn keep(buf: &mut [u8], m: Mark, b: u8) -> Mark
     m
 }
 
-pub struct Got {
-    pub mark: Mark,
+pub struct Progress {
+    pub fill: Fill,
     pub used: usize,
 }
 
 // The bytes of a part up to the LF of the last of so many lines, or all of them.
-pub fn gather(buf: &mut [u8], m: Mark, part: &[u8], want: usize) -> Got
+pub fn gather(buf: &mut [u8], m: Fill, part: &[u8], want: usize) -> Progress
     requires { ⌜ Room m × (m .lines < want) × (want ≤ sheetLines) × (keptMost ≤ length (now buf)) ⌝ }
-    ensures got { λ r. ⌜ r ≡ gotOf (gatherOf want (keptIn m (now (buf .entry))) (now (part .entry))) ⌝ }
+    ensures got { λ r. ⌜ r ≡ progressOf (gatherOf want (keptIn m (now (buf .entry))) (now (part .entry))) ⌝ }
     ensures kept { λ r. ⌜ now (buf .exit) ≡ over (gatherOf want (keptIn m (now (buf .entry))) (now (part .entry)) .kept .bytes) (now (buf .entry)) ⌝ }
-    ensures room { λ r. ⌜ Room (r .mark) × (r .used ≤ length (now (part .entry))) × (0 < length (now (part .entry)) → 0 < r .used) ⌝ }
+    ensures room { λ r. ⌜ Room (r .fill) × (r .used ≤ length (now (part .entry))) × (0 < length (now (part .entry)) → 0 < r .used) ⌝ }
 {
-    let mut mark = m;
+    let mut fill = m;
     let mut i: usize = 0;
     while i < part.len() {
         let b = part[i];
-        mark = keep(buf, mark, b);
+        fill = keep(buf, fill, b);
         i += 1;
-        let n = mark.lines;
+        let n = fill.lines;
         if want <= n {
-            return Got { mark, used: i };
+            return Progress { fill, used: i };
         }
     }
-    Got { mark, used: i }
+    Progress { fill, used: i }
 }

@@ -14,7 +14,7 @@ use Rattle.text.specs.Number.{digits}
 use Rattle.text.specs.Line.{numberLine}
 use Rattle.blocks.specs.Block.{blockOf}
 use Rattle.blocks.specs.Entry.{parsedOf}
-use Rattle.writing.specs.Sheet.{Wrote, fits, sheetAfter}
+use Rattle.writing.specs.AnswerSheet.{Wrote, fits, sheetAfter}
 use Rattle.text.proofs.Lines.{line-count}
 use Rattle.text.proofs.Numbers.{count-most}
 use Rattle.blocks.specs.declared.Block.{Block}

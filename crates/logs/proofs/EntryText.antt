@@ -33,7 +33,7 @@ use Rattle.text.proofs.Lines.{line-count}
 use Rattle.blocks.proofs.Entries.{numbers-back, entry-back, read-is, kind-known}
 use Rattle.text.proofs.RoundTrip.{NoLF, no-append, value-is, after-is, read-line, read-rest}
 use Rattle.text.proofs.ReadBack.{value-back, line-back}
-use Rattle.logs.specs.LogText.{wordLine, blockText, entryText, isEntry, Small}
+use Rattle.logs.specs.LogText.{wordLine, blockText, entryText, isEntry, SmallEntry}
 use Rattle.logs.proofs.SheetText.{letters-no}
 
 -- ---- the numbers of an entry in range have at most nine digits
@@ -53,7 +53,7 @@ seat-most : (sheet : Sheet) (used : Bool) (x : ℕ) → either (not used) (isSea
 unfolding isSeat
 seat-most sheet used x p q = at-most used 1 (sheet .seats) x p q
 
-pub fits-small : (sheet : Sheet) (n : ℕ) (x : Numbers) → isSheet sheet ≡ true → isCount n ≡ true → numbersFit sheet x ≡ true → Small n x
+pub fits-small : (sheet : Sheet) (n : ℕ) (x : Numbers) → isSheet sheet ≡ true → isCount n ≡ true → numbersFit sheet x ≡ true → SmallEntry n x
 fits-small sheet n x s c f =
     let p = both-true (makesEntry x) (ranged sheet (rowAt (x .kind)) x) f in
     let m = both-true (ltb (x .kind) 12) (spared (rowAt (x .kind)) x) (p .0) in
@@ -76,7 +76,7 @@ fits-small sheet n x s c f =
     let count : n ≤ 1000000 = between-in 1 1000000 n c .1 in
     record { kind = kind; count = omega arith; seat = omega arith; a = omega arith; b = omega arith }
 
-pub entry-small : (sheet : Sheet) (n : ℕ) (e : Entry) → isEntry sheet n e ≡ true → Small n (numbersOf e)
+pub entry-small : (sheet : Sheet) (n : ℕ) (e : Entry) → isEntry sheet n e ≡ true → SmallEntry n (numbersOf e)
 unfolding isEntry inRange
 entry-small sheet n e h =
     let p = both-true (isSheet sheet) (both (isCount n) (numbersFit sheet (numbersOf e))) h in
@@ -189,7 +189,7 @@ module _ (n : ℕ) (x : Numbers) (rest : List ℕ) where
 
 -- ---- reading what was written
 
-module _ (n : ℕ) (x : Numbers) (small : Small n x) (rest : List ℕ) where
+module _ (n : ℕ) (x : Numbers) (small : SmallEntry n x) (rest : List ℕ) where
   no-n : NoLF (110 ∷ [])
   no-n = letters-no (110 ∷ []) refl
 

@@ -22,7 +22,7 @@ use Rattle.text.specs.TableSheet.{sheetLines, sheetOf, sheetEnd}
 use Rattle.blocks.specs.declared.Block.{Block}
 use Rattle.blocks.specs.declared.Block.the-variants.{Raw, Malformed, Nothing}
 use Rattle.blocks.specs.declared.Parsed.{Parsed}
-use Rattle.text.specs.declared.sheet.Opening.{Opening}
+use Rattle.text.specs.declared.sheet.SheetRead.{SheetRead}
 use Rattle.blocks.proofs.Blocks.{rest-shorter}
 use Rattle.text.proofs.Lines.{after-lines-no-longer}
 use Rattle.text.proofs.SheetLaws.{sheet-is}
@@ -32,7 +32,7 @@ use Rattle.logs.proofs.SheetText.{sheet-read, sheet-rest, sheet-back}
 use Rattle.logs.proofs.EntryText.{entry-read, entry-rest, accepted-back}
 use Rattle.logs.proofs.KindRows.{block-count}
 use Rattle.blocks.specs.declared.Parsed.the-variants as parsed
-use Rattle.text.specs.declared.sheet.Opening.the-variants as opening
+use Rattle.text.specs.declared.sheet.SheetRead.the-variants as read-as
 
 abbrev pub Zero : ℕ → Type 0
 Zero c = c ≡ 0
@@ -107,13 +107,13 @@ copies-clean (suc j) (suc k) sheet log = ⊎-elim
     (test (eqb (length log) 0))
 
 -- "its output is a log that the clerk reads without a code 1 or 2", and with the same sheet
-pub fair-clean : (log : List ℕ) (s : Sheet) → sheetOf log ≡ opening.Read s
-    → (sheetOf (fairCopy log) ≡ opening.Read s) × ((j : ℕ) → All Zero (codesFrom j s (sheetEnd (fairCopy log))))
+pub fair-clean : (log : List ℕ) (s : Sheet) → sheetOf log ≡ read-as.Read s
+    → (sheetOf (fairCopy log) ≡ read-as.Read s) × ((j : ℕ) → All Zero (codesFrom j s (sheetEnd (fairCopy log))))
 unfolding fairCopy
 fair-clean log s e =
     let good = sheet-is log s e in
     let more : List ℕ = copiesFrom (length log) s (sheetEnd log) in
-    let is : fairFrom (sheetOf log) log ≡ sheetText s ++ more = ap (λ (o : Opening). fairFrom o log) e in (
+    let is : fairFrom (sheetOf log) log ≡ sheetText s ++ more = ap (λ (o : SheetRead). fairFrom o log) e in (
       ap sheetOf is ∙ sheet-read s good more,
       λ j. subst (λ (l : List ℕ). All Zero (codesFrom j s l)) (sym (ap sheetEnd is ∙ sheet-rest s good more)) (copies-clean j (length log) s (sheetEnd log)),
     )
@@ -142,9 +142,9 @@ copies-same (suc k) sheet log h z = ⊎-elim
     (block-case sheet log))
     (test (eqb (length log) 0))
 
-pub fair-same : (log : List ℕ) (s : Sheet) → sheetOf log ≡ opening.Read s → All Zero (codesFrom (length log) s (sheetEnd log)) → fairCopy log ≡ log
+pub fair-same : (log : List ℕ) (s : Sheet) → sheetOf log ≡ read-as.Read s → All Zero (codesFrom (length log) s (sheetEnd log)) → fairCopy log ≡ log
 unfolding fairCopy sheetEnd
 fair-same log s e z =
-    ap (λ (o : Opening). fairFrom o log) e
+    ap (λ (o : SheetRead). fairFrom o log) e
     ∙ ap (λ (l : List ℕ). sheetText s ++ l) (copies-same (length log) s (sheetEnd log) (after-lines-no-longer sheetLines log) z)
     ∙ sym (sheet-back log s e)

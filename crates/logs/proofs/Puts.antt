@@ -13,17 +13,17 @@ use Rattle.paper.proofs.Sheets.{good-small}
 use Rattle.paper.specs.declared.Sheet.{Sheet}
 use Rattle.paper.specs.declared.Entry.{Entry}
 use Rattle.text.specs.Line.{numberLine}
-use Rattle.writing.specs.Sheet.{Wrote, fits}
+use Rattle.writing.specs.AnswerSheet.{Wrote, fits}
 use Rattle.text.specs.TableSheet.{sheetLines, sheetKeys}
 use Rattle.writing.proofs.Sheets.{then}
 use Rattle.text.proofs.Parts.{part-is}
 use Rattle.logs.specs.declared.Put.the-variants.{Bytes, OutOfRange, NoRoom}
-use Rattle.logs.specs.LogText.{linesOf, sheetText, isEntry, putOf, putAfter}
+use Rattle.logs.specs.LogText.{numberLines, sheetText, isEntry, putOf, putAfter}
 use Rattle.logs.proofs.SheetText.{lines-on, lines-end}
 
 -- ---- the sheet: the lines from the k-th on, by the numbers of the sheet
 abbrev pub linesFrom : List ℕ → ℕ → List ℕ
-linesFrom vs k = linesOf (drop k sheetKeys) (drop k vs)
+linesFrom vs k = numberLines (drop k sheetKeys) (drop k vs)
 
 abbrev pub lineAt : List ℕ → ℕ → List ℕ
 lineAt vs k = numberLine (getD sheetKeys k []) (getD vs k 0)
@@ -36,7 +36,7 @@ from-end vs k h = lines-end sheetKeys vs k h
 
 pub values-text : (s : Sheet) {vs : List ℕ} → vs ≡ sheetValues s → linesFrom vs 0 ≡ sheetText s
 unfolding sheetText
-values-text s e = ap (linesOf sheetKeys) e
+values-text s e = ap (numberLines sheetKeys) e
 
 pub values-count : (s : Sheet) {vs : List ℕ} → vs ≡ sheetValues s → length vs ≡ sheetLines
 values-count s e = ap length e

@@ -25,17 +25,17 @@ use Rattle.text.specs.declared.Number.the-variants.{Value, Bad}
 use Rattle.text.proofs.RoundTrip.{NoLF, read-line, read-rest}
 use Rattle.text.proofs.ReadBack.{line-back}
 use Rattle.text.proofs.SheetLaws.{good-each, value-at, sheet-good, sheet-said}
-use Rattle.logs.specs.LogText.{linesOf, sheetText}
-use Rattle.text.specs.declared.sheet.Opening.the-variants as opening
+use Rattle.logs.specs.LogText.{numberLines, sheetText}
+use Rattle.text.specs.declared.sheet.SheetRead.the-variants as read-as
 
 -- ---- lines by a table of keys, of any length
 
 -- a line, then the lines of the rest of the table
 pub lines-on : (ks : List (List ℕ)) (vs : List ℕ) (k : ℕ) → k < length ks → k < length vs
-    → linesOf (drop k ks) (drop k vs) ≡ numberLine (getD ks k []) (getD vs k 0) ++ linesOf (drop (k + 1) ks) (drop (k + 1) vs)
+    → numberLines (drop k ks) (drop k vs) ≡ numberLine (getD ks k []) (getD vs k 0) ++ numberLines (drop (k + 1) ks) (drop (k + 1) vs)
 lines-on ks vs k h i = rw (add-one k, drop-cons ks k [] h, drop-cons vs k 0 i)
 
-pub lines-end : (ks : List (List ℕ)) (vs : List ℕ) (k : ℕ) → length ks ≤ k → linesOf (drop k ks) (drop k vs) ≡ []
+pub lines-end : (ks : List (List ℕ)) (vs : List ℕ) (k : ℕ) → length ks ≤ k → numberLines (drop k ks) (drop k vs) ≡ []
 lines-end ks vs k h = rw (drop-of-length-le ks h)
 
 -- keys and numbers that make lines which can be read: the keys have no LF and are not too long, the numbers at most nine digits
@@ -47,24 +47,24 @@ fit-tail key v ks vs f k h = let q = f (suc k) (omega arith) in (q .0, q .1, q .
 
 -- k lines are used up
 after-lines : (k : ℕ) (ks : List (List ℕ)) (vs rest : List ℕ) → Fit ks vs → k ≤ length ks
-    → afterLines k (linesOf ks vs ++ rest) ≡ linesOf (drop k ks) (drop k vs) ++ rest
+    → afterLines k (numberLines ks vs ++ rest) ≡ numberLines (drop k ks) (drop k vs) ++ rest
 after-lines zero ks vs rest f h = refl
 after-lines (suc k) [] vs rest f h = absurd (omega arith)
 after-lines (suc k) (key ∷ ks) [] rest f h = absurd (omega (arith, f 0 (omega arith) .3))
 after-lines (suc k) (key ∷ ks) (v ∷ vs) rest f h =
     let q = f 0 (omega arith) in
-    ap (λ (l : List ℕ). afterLines k (afterLine l)) (append-assoc (numberLine key v) (linesOf ks vs) rest)
-    ∙ ap (afterLines k) (read-rest key (linesOf ks vs ++ rest) v (q .0) (q .2))
+    ap (λ (l : List ℕ). afterLines k (afterLine l)) (append-assoc (numberLine key v) (numberLines ks vs) rest)
+    ∙ ap (afterLines k) (read-rest key (numberLines ks vs ++ rest) v (q .0) (q .2))
     ∙ after-lines k ks vs rest (fit-tail key v ks vs f) (omega arith)
 
 -- and the next one is read
 line-number : (k : ℕ) (ks : List (List ℕ)) (vs rest : List ℕ) → Fit ks vs → k < length ks
-    → lineNumber (getD ks k []) (linesOf (drop k ks) (drop k vs) ++ rest) ≡ Value (getD vs k 0)
+    → lineNumber (getD ks k []) (numberLines (drop k ks) (drop k vs) ++ rest) ≡ Value (getD vs k 0)
 line-number k [] vs rest f h = absurd (omega arith)
 line-number k (key ∷ ks) [] rest f h = absurd (omega (arith, f 0 (omega arith) .3))
 line-number zero (key ∷ ks) (v ∷ vs) rest f h =
     let q = f 0 (omega arith) in
-    ap (lineNumber key) (append-assoc (numberLine key v) (linesOf ks vs) rest) ∙ read-line key (linesOf ks vs ++ rest) v (q .0) (q .2) (q .1)
+    ap (lineNumber key) (append-assoc (numberLine key v) (numberLines ks vs) rest) ∙ read-line key (numberLines ks vs ++ rest) v (q .0) (q .2) (q .1)
 line-number (suc k) (key ∷ ks) (v ∷ vs) rest f h = line-number k ks vs rest (fit-tail key v ks vs f) (omega arith)
 
 -- small letters have no LF among them
@@ -119,10 +119,10 @@ module _ (s : Sheet) (good : isSheet s ≡ true) (rest : List ℕ) where
   with-read = ap sheetBy (values-read sheetLines 0 refl) ∙ sheet-made s
 
   -- the same sheet
-  pub sheet-read : sheetOf (sheetText s ++ rest) ≡ opening.Read s
+  pub sheet-read : sheetOf (sheetText s ++ rest) ≡ read-as.Read s
   sheet-read =
       let e = with-read in
-      sheet-good (sheetText s ++ rest) (all-read sheetLines (omega arith)) (ap isSheet e ∙ good) ∙ ap opening.Read e
+      sheet-good (sheetText s ++ rest) (all-read sheetLines (omega arith)) (ap isSheet e ∙ good) ∙ ap read-as.Read e
 
   -- and the rest
   pub sheet-rest : sheetEnd (sheetText s ++ rest) ≡ rest
@@ -144,7 +144,7 @@ after-next : (k : ℕ) (log : List ℕ) → afterLine (afterLines k log) ≡ aft
 after-next zero log = refl
 after-next (suc k) log = after-next k (afterLine log)
 
-module _ (log : List ℕ) (s : Sheet) (e : sheetOf log ≡ opening.Read s) where
+module _ (log : List ℕ) (s : Sheet) (e : sheetOf log ≡ read-as.Read s) where
   line-was : (k : ℕ) → k < sheetLines → lineNumber (getD sheetKeys k []) (afterLines k log) ≡ Value (getD (sheetValues s) k 0)
   unfolding sheetNumber
   line-was k h =
@@ -153,13 +153,13 @@ module _ (log : List ℕ) (s : Sheet) (e : sheetOf log ≡ opening.Read s) where
       ∙ ap Value (sym (with-row log k h))
       ∙ ap (λ (t : Sheet). Value (getD (sheetValues t) k 0)) (p .1)
 
-  lines-were : (j k : ℕ) → k + j ≡ sheetLines → afterLines k log ≡ linesOf (drop k sheetKeys) (drop k (sheetValues s)) ++ afterLines sheetLines log
+  lines-were : (j k : ℕ) → k + j ≡ sheetLines → afterLines k log ≡ numberLines (drop k sheetKeys) (drop k (sheetValues s)) ++ afterLines sheetLines log
   lines-were zero k q =
       let h : k ≡ sheetLines = omega arith in
       ap (λ (i : ℕ). afterLines i log) h ∙ ap (λ (l : List ℕ). l ++ afterLines sheetLines log) (sym (lines-end sheetKeys (sheetValues s) k (omega arith)))
   lines-were (suc j) k q =
       let line = numberLine (getD sheetKeys k []) (getD (sheetValues s) k 0) in
-      let more = linesOf (drop (k + 1) sheetKeys) (drop (k + 1) (sheetValues s)) in
+      let more = numberLines (drop (k + 1) sheetKeys) (drop (k + 1) (sheetValues s)) in
       line-back (getD sheetKeys k []) (afterLines k log) (getD (sheetValues s) k 0) (line-was k (omega arith))
       ∙ ap (λ (l : List ℕ). line ++ l) (after-next k log ∙ ap (λ (i : ℕ). afterLines i log) (sym (add-one k)) ∙ lines-were j (k + 1) (omega arith))
       ∙ sym (append-assoc line more (afterLines sheetLines log))

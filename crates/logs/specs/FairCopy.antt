@@ -20,8 +20,8 @@ use Rattle.blocks.specs.declared.Block.{Block}
 use Rattle.blocks.specs.declared.Block.the-variants.{Raw, Malformed, Nothing}
 use Rattle.blocks.specs.declared.Parsed.{Parsed}
 use Rattle.blocks.specs.declared.Parsed.the-variants as parsed
-use Rattle.text.specs.declared.sheet.Opening.{Opening}
-use Rattle.text.specs.declared.sheet.Opening.the-variants as opening
+use Rattle.text.specs.declared.sheet.SheetRead.{SheetRead}
+use Rattle.text.specs.declared.sheet.SheetRead.the-variants as read-as
 use Rattle.logs.specs.declared.Put.{Put}
 use Rattle.logs.specs.declared.Put.the-variants.{Bytes, OutOfRange, NoRoom}
 use Rattle.logs.specs.declared.copy.Copied.{Copied}
@@ -63,9 +63,9 @@ copiesFrom zero sheet log = []
 copiesFrom (suc k) sheet log = pick (eqb (length log) 0) [] (blockCopy sheet log ++ copiesFrom k sheet (restOf log))
 
 -- without a good sheet nothing can be read, and nothing is written
-abbrev pub fairFrom : Opening → List ℕ → List ℕ
-fairFrom (opening.Read s) log = sheetText s ++ copiesFrom (length log) s (sheetEnd log)
-fairFrom opening.Bad log = []
+abbrev pub fairFrom : SheetRead → List ℕ → List ℕ
+fairFrom (read-as.Read s) log = sheetText s ++ copiesFrom (length log) s (sheetEnd log)
+fairFrom read-as.Bad log = []
 
 unfoldable pub fairCopy : List ℕ → List ℕ
 fairCopy log = fairFrom (sheetOf log) log
@@ -102,9 +102,9 @@ notesFrom (suc k) count sheet log =
     pick (eqb (length log) 0) [] (noteOf (nextNumber count) (blockCode sheet log) ++ notesFrom k (nextNumber count) sheet (restOf log))
 
 -- a bad sheet: `code=11` and one LF
-abbrev pub saidFrom : Opening → List ℕ → List ℕ
-saidFrom (opening.Read s) log = notesFrom (length log) 0 s (sheetEnd log)
-saidFrom opening.Bad log = eleven
+abbrev pub saidFrom : SheetRead → List ℕ → List ℕ
+saidFrom (read-as.Read s) log = notesFrom (length log) 0 s (sheetEnd log)
+saidFrom read-as.Bad log = eleven
 
 unfoldable pub leftOut : List ℕ → List ℕ
 leftOut log = saidFrom (sheetOf log) log

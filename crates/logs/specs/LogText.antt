@@ -13,20 +13,20 @@ use Rattle.paper.specs.declared.Numbers.{Numbers}
 use Rattle.paper.specs.declared.Entry.{Entry}
 use Rattle.text.specs.Line.{numberLine}
 use Rattle.text.specs.TableSheet.{sheetKeys}
-use Rattle.writing.specs.Sheet.{fits, sheetAfter}
+use Rattle.writing.specs.AnswerSheet.{fits, sheetAfter}
 use Rattle.logs.specs.declared.Put.{Put}
 use Rattle.logs.specs.declared.Put.the-variants.{Bytes, OutOfRange, NoRoom}
 
 -- ---- the sheet: its lines are those of text's one table
 
 -- a line for each key with its number
-abbrev pub linesOf : List (List ℕ) → List ℕ → List ℕ
-linesOf [] vs = []
-linesOf (k ∷ ks) [] = []
-linesOf (k ∷ ks) (v ∷ vs) = numberLine k v ++ linesOf ks vs
+abbrev pub numberLines : List (List ℕ) → List ℕ → List ℕ
+numberLines [] vs = []
+numberLines (k ∷ ks) [] = []
+numberLines (k ∷ ks) (v ∷ vs) = numberLine k v ++ numberLines ks vs
 
 unfoldable pub sheetText : Sheet → List ℕ
-sheetText s = linesOf sheetKeys (sheetValues s)
+sheetText s = numberLines sheetKeys (sheetValues s)
 
 -- ---- an entry: "An entry is five lines: n, do, seat, a, b."
 
@@ -44,7 +44,7 @@ blockText n x =
     ++ numberLine (98 ∷ []) (x .b)
 
 -- numbers that can be written: a known kind, and at most nine digits each
-pub record Small (n : ℕ) (x : Numbers) : Type 0 where
+pub record SmallEntry (n : ℕ) (x : Numbers) : Type 0 where
   pub kind : x .kind < 12
   pub count : n < 10 ^ 9
   pub seat : x .seat < 10 ^ 9

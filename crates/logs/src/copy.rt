@@ -19,7 +19,7 @@ ghost use mathlib.Core.Path.{_≡_};
 ghost use Prim.Native.Nat.{_≤_, _<_, _^_};
 ghost use lib.ListN.{length};
 ghost use Rattle.paper.specs.Paper.{isSheet};
-ghost use Rattle.writing.specs.Sheet.{Wrote, sheetAfter};
+ghost use Rattle.writing.specs.AnswerSheet.{Wrote, sheetAfter};
 ghost use Rattle.logs.specs.LogText.{sheetText, putOf, putAfter};
 ghost use Rattle.logs.specs.FairCopy.{entryCopy, blockCopy, noteText, noteIn, nextNumber, copiedAs, leftAs, entryCopied, copiedOf};
 

@@ -16,8 +16,8 @@ ghost use Prim.Native.Nat.{_≤_, _<_, _^_};
 ghost use lib.ListN.{length, getD};
 ghost use Rattle.paper.specs.SheetAndEntries.{kindNames, numbersOf};
 ghost use Rattle.text.specs.Line.{numberLine};
-ghost use Rattle.writing.specs.Sheet.{Wrote};
-ghost use Rattle.logs.specs.LogText.{wordLine, blockText, entryText, isEntry, putOf, putAfter, Small};
+ghost use Rattle.writing.specs.AnswerSheet.{Wrote};
+ghost use Rattle.logs.specs.LogText.{wordLine, blockText, entryText, isEntry, putOf, putAfter, SmallEntry};
 
 // A kind's line with its LF, and how many bytes it has.
 struct KindLine {
@@ -79,7 +79,7 @@ const KINDS: [KindLine; 12] = [
 
 // How long the five lines of a block's numbers are.
 fn block_len(n: u32, x: Numbers) -> usize
-    requires { ⌜ Small n x ⌝ }
+    requires { ⌜ SmallEntry n x ⌝ }
     ensures { λ r. ⌜ r ≡ length (blockText n x) ⌝ }
 {
     let k = x.kind as usize;
@@ -102,7 +102,7 @@ fn put_kind(buffer: &mut [u8], k: usize) -> usize
 
 // The five lines of a block's numbers, each behind the last.
 fn put_block(buffer: &mut [u8], n: u32, x: Numbers) -> usize
-    requires { ⌜ Small n x × (length (blockText n x) ≤ length (now buffer)) ⌝ }
+    requires { ⌜ SmallEntry n x × (length (blockText n x) ≤ length (now buffer)) ⌝ }
     ensures { λ r. ⌜ Wrote (blockText n x) (now (buffer .entry)) (now (buffer .exit)) r ⌝ }
 {
     let a = write_number_line(buffer, b"n", n);

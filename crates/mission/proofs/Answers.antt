@@ -11,7 +11,7 @@ use lib.Dec.{leb}
 use borrow.Author.Tests.{ne-eqb, leb-false}
 use Rattle.laws.specs.Tests.{pick}
 use Rattle.blocks.specs.Block.{restOf}
-use Rattle.writing.specs.Sheet.{fits, over, sheetAfter}
+use Rattle.writing.specs.AnswerSheet.{fits, over, sheetAfter}
 use Rattle.writing.specs.declared.Written.the-variants.{Bytes, NoRoom}
 use Rattle.table.specs.declared.table.Table.{Table}
 use Rattle.desk.specs.Desk.{judgedOf, blockBytes, answeredFrom, answeredOf}

@@ -8,8 +8,8 @@ use mathlib.Core.List.{List, [], _∷_}
 use lib.ListN.{length}
 use Rattle.laws.specs.Lists.{All}
 use Rattle.paper.specs.declared.Sheet.{Sheet}
-use Rattle.text.specs.declared.sheet.Opening.{Opening}
-use Rattle.text.specs.declared.sheet.Opening.the-variants.{Read, Bad}
+use Rattle.text.specs.declared.sheet.SheetRead.{SheetRead}
+use Rattle.text.specs.declared.sheet.SheetRead.the-variants.{Read, Bad}
 use Rattle.table.specs.declared.table.Table.{Table}
 use Rattle.desk.specs.Log.{outputOf}
 use Rattle.history.specs.AsNoted.{AsNoted}
@@ -48,7 +48,7 @@ log-answered log s e =
 pub log-box : (log : List ℕ) → Box (openedOf log) log (outputOf log)
 log-box log = go (openedOf log) refl
   where
-    go : (o : Opening) → openedOf log ≡ o → Box o log (outputOf log)
+    go : (o : SheetRead) → openedOf log ≡ o → Box o log (outputOf log)
     go (Read s) e = log-answered log s e
     go Bad e = written-bad log e
 

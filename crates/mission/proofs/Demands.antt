@@ -27,8 +27,8 @@ use Rattle.text.specs.TableSheet.{sheetEnd}
 use Rattle.blocks.specs.declared.Block.{Block}
 use Rattle.blocks.specs.declared.Block.the-variants.{Raw, Malformed, Nothing}
 use Rattle.blocks.specs.declared.Parsed.{Parsed}
-use Rattle.text.specs.declared.sheet.Opening.{Opening}
-use Rattle.text.specs.declared.sheet.Opening.the-variants.{Read}
+use Rattle.text.specs.declared.sheet.SheetRead.{SheetRead}
+use Rattle.text.specs.declared.sheet.SheetRead.the-variants.{Read}
 use Rattle.table.specs.declared.table.Table.{Table}
 use Rattle.table.specs.declared.table.Payout.{Payout as Paid}
 use Rattle.table.specs.Settle.{potsNow, backNow, noPayout}
@@ -300,5 +300,5 @@ module _ (sheet : Sheet) (ok : isSheet sheet ≡ true) where
 pub shown-right : (log : List ℕ) (s : Sheet) → openedOf log ≡ Read s → All (Right s) (givenOf log)
 unfolding givenOf
 shown-right log s e =
-    subst (λ (o : Opening). All (Right s) (givenBy o log)) (sym e)
+    subst (λ (o : SheetRead). All (Right s) (givenBy o log)) (sym e)
     (all-right s (opened-is log s e) (length log) (freshTable s) (sheetEnd log) [] (fresh-reached s))

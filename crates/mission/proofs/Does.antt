@@ -140,8 +140,8 @@ module _ (t : Table) (n x : ℕ) (st : Standing t) (l : seatOf t x .dealt .live 
       }
 
   -- what is put in
-  puts : (m : ℕ) → Puts c (actedOf (paidOf c m)) (min m (c .stack))
-  puts m =
+  puts-in : (m : ℕ) → Puts c (actedOf (paidOf c m)) (min m (c .stack))
+  puts-in m =
       record {
         sitting = refl;
         stack = rests (c .stack) m;
@@ -164,7 +164,7 @@ module _ (t : Table) (n x : ℕ) (st : Standing t) (l : seatOf t x .dealt .live 
       let m = t .play .mark - roundOf c in
       let at = at-live (actedOf (paidOf c m)) in
       record {
-        pays = subst (λ (d : Chair). Puts c d (min m (c .stack))) (sym at) (puts m);
+        pays = subst (λ (d : Chair). Puts c d (min m (c .stack))) (sym at) (puts-in m);
         acted = ap (λ (c : Chair). c .dealt .acted) at;
         others = λ y q. put-other (t .chairs) x y (actedOf (paidOf c m)) q;
         quiet = record { rest = record { sheet = refl; sittings = refl; opened = refl; puck = refl }; board = refl; mark = refl; lift = refl };
@@ -181,7 +181,7 @@ module _ (t : Table) (n x : ℕ) (st : Standing t) (l : seatOf t x .dealt .live 
       let there : chairAt cs x .dealt .live ≡ true = ap (λ (c : Chair). c .dealt .live) (map-at (againOf full) (t .chairs) x refl) ∙ l in
       let at : chairAt (putAt cs x d) x ≡ d = put-live cs x d there in
       let exact : min m (c .stack) ≡ m = least m (c .stack) w in
-      let p : Puts c d m = subst (Puts c d) exact (puts m) in
+      let p : Puts c d m = subst (Puts c d) exact (puts-in m) in
       record {
         pays = subst (λ (d : Chair). Puts c d m) (sym at) p;
         total = λ q. ap roundOf at ∙ p .round ∙ up (roundOf c) a q;

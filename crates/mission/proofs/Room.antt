@@ -16,7 +16,7 @@ use Rattle.paper.specs.declared.Sheet.{Sheet}
 use Rattle.paper.specs.declared.Entry.{Entry}
 use Rattle.blocks.specs.Block.{restOf, blockOf}
 use Rattle.text.specs.TableSheet.{sheetEnd}
-use Rattle.text.specs.declared.sheet.Opening.the-variants.{Read}
+use Rattle.text.specs.declared.sheet.SheetRead.the-variants.{Read}
 use Rattle.table.specs.declared.table.Table.{Table}
 use Rattle.table.specs.Take.{Sound, freshTable}
 use Rattle.table.proofs.Standing.{sound-fresh}

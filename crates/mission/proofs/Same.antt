@@ -2,7 +2,7 @@
 use Prim.Native.Nat.{ℕ}
 use mathlib.Core.Path.{_≡_, sym, _∙_}
 use mathlib.Core.List.{List}
-use Rattle.writing.specs.Sheet.{Wrote}
+use Rattle.writing.specs.AnswerSheet.{Wrote}
 
 pub coincide : {A : Type 0} {f r s : A} → r ≡ f → s ≡ f → r ≡ s
 coincide p q = p ∙ sym q

@@ -34,9 +34,9 @@ module _ (p : Chair → Bool) (cs : List Chair) where
       go true e q r = record { seat = suc k; first = omega arith; last = omega arith; is = e }
       go false e q r = let f = r q in record { seat = f .seat; first = omega (arith, f .first); last = omega (arith, f .last); is = f .is }
 
-  passed : (k m x : ℕ) → k < x → x ≤ k + m → p (chairAt cs x) ≡ true → firstOf p cs (seatsFrom k m) ≡ 0 → ⊥
-  passed k zero x a b e z = omega arith
-  passed k (suc m) x a b e z = go (p (chairAt cs (suc k))) refl z (λ a' b'. passed (suc k) m x a' b' e)
+  first-not-none : (k m x : ℕ) → k < x → x ≤ k + m → p (chairAt cs x) ≡ true → firstOf p cs (seatsFrom k m) ≡ 0 → ⊥
+  first-not-none k zero x a b e z = omega arith
+  first-not-none k (suc m) x a b e z = go (p (chairAt cs (suc k))) refl z (λ a' b'. first-not-none (suc k) m x a' b' e)
     where
       go : (b : Bool) → p (chairAt cs (suc k)) ≡ b → pick b (suc k) (firstOf p cs (seatsFrom (suc k) m)) ≡ 0
           → (suc k < x → x ≤ suc k + m → firstOf p cs (seatsFrom (suc k) m) ≡ 0 → ⊥) → ⊥
@@ -88,5 +88,5 @@ nobody t h = ⊎-elim (λ e. e) (λ e. absurd (h (someone t e))) (test (eqb (fir
 pub not-nobody : (t : Table) → SomeoneOwes t → eqb (firstOwing t 0) 0 ≡ false
 unfolding firstOwing
 not-nobody t o =
-    ne-eqb _ 0 (λ z. passed (owes t) (t .chairs) 0 (t .sheet .seats) (o .seat) (o .first) (omega (arith, o .last)) (is-owing t (seatOf t (o .seat)) (o .owes))
+    ne-eqb _ 0 (λ z. first-not-none (owes t) (t .chairs) 0 (t .sheet .seats) (o .seat) (o .first) (omega (arith, o .last)) (is-owing t (seatOf t (o .seat)) (o .owes))
     (sym (ap (firstOf (owes t) (t .chairs)) (all-seats (t .sheet .seats))) ∙ z))

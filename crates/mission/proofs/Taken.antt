@@ -37,9 +37,9 @@ zero-when false k h = refl
 passes : (b : Bool) (k : ℕ) → when (not b) (suc k) ≡ 0 → b ≡ true
 passes b k h = not-false b (when-zero (not b) k h)
 
-passed : (b : Bool) (k : ℕ) → b ≡ true → when (not b) k ≡ 0
-passed true k h = refl
-passed false k h = absurd (false≢true h)
+when-met : (b : Bool) (k : ℕ) → b ≡ true → when (not b) k ≡ 0
+when-met true k h = refl
+when-met false k h = absurd (false≢true h)
 
 neither : (a b : Bool) → a ≡ false → b ≡ false → either a b ≡ false
 neither true b p q = absurd (true≢false p)
@@ -96,7 +96,7 @@ act-code : (t : Table) (s : ℕ) → MayAct t s → turnCode t s ≡ 0
 unfolding turnCode
 act-code t s m =
     zero-or (when (nobodyOwes t) 4) _ (zero-when (nobodyOwes t) 4 (not-nobody t (m .owed)))
-    (zero-or _ _ (passed (seatOf t s .dealt .live) 5 (m .live)) (passed (eqb (t .play .turn) s) 6 (eq-eqb (t .play .turn) s (m .turn))))
+    (zero-or _ _ (when-met (seatOf t s .dealt .live) 5 (m .live)) (when-met (eqb (t .play .turn) s) 6 (eq-eqb (t .play .turn) s (m .turn))))
 
 check-taken : (t : Table) (s : ℕ) → checkCode t s ≡ 0 → MayCheck t s
 unfolding checkCode
@@ -107,7 +107,7 @@ check-taken t s h =
 
 check-code : (t : Table) (s : ℕ) → MayCheck t s → checkCode t s ≡ 0
 unfolding checkCode
-check-code t s m = zero-or (turnCode t s) _ (act-code t s (m .act)) (passed (eqb (roundOf (seatOf t s)) (t .play .mark)) 7 (eq-eqb (roundOf (seatOf t s)) (t .play .mark) (m .level)))
+check-code t s m = zero-or (turnCode t s) _ (act-code t s (m .act)) (when-met (eqb (roundOf (seatOf t s)) (t .play .mark)) 7 (eq-eqb (roundOf (seatOf t s)) (t .play .mark) (m .level)))
 
 call-taken : (t : Table) (s : ℕ) → callCode t s ≡ 0 → MayCall t s
 unfolding callCode
@@ -118,7 +118,7 @@ call-taken t s h =
 
 call-code : (t : Table) (s : ℕ) → MayCall t s → callCode t s ≡ 0
 unfolding callCode
-call-code t s m = zero-or (turnCode t s) _ (act-code t s (m .act)) (passed (ltb (roundOf (seatOf t s)) (t .play .mark)) 7 (lt-ltb (roundOf (seatOf t s)) (t .play .mark) (m .below)))
+call-code t s m = zero-or (turnCode t s) _ (act-code t s (m .act)) (when-met (ltb (roundOf (seatOf t s)) (t .play .mark)) 7 (lt-ltb (roundOf (seatOf t s)) (t .play .mark) (m .below)))
 
 wager-taken : (t : Table) (s a : ℕ) → wagerCode t s a ≡ 0 → MayWager t s a
 unfolding wagerCode isWager
@@ -150,7 +150,7 @@ wager-code t s a m =
     let whole = eqb put (c .stack) in
     let full = leb (t .play .mark + t .play .lift) a in
     zero-or (turnCode t s) _ (act-code t s (m .act))
-    (passed (both (mayRaise c) (both (ltb (t .play .mark) a) (both (leb put (c .stack)) (either whole full)))) 7
+    (when-met (both (mayRaise c) (both (ltb (t .play .mark) a) (both (leb put (c .stack)) (either whole full)))) 7
     (two (mayRaise c) _ (on (c .dealt .spent) (m .right))
     (two (ltb (t .play .mark) a) _ (lt-ltb (t .play .mark) a (m .above))
     (two (leb put (c .stack)) _ (le-leb put (c .stack) (m .within))
@@ -169,7 +169,7 @@ sit-taken t s a h =
 sit-code : (t : Table) (s a : ℕ) → MaySit t s a → sitCode t s a ≡ 0
 unfolding sitCode
 sit-code t s a m =
-    zero-or _ _ (passed (eqb (seatOf t s .sitting) 0) 5 (eq-eqb (seatOf t s .sitting) 0 (m .empty)))
+    zero-or _ _ (when-met (eqb (seatOf t s .sitting) 0) 5 (eq-eqb (seatOf t s .sitting) 0 (m .empty)))
     (zero-when (ltb 100000000 (chipsOf (t .chairs) + a)) 9 (le-ltb 100000000 (chipsOf (t .chairs) + a) (m .room)))
 
 leave-taken : (t : Table) (s : ℕ) → leaveCode t s ≡ 0 → MayLeave t s
@@ -209,7 +209,7 @@ hand-code t s m =
     let first = eqb (t .play .puck) 0 in
     let next = eqb (nextDealtIn t (t .play .puck)) s in
     zero-or _ _ (zero-when (either (t .play .opened) few) 4 (neither (t .play .opened) few (m .none) (le-ltb (countOf (wantOf Chips) (t .chairs)) 2 (m .two))))
-    (passed (both chips (either first next)) 5
+    (when-met (both chips (either first next)) 5
     (two chips (either first next) (lt-ltb 0 (seatOf t s .stack) (m .dealt))
     (⊎-elim (λ e. left-of first next (eq-eqb (t .play .puck) 0 e)) (λ e. right-of first next (eq-eqb (nextDealtIn t (t .play .puck)) s e)) (m .next))))
 
@@ -239,7 +239,7 @@ unfolding holeCode
 hole-code t s a b m =
     let live = seatOf t s .dealt .live in
     let full = isFull (t .sheet .game) (seatOf t s) in
-    zero-or _ _ (passed (t .play .opened) 4 (m .opened))
+    zero-or _ _ (when-met (t .play .opened) 4 (m .opened))
     (zero-or _ _ (zero-when (either (not live) full) 5 (neither (not live) full (off live (m .live)) (ne-eqb (seatOf t s .hole .count) (t .sheet .game) (m .few))))
     (zero-when (either (eqb a b) (either (inThisHand t a) (inThisHand t b))) 8 (neither (eqb a b) _ (ne-eqb a b (m .two)) (neither (inThisHand t a) (inThisHand t b) (m .first) (m .second)))))
 
@@ -290,7 +290,7 @@ unfolding deadCode
 dead-code t s m =
     let few = ltb (liveHands t) 2 in
     zero-or _ _ (zero-when (either (not (t .play .opened)) few) 4 (neither (not (t .play .opened)) few (off (t .play .opened) (m .opened)) (le-ltb (liveHands t) 2 (m .two))))
-    (passed (seatOf t s .dealt .live) 5 (m .live))
+    (when-met (seatOf t s .dealt .live) 5 (m .live))
 
 settle-taken : (t : Table) → settleCode t ≡ 0 → MaySettle t
 unfolding settleCode
@@ -322,7 +322,7 @@ settle-code t m =
     let many = leb 2 (liveHands t) in
     let bare = eqb (countOf (wantOf (Bare (t .sheet .game))) (t .chairs)) 0 in
     zero-or _ _
-    (passed (both (t .play .opened) (either sole done)) 4
+    (when-met (both (t .play .opened) (either sole done)) 4
     (two (t .play .opened) (either sole done) (m .opened)
     (⊎-elim (λ e. left-of sole done (eq-eqb (liveHands t) 1 e)) (λ e. right-of sole done (two (nobodyOwes t) five (nobody t (e .0)) (eq-eqb (t .board .count) 5 (e .1)))) (m .moment))))
     (zero-when (both many (not bare)) 10
@@ -378,5 +378,5 @@ taken-allowed t n e h =
 pub allowed-taken : (t : Table) (n : ℕ) (e : Entry) → Allowed t n e → codeOf t n e ≡ 0
 unfolding codeOf
 allowed-taken t n e a =
-    zero-or _ _ (passed (inRange (t .sheet) n e) 2 (a .ranges))
-    (zero-or _ _ (passed (eqb (t .taken + 1) n) 3 (eq-eqb (t .taken + 1) n (sym (a .next)))) (may-kind t e (a .may)))
+    zero-or _ _ (when-met (inRange (t .sheet) n e) 2 (a .ranges))
+    (zero-or _ _ (when-met (eqb (t .taken + 1) n) 3 (eq-eqb (t .taken + 1) n (sym (a .next)))) (may-kind t e (a .may)))

@@ -4,8 +4,8 @@ use mathlib.Core.Path.{_≡_}
 use mathlib.Core.List.{List}
 use Rattle.laws.specs.Lists.{All}
 use Rattle.paper.specs.declared.Sheet.{Sheet}
-use Rattle.text.specs.declared.sheet.Opening.{Opening}
-use Rattle.text.specs.declared.sheet.Opening.the-variants.{Read, Bad}
+use Rattle.text.specs.declared.sheet.SheetRead.{SheetRead}
+use Rattle.text.specs.declared.sheet.SheetRead.the-variants.{Read, Bad}
 use Rattle.answers.specs.Answer.{joined}
 use Rattle.desk.specs.Log.{eleven}
 use Rattle.history.specs.AsNoted.{AsNoted}
@@ -25,6 +25,6 @@ pub record Answered (sheet : Sheet) (log bytes : List ℕ) : Type 0 where
   pub stacks : (k s : ℕ) → Balanced sheet (takenIn k sheet log) s
 
 -- with a bad one `code=11` and nothing else
-abbrev pub Box : Opening → List ℕ → List ℕ → Type 0
+abbrev pub Box : SheetRead → List ℕ → List ℕ → Type 0
 Box (Read s) log bytes = Answered s log bytes
 Box Bad log bytes = bytes ≡ eleven

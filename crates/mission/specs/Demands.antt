@@ -20,8 +20,8 @@ use Rattle.blocks.specs.declared.Block.{Block}
 use Rattle.blocks.specs.declared.Block.the-variants.{Raw, Malformed, Nothing}
 use Rattle.blocks.specs.declared.Parsed.{Parsed}
 use Rattle.blocks.specs.declared.Parsed.the-variants.{Read, OutOfRange}
-use Rattle.answers.specs.declared.Row.{Row}
-use Rattle.answers.specs.declared.Payout.{Payout}
+use Rattle.answers.specs.declared.PaidRow.{PaidRow}
+use Rattle.answers.specs.declared.ShownPayout.{ShownPayout}
 use Rattle.answers.specs.declared.Shown.{Shown}
 use Rattle.answers.specs.Answer.{joined, keyPot, keyBack, keyFee, keySitting, keyPaid, keyUnclaimed, twoBytes, stateBytes, payoutBytes, tableBytes, answerBytes}
 use Rattle.history.specs.Codes.{codeBy}
@@ -87,16 +87,16 @@ abbrev pub clerksPots : Sheet → List Entry → List Pot
 clerksPots sheet es = clerkPots (putIn sheet es) (liveIn sheet es) (sits es)
 
 -- what the rows pay: all that have lines, that is those of a sitting; and those of one sitting
-abbrev pub rowsPay : List Row → ℕ
+abbrev pub rowsPay : List PaidRow → ℕ
 rowsPay [] = 0
 rowsPay (r ∷ rs) = pick (eqb (r .sitting) 0) 0 (r .paid) + rowsPay rs
 
-abbrev pub rowsPayTo : List Row → ℕ → ℕ
+abbrev pub rowsPayTo : List PaidRow → ℕ → ℕ
 rowsPayTo [] s = 0
 rowsPayTo (r ∷ rs) s = pick (eqb (r .sitting) s) (r .paid) 0 + rowsPayTo rs s
 
 -- the row of seat x, and its lines: none where nobody was dealt in
-abbrev pub rowBy : Sheet → Notebook → ℕ → Row
+abbrev pub rowBy : Sheet → Notebook → ℕ → PaidRow
 rowBy sheet n x = record { sitting = n .hand .dealt x; paid = paidBy sheet n (n .hand .dealt x) }
 
 abbrev pub rowLines : Sheet → Notebook → ℕ → List ℕ
@@ -105,7 +105,7 @@ rowLines sheet n x = pick (eqb (n .hand .dealt x) 0) [] (twoBytes keySitting (n 
 -- the payout p of a settle after these entries. `fee`, each `paid` and `unclaimed` are the notebook's, a seat without lines is paid nothing, and unclaimed are the
 -- returned chips of those who left; all that is put in is made up, what the hand drops counted (No. 7); no sitting is paid more than the sum of min(its total, theirs); one that sat down after the
 -- deal is paid nothing
-pub record Pays (sheet : Sheet) (es : List Entry) (p : Payout) : Type 0 where
+pub record Pays (sheet : Sheet) (es : List Entry) (p : ShownPayout) : Type 0 where
   pub fee : p .fee ≡ feeBy sheet (notebook sheet es)
   pub rows : p .rows ≡ map (rowBy sheet (notebook sheet es)) tenSeats
   pub unlisted : (x : ℕ) → notebook sheet es .hand .dealt x ≡ 0 → rowBy sheet (notebook sheet es) x .paid ≡ 0

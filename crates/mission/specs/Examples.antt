@@ -15,7 +15,6 @@ use Rattle.cards.specs.Order.{ranking52, key, beatsBy, bestOf}
 use Rattle.pots.specs.Heights.{backOf, returnedOf}
 use Rattle.pots.specs.Runs.{potsOf}
 use Rattle.pots.specs.Settle.{feesOf, sharesOf}
-use Rattle.pots.specs.Hand.{lone}
 use Rattle.pots.specs.declared.Commission.{Commission}
 use Rattle.pots.specs.declared.Pot.{Pot}
 use Rattle.chairs.specs.Chairs.{roundOf}
@@ -25,21 +24,21 @@ use Rattle.desk.specs.Log.{outputOf}
 use Rattle.history.specs.History.{run}
 
 -- ---- rows
-pub data Row : Type 0 where
+pub data Example : Type 0 where
   -- the first five cards beat the second
-  wins : List ℕ → List ℕ → Row
+  wins : List ℕ → List ℕ → Example
   -- the two tie
-  ties : List ℕ → List ℕ → Row
+  ties : List ℕ → List ℕ → Example
   -- the five cards are of the class
-  is : List ℕ → ℕ → Row
+  is : List ℕ → ℕ → Example
   -- the five cards beat every hand of the class
-  winsAll : List ℕ → ℕ → Row
+  winsAll : List ℕ → ℕ → Example
   -- the best of the cards is worth what the five are
-  best : List ℕ → List ℕ → Row
+  best : List ℕ → List ℕ → Example
   -- the definitions give these numbers (bytes too), and the document says those
-  gives : List ℕ → List ℕ → Row
+  gives : List ℕ → List ℕ → Example
 
-abbrev pub passes : Row → Bool
+abbrev pub passes : Example → Bool
 passes (wins a b) = beatsBy ranking52 (valueOf ranking52 a) (valueOf ranking52 b)
 passes (ties a b) = both (not (beatsBy ranking52 (valueOf ranking52 a) (valueOf ranking52 b))) (not (beatsBy ranking52 (valueOf ranking52 b) (valueOf ranking52 a)))
 passes (is a k) = eqb ((valueOf ranking52 a) .class) k
@@ -47,7 +46,7 @@ passes (winsAll a k) = ltb (getD (ranking52 .places) k 0) (getD (ranking52 .plac
 passes (best a b) = sameList (key ranking52 (bestOf ranking52 a)) (key ranking52 (valueOf ranking52 b))
 passes (gives got want) = sameList got want
 
-abbrev pub allPass : List Row → Bool
+abbrev pub allPass : List Example → Bool
 allPass [] = true
 allPass (r ∷ rs) = both (passes r) (allPass rs)
 
@@ -74,7 +73,7 @@ nine = 100 ∷ 100 ∷ 40 ∷ []
 
 -- rate 50 and cap 15, with so small a chip and so many board cards
 abbrev fifty : ℕ → ℕ → Commission
-fifty step board = record { rate = 50; cap = 15; step = step; board = board; drop = lone }
+fifty step board = record { rate = 50; cap = 15; step = step; board = board; drop = 0 }
 
 -- the fees of P7's pots with five board cards, and what remains of the pots
 abbrev charged : ℕ → List ℕ
@@ -181,7 +180,7 @@ output12 =
 
 -- ---- the table
 
-abbrev pub twelve : List Row
+abbrev pub twelve : List Example
 twelve =
     -- P1: A-2-3-4-5 loses to 2-3-4-5-6
     wins (card 2 1 ∷ card 3 0 ∷ card 4 2 ∷ card 5 3 ∷ card 6 0 ∷ []) (card 14 0 ∷ card 2 0 ∷ card 3 1 ∷ card 4 1 ∷ card 5 2 ∷ [])

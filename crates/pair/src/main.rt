@@ -15,7 +15,7 @@ ghost use Rattle.lines.specs.Kept.{keptMost};
 ghost use Rattle.frames.specs.Frames.{Held};
 ghost use Rattle.couple.specs.Couple.{Good, roomMost};
 
-struct Served {
+struct ServedTo {
     pair: Pair,
     frame: Frame,
     from: usize,
@@ -31,7 +31,7 @@ fn serve_one(
     part: &[u8],
     from: usize,
     out: &mut [u8],
-) -> Served
+) -> ServedTo
     requires { ⌜ Good p × Held f × (only ≤ 2) × (keptMost ≤ length (now buf)) × (from < length (now part)) × (roomMost ≤ length (now out)) ⌝ }
     ensures { λ r. ⌜ Good (r .pair) × Held (r .frame) × (from < r .from) × (r .from ≤ length (now (part .entry))) ⌝ }
 {
@@ -40,7 +40,7 @@ fn serve_one(
     let n = d.written;
     let q = d.pair;
     let g = d.frame;
-    Served {
+    ServedTo {
         pair: q,
         frame: g,
         from: next,
@@ -49,7 +49,7 @@ fn serve_one(
 }
 
 // The pair and what is due after some input, whether reading or writing failed, and whether to go on.
-struct Turn {
+struct Lap {
     pair: Pair,
     frame: Frame,
     failed: bool,
@@ -57,7 +57,7 @@ struct Turn {
 }
 
 // Answers everything that this part of the input makes whole, in one write where the answers fit.
-fn serve(p: Pair, f: Frame, only: u8, buf: &mut [u8], part: &[u8]) -> Turn
+fn serve(p: Pair, f: Frame, only: u8, buf: &mut [u8], part: &[u8]) -> Lap
     requires { ⌜ Good p × Held f × (only ≤ 2) × (keptMost ≤ length (now buf)) ⌝ }
     ensures { λ r. ⌜ Good (r .pair) × Held (r .frame) ⌝ }
 {
@@ -72,7 +72,7 @@ fn serve(p: Pair, f: Frame, only: u8, buf: &mut [u8], part: &[u8]) -> Turn
         let g = s.frame;
         frame = g;
         if !s.ok {
-            return Turn {
+            return Lap {
                 pair,
                 frame,
                 failed: true,
@@ -81,7 +81,7 @@ fn serve(p: Pair, f: Frame, only: u8, buf: &mut [u8], part: &[u8]) -> Turn
         }
         from = s.from;
     }
-    Turn {
+    Lap {
         pair,
         frame,
         failed: false,
@@ -90,14 +90,14 @@ fn serve(p: Pair, f: Frame, only: u8, buf: &mut [u8], part: &[u8]) -> Turn
 }
 
 // One read, and the answers to it. A read that fails is no end of the input: then nothing more is said.
-fn read_some(p: Pair, f: Frame, only: u8, buf: &mut [u8]) -> Turn
+fn read_some(p: Pair, f: Frame, only: u8, buf: &mut [u8]) -> Lap
     requires { ⌜ Good p × Held f × (only ≤ 2) × (keptMost ≤ length (now buf)) ⌝ }
     ensures { λ r. ⌜ Good (r .pair) × Held (r .frame) ⌝ }
 {
     let mut input = io::large_buffer();
     let got = libc::read(STDIN_FILENO, &mut input);
     if got <= 0 {
-        return Turn {
+        return Lap {
             pair: p,
             frame: f,
             failed: got < 0,
@@ -109,7 +109,7 @@ fn read_some(p: Pair, f: Frame, only: u8, buf: &mut [u8]) -> Turn
 }
 
 // Reads to the end of the input. A proved loop has to end, so it counts its turns down from a number that no run uses up.
-fn read_all(only: u8, buf: &mut [u8]) -> Turn
+fn read_all(only: u8, buf: &mut [u8]) -> Lap
     requires { ⌜ (only ≤ 2) × (keptMost ≤ length (now buf)) ⌝ }
     ensures { λ r. ⌜ Good (r .pair) × Held (r .frame) ⌝ }
 {
@@ -127,7 +127,7 @@ fn read_all(only: u8, buf: &mut [u8]) -> Turn
         }
         turns -= 1;
     }
-    Turn {
+    Lap {
         pair,
         frame,
         failed: false,

@@ -16,7 +16,7 @@ use Rattle.laws.specs.Lists.{whole}
 use Rattle.laws.proofs.Tests.{both-true}
 use Rattle.laws.proofs.Sums.{le-or-lt}
 use Rattle.text.proofs.Parts.{part-is}
-use Rattle.writing.specs.Sheet.{over}
+use Rattle.writing.specs.AnswerSheet.{over}
 use Rattle.writing.proofs.Sheets.{then}
 use Rattle.lines.specs.Kept.{Kept, nothing, Gathered, gatherOf, keptIn, keptMost}
 use Rattle.frames.specs.declared.Frame.{Frame}
@@ -34,9 +34,9 @@ use Rattle.pairs.proofs.Runs.{ran-append, still-gave}
 -- what was due for what is made whole is what was due
 pub heard-due : (f : Frame) (g : Gathered) → heardAs f g .of ≡ f .due
 unfolding heardAs
-heard-due f g = go (ltb (f .mark .lines) (g .kept .lines))
+heard-due f g = go (ltb (f .fill .lines) (g .kept .lines))
   where
-    go : (b : Bool) → pick b (wholeHeard f g (lastLine (f .due) (g .kept) (f .mark .count - f .mark .width))) (keptHeard f g) .of ≡ f .due
+    go : (b : Bool) → pick b (wholeHeard f g (lastLine (f .due) (g .kept) (f .fill .count - f .fill .width))) (keptHeard f g) .of ≡ f .due
     go true = refl
     go false = refl
 
@@ -44,10 +44,10 @@ pub of-fits : (f : Frame) (g : Gathered) {h : Heard} → h ≡ heardAs f g → f
 of-fits f g {h} e l = omega (arith, l, ap (λ (x : Heard). x .of) e, heard-due f g)
 
 module _ (only : ℕ) (p : Pair) (f : Frame) (buf part out : List ℕ) (held : Held f) (size : keptMost ≤ length buf) {h : Heard} {buf2 : List ℕ}
-    (e : h ≡ heardAs f (gatherOf (f .mark .lines + 1) (keptIn (f .mark) buf) part))
-    (q : buf2 ≡ over (gatherOf (f .mark .lines + 1) (keptIn (f .mark) buf) part .kept .bytes) buf) where
+    (e : h ≡ heardAs f (gatherOf (f .fill .lines + 1) (keptIn (f .fill) buf) part))
+    (q : buf2 ≡ over (gatherOf (f .fill .lines + 1) (keptIn (f .fill) buf) part .kept .bytes) buf) where
   abbrev g : Gathered
-  g = gatherOf (f .mark .lines + 1) (keptIn (f .mark) buf) part
+  g = gatherOf (f .fill .lines + 1) (keptIn (f .fill) buf) part
 
   heard-is : saidBy h buf2 ≡ heardOf f buf part (h .used)
   heard-is =
@@ -68,12 +68,12 @@ module _ (only : ℕ) (p : Pair) (f : Frame) (buf part out : List ℕ) (held : H
 
 -- ---- one after another
 
-heard-on : (f : Frame) (buf part : List ℕ) (used u : ℕ) (d : Frame) (buf2 : List ℕ) → d .due ≡ heardOf f buf part used .due → keptIn (d .mark) buf2 ≡ heardOf f buf part used .kept
+heard-on : (f : Frame) (buf part : List ℕ) (used u : ℕ) (d : Frame) (buf2 : List ℕ) → d .due ≡ heardOf f buf part used .due → keptIn (d .fill) buf2 ≡ heardOf f buf part used .kept
     → heardOf f buf part (used + u) ≡ andThen (heardOf f buf part used) (heardOf d buf2 (drop used part) u)
 heard-on f buf part used u d buf2 e k =
     let x : Framed = heardOf f buf part used in
-    ap (onward (f .due) (keptIn (f .mark) buf)) (take-add used u part)
-    ∙ onward-append (f .due) (keptIn (f .mark) buf) (take used part) (take u (drop used part))
+    ap (onward (f .due) (keptIn (f .fill) buf)) (take-add used u part)
+    ∙ onward-append (f .due) (keptIn (f .fill) buf) (take used part) (take u (drop used part))
     ∙ ap (λ (i : ℕ). andThen x (onward i (x .kept) (take u (drop used part)))) (sym e)
     ∙ ap (λ (y : Kept). andThen x (onward (d .due) y (take u (drop used part)))) (sym k)
 

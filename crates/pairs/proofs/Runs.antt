@@ -11,7 +11,7 @@ use borrow.Author.Tests.{eq-eqb, ne-eqb, lt-ltb, le-ltb, le-leb}
 use Rattle.laws.specs.Tests.{pick}
 use Rattle.text.specs.Line.{lineNumber}
 use Rattle.text.specs.TableSheet.{sheetOf}
-use Rattle.writing.specs.Sheet.{Wrote, over, sheetAfter, writtenOf}
+use Rattle.writing.specs.AnswerSheet.{Wrote, over, sheetAfter, writtenOf}
 use Rattle.writing.specs.declared.Written.the-variants.{Bytes, NoRoom}
 use Rattle.table.specs.declared.table.Table.{Table}
 use Rattle.table.specs.Take.{Sound}

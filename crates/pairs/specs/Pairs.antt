@@ -62,12 +62,12 @@ outputOf only input = let x = ran only startOf (piecesOf input) in x .bytes ++ l
 
 -- what the bytes of a part that are used up are cut into
 abbrev pub heardOf : Frame → List ℕ → List ℕ → ℕ → Framed
-heardOf f buf part used = onward (f .due) (keptIn (f .mark) buf) (take used part)
+heardOf f buf part used = onward (f .due) (keptIn (f .fill) buf) (take used part)
 
 -- the promise of a call
 pub record FedOn (only : ℕ) (p : Pair) (f : Frame) (buf part out buf2 out2 : List ℕ) (r : Fed) : Type 0 where
   pub due : r .frame .due ≡ heardOf f buf part (r .used) .due
-  pub kept : keptIn (r .frame .mark) buf2 ≡ heardOf f buf part (r .used) .kept
+  pub kept : keptIn (r .frame .fill) buf2 ≡ heardOf f buf part (r .used) .kept
   pub gave : Gave (ran only p (heardOf f buf part (r .used) .pieces)) out out2 (r .pair) (r .written)
 
 -- bytes of the part are left, and there is room

@@ -1,7 +1,7 @@
 // The input of two tables as it comes in parts: each line is looked at as its LF arrives, and what it makes whole is answered.
 use couple::Pair;
+use couple::PairAfter;
 use couple::ROOM;
-use couple::Step;
 use couple::house_with;
 use couple::is_second;
 use couple::of_none;
@@ -34,7 +34,14 @@ ghost use Rattle.couple.specs.Couple.{Good, roomMost, Gave};
 ghost use Rattle.pairs.specs.Pairs.{answered, wholeDone, ran, FedOn, goesOn};
 
 // The table that is due answers these lines, by way of a lent sheet.
-fn answer_on(p: Pair, only: u8, due: u8, lines: &[u8], sheet: &mut [u8], out: &mut [u8]) -> Step
+fn answer_on(
+    p: Pair,
+    only: u8,
+    due: u8,
+    lines: &[u8],
+    sheet: &mut [u8],
+    out: &mut [u8],
+) -> PairAfter
     requires { ⌜ Good p × (due ≤ lastDue) × (only ≤ 2) × (length (now sheet) ≡ 560) × (roomMost ≤ length (now out)) ⌝ }
     ensures gave { λ r. ⌜ Gave (answered only p due (now (lines .entry))) (now (out .entry)) (now (out .exit)) (r .pair) (r .written) ⌝ }
     ensures good { λ r. ⌜ Good (r .pair) ⌝ }
@@ -55,11 +62,11 @@ fn answer_on(p: Pair, only: u8, due: u8, lines: &[u8], sheet: &mut [u8], out: &m
         pool: q,
         house: house_with(p.house, a.house),
     };
-    Step { pair, written }
+    PairAfter { pair, written }
 }
 
 // The table that is due answers these lines.
-fn answer_lines(p: Pair, only: u8, due: u8, lines: &[u8], out: &mut [u8]) -> Step
+fn answer_lines(p: Pair, only: u8, due: u8, lines: &[u8], out: &mut [u8]) -> PairAfter
     requires { ⌜ Good p × (due ≤ lastDue) × (only ≤ 2) × (roomMost ≤ length (now out)) ⌝ }
     ensures gave { λ r. ⌜ Gave (answered only p due (now (lines .entry))) (now (out .entry)) (now (out .exit)) (r .pair) (r .written) ⌝ }
     ensures good { λ r. ⌜ Good (r .pair) ⌝ }
@@ -69,7 +76,7 @@ fn answer_lines(p: Pair, only: u8, due: u8, lines: &[u8], out: &mut [u8]) -> Ste
 }
 
 // A part of the opening, or a block.
-fn whole(p: Pair, only: u8, due: u8, lines: &[u8], out: &mut [u8]) -> Step
+fn whole(p: Pair, only: u8, due: u8, lines: &[u8], out: &mut [u8]) -> PairAfter
     requires { ⌜ Good p × (due ≤ lastDue) × (only ≤ 2) × (roomMost ≤ length (now out)) ⌝ }
     ensures gave { λ r. ⌜ Gave (wholeDone only p due (now (lines .entry))) (now (out .entry)) (now (out .exit)) (r .pair) (r .written) ⌝ }
     ensures good { λ r. ⌜ Good (r .pair) ⌝ }
@@ -84,13 +91,13 @@ fn whole(p: Pair, only: u8, due: u8, lines: &[u8], out: &mut [u8]) -> Step
 }
 
 // A piece, where the opening was not bad.
-fn piece(p: Pair, only: u8, what: u8, due: u8, lines: &[u8], out: &mut [u8]) -> Step
+fn piece(p: Pair, only: u8, what: u8, due: u8, lines: &[u8], out: &mut [u8]) -> PairAfter
     requires { ⌜ Good p × (p .shut ≡ false) × (due ≤ lastDue) × (only ≤ 2) × (roomMost ≤ length (now out)) ⌝ }
     ensures gave { λ r. ⌜ Gave (ran only p (pieceOf what due (now (lines .entry)))) (now (out .entry)) (now (out .exit)) (r .pair) (r .written) ⌝ }
     ensures good { λ r. ⌜ Good (r .pair) ⌝ }
 {
     if what == NOTHING {
-        return Step {
+        return PairAfter {
             pair: p,
             written: 0,
         };
@@ -108,13 +115,13 @@ fn piece(p: Pair, only: u8, what: u8, due: u8, lines: &[u8], out: &mut [u8]) -> 
 }
 
 // A piece of the input. Behind a bad opening nothing is answered.
-pub fn take_piece(p: Pair, only: u8, what: u8, due: u8, lines: &[u8], out: &mut [u8]) -> Step
+pub fn take_piece(p: Pair, only: u8, what: u8, due: u8, lines: &[u8], out: &mut [u8]) -> PairAfter
     requires { ⌜ Good p × (due ≤ lastDue) × (only ≤ 2) × (roomMost ≤ length (now out)) ⌝ }
     ensures gave { λ r. ⌜ Gave (ran only p (pieceOf what due (now (lines .entry)))) (now (out .entry)) (now (out .exit)) (r .pair) (r .written) ⌝ }
     ensures good { λ r. ⌜ Good (r .pair) × (r .written ≤ length (now (out .entry))) ⌝ }
 {
     if p.shut {
-        return Step {
+        return PairAfter {
             pair: p,
             written: 0,
         };
@@ -185,11 +192,11 @@ pub fn feed_on(p: Pair, f: Frame, only: u8, buf: &mut [u8], part: &[u8], out: &m
 }
 
 // The end of the input: what is not whole is answered. Behind it stand the last lines (`couple::last_lines`).
-pub fn close(p: Pair, f: Frame, only: u8, out: &mut [u8]) -> Step
+pub fn close(p: Pair, f: Frame, only: u8, out: &mut [u8]) -> PairAfter
     requires { ⌜ Good p × Held f × (only ≤ 2) × (roomMost ≤ length (now out)) ⌝ }
-    ensures gave { λ r. ⌜ Gave (ran only p (pieceOf (endWhat (f .due) (f .mark .count)) (f .due) [])) (now (out .entry)) (now (out .exit)) (r .pair) (r .written) ⌝ }
+    ensures gave { λ r. ⌜ Gave (ran only p (pieceOf (endWhat (f .due) (f .fill .count)) (f .due) [])) (now (out .entry)) (now (out .exit)) (r .pair) (r .written) ⌝ }
     ensures good { λ r. ⌜ Good (r .pair) × (r .written ≤ length (now (out .entry))) ⌝ }
 {
     let due = f.due;
-    take_piece(p, only, at_end(due, f.mark.count), due, b"", out)
+    take_piece(p, only, at_end(due, f.fill.count), due, b"", out)
 }

@@ -9,7 +9,7 @@ use Rattle.laws.specs.Tests.{both, either}
 use Rattle.laws.proofs.Conjunction.{both-end, both-none}
 use Rattle.paper.specs.SheetAndEntries.{ifUsed, allOf, rowAt, spared, ranged, makesEntry, isCount, blockFits}
 use Rattle.paper.specs.declared.Sheet.{Sheet}
-use Rattle.paper.specs.declared.Row.{Row}
+use Rattle.paper.specs.declared.KindRow.{KindRow}
 use Rattle.paper.specs.declared.Numbers.{Numbers}
 
 -- three numbers, each used or not
@@ -39,7 +39,7 @@ module _ (x : Numbers) where
   kind-unknown h = rw (le-ltb (x .kind) 12 h)
 
   -- the row, the answers of the four tests, and what they were asked
-  pub row-fits : (sheet : Sheet) (n : ℕ) {row : Row} {zero used fit count r : Bool} → x .kind < 12
+  pub row-fits : (sheet : Sheet) (n : ℕ) {row : KindRow} {zero used fit count r : Bool} → x .kind < 12
       → row ≡ rowAt (x .kind) → zero ≡ spared row x → used ≡ ranged sheet row x → fit ≡ both zero used
       → count ≡ isCount n → r ≡ both count fit → r ≡ blockFits sheet n x
   row-fits sheet n h w z u f c e = e ∙ rw (f, c, z, u, w, lt-ltb (x .kind) 12 h)

@@ -7,7 +7,7 @@ use lib.Dec.{leb, ltb, eqb}
 use Rattle.laws.specs.Tests.{both, either, pick}
 use Rattle.paper.specs.declared.Sheet.{Sheet}
 use Rattle.paper.specs.declared.Span.{Span}
-use Rattle.paper.specs.declared.Row.{Row}
+use Rattle.paper.specs.declared.KindRow.{KindRow}
 use Rattle.paper.specs.declared.Numbers.{Numbers}
 use Rattle.paper.specs.declared.Entry.{Entry}
 use Rattle.paper.specs.declared.Entry.the-variants.{Sit, Leave, Hand, Hole, Fold, Check, Call, Wager, Board, Dead, Settle, Void}
@@ -116,10 +116,10 @@ fromTo lo hi = record { used = true; card = false; least = lo; most = hi }
 abbrev card : Span
 card = record { used = true; card = true; least = 0; most = 51 }
 
-abbrev uses : Bool → Span → Span → Row
+abbrev uses : Bool → Span → Span → KindRow
 uses seat a b = record { seat = seat; a = a; b = b }
 
-abbrev pub rows : List Row
+abbrev pub rows : List KindRow
 rows =
     -- sit: seat, a = chips 1 to 1,000,000
     uses true (fromTo 1 1000000) none
@@ -144,7 +144,7 @@ rows =
     ∷ uses false none none
     ∷ []
 
-abbrev pub rowAt : ℕ → Row
+abbrev pub rowAt : ℕ → KindRow
 rowAt k = getD rows k (uses false none none)
 
 -- an entry's numbers: the place of its kind in the table, counted from 0, its seat, a and b; "Numbers an entry doesn't use are 0"
@@ -171,7 +171,7 @@ numbersOf Void = made 11 0 0 0
 abbrev pub spare : Bool → ℕ → Bool
 spare used x = either used (eqb x 0)
 
-abbrev pub spared : Row → Numbers → Bool
+abbrev pub spared : KindRow → Numbers → Bool
 spared row x = both (spare (row .seat) (x .seat)) (both (spare (row .a .used) (x .a)) (spare (row .b .used) (x .b)))
 
 -- the test of a number that is used, before the tests of the next ones
@@ -186,7 +186,7 @@ leastIn deck s = pick (s .card) (leastCard deck) (s .least)
 abbrev pub inSpan : ℕ → Span → ℕ → Bool
 inSpan deck s x = between (leastIn deck s) (s .most) x
 
-abbrev pub ranged : Sheet → Row → Numbers → Bool
+abbrev pub ranged : Sheet → KindRow → Numbers → Bool
 ranged sheet row x =
     allOf
     (ifUsed (row .seat) (isSeat sheet (x .seat))

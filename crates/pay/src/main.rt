@@ -2,7 +2,7 @@
 // last line has come; at the end the tray as it stands. With the argument --check the proposals are another program's, and are checked.
 use libc::STDIN_FILENO;
 use libc::STDOUT_FILENO;
-use lines::Mark;
+use lines::Fill;
 use lines::gather;
 use output::ahead;
 use output::flush;
@@ -24,7 +24,7 @@ const ENOUGH: usize = 62000;
 // The teller, what is kept of the unfinished line, how far the part is read and the output written, and whether what was written out could be.
 struct Going {
     teller: Teller,
-    mark: Mark,
+    fill: Fill,
     from: usize,
     at: usize,
     ok: bool,
@@ -34,7 +34,7 @@ struct Going {
 fn take_one(
     check: bool,
     s: Teller,
-    m: Mark,
+    m: Fill,
     buf: &mut [u8],
     gives: &mut [u32],
     part: &[u8],
@@ -43,30 +43,30 @@ fn take_one(
     at: usize,
 ) -> Going
     requires { ⌜ Sound s × Room m × (m .lines ≡ 0) × (keptMost ≤ length (now buf)) × (length (now gives) ≡ 160) × (from < length (now part)) × (length (now out) ≡ 65536) × (at ≤ 65536) ⌝ }
-    ensures { λ r. ⌜ Sound (r .teller) × Room (r .mark) × (r .mark .lines ≡ 0) × (from < r .from) × (r .from ≤ length (now (part .entry))) × (r .at ≤ 65536) ⌝ }
+    ensures { λ r. ⌜ Sound (r .teller) × Room (r .fill) × (r .fill .lines ≡ 0) × (from < r .from) × (r .from ≤ length (now (part .entry))) × (r .at ≤ 65536) ⌝ }
 {
     let w = flush(STDOUT_FILENO, &out[0..at], ENOUGH);
     let k = w.at;
     let g = gather(buf, m, &part[from..], 1);
     let next = ahead(from, g.used, part);
-    let mark = g.mark;
-    if mark.lines == 0 {
+    let fill = g.fill;
+    if fill.lines == 0 {
         return Going {
             teller: s,
-            mark,
+            fill,
             from: next,
             at: k,
             ok: w.ok,
         };
     }
-    let e = mark.count;
+    let e = fill.count;
     let l = said(&buf[0..e]);
     let a = take_line(check, s, l, gives, &mut out[k..]);
     let teller = a.teller;
     let none = lines::empty();
     Going {
         teller,
-        mark: none,
+        fill: none,
         from: next,
         at: k + a.written,
         ok: w.ok,
@@ -74,36 +74,29 @@ fn take_one(
 }
 
 // The teller and what is kept of the unfinished line, and whether to go on.
-struct Turn {
+struct Lap {
     teller: Teller,
-    mark: Mark,
+    fill: Fill,
     more: bool,
 }
 
 // Takes every line that ends in this part of the input, in one write where the answers fit.
-fn take_part(
-    check: bool,
-    s: Teller,
-    m: Mark,
-    buf: &mut [u8],
-    gives: &mut [u32],
-    part: &[u8],
-) -> Turn
+fn take_part(check: bool, s: Teller, m: Fill, buf: &mut [u8], gives: &mut [u32], part: &[u8]) -> Lap
     requires { ⌜ Sound s × Room m × (m .lines ≡ 0) × (keptMost ≤ length (now buf)) × (length (now gives) ≡ 160) ⌝ }
-    ensures { λ r. ⌜ Sound (r .teller) × Room (r .mark) × (r .mark .lines ≡ 0) ⌝ }
+    ensures { λ r. ⌜ Sound (r .teller) × Room (r .fill) × (r .fill .lines ≡ 0) ⌝ }
 {
     let mut out = io::large_buffer();
     let mut teller = s;
-    let mut mark = m;
+    let mut fill = m;
     let mut ok = true;
     let mut from: usize = 0;
     let mut at: usize = 0;
     while from < part.len() {
-        let g = take_one(check, teller, mark, buf, gives, part, from, &mut out, at);
+        let g = take_one(check, teller, fill, buf, gives, part, from, &mut out, at);
         let t = g.teller;
         teller = t;
-        let k = g.mark;
-        mark = k;
+        let k = g.fill;
+        fill = k;
         ok = laws::both(ok, g.ok);
         from = g.from;
         at = g.at;
@@ -111,20 +104,20 @@ fn take_part(
     let last = io::write_all(STDOUT_FILENO, &out[0..at]);
     let wrote = laws::both(ok, last);
     let more = laws::both(wrote, !ended(teller));
-    Turn { teller, mark, more }
+    Lap { teller, fill, more }
 }
 
 // One read, and what it says.
-fn read_some(check: bool, s: Teller, m: Mark, buf: &mut [u8], gives: &mut [u32]) -> Turn
+fn read_some(check: bool, s: Teller, m: Fill, buf: &mut [u8], gives: &mut [u32]) -> Lap
     requires { ⌜ Sound s × Room m × (m .lines ≡ 0) × (keptMost ≤ length (now buf)) × (length (now gives) ≡ 160) ⌝ }
-    ensures { λ r. ⌜ Sound (r .teller) × Room (r .mark) × (r .mark .lines ≡ 0) ⌝ }
+    ensures { λ r. ⌜ Sound (r .teller) × Room (r .fill) × (r .fill .lines ≡ 0) ⌝ }
 {
     let mut input = io::large_buffer();
     let got = libc::read(STDIN_FILENO, &mut input);
     if got <= 0 {
-        return Turn {
+        return Lap {
             teller: s,
-            mark: m,
+            fill: m,
             more: false,
         };
     }
@@ -138,17 +131,17 @@ fn read_all(check: bool, buf: &mut [u8], gives: &mut [u32]) -> Teller
     ensures { λ r. ⌜ Sound r ⌝ }
 {
     let mut teller = start();
-    let mut mark = lines::empty();
+    let mut fill = lines::empty();
     let mut turns = u64::MAX;
     while turns > 0 {
-        let t = read_some(check, teller, mark, buf, gives);
+        let t = read_some(check, teller, fill, buf, gives);
         let next = t.teller;
         teller = next;
         if !t.more {
             return teller;
         }
-        let k = t.mark;
-        mark = k;
+        let k = t.fill;
+        fill = k;
         turns -= 1;
     }
     teller

@@ -22,7 +22,7 @@ use Rattle.rows.proofs.Paid.{rows-proposed-accepted}
 use Rattle.teller.specs.declared.state.Teller.{Teller}
 use Rattle.teller.specs.Keeping.{faulty, anew, SmallRow, Sound}
 use Rattle.payments.specs.Payments.{codeText, rowWith, refusal, rows, paid, proposed, long, proposing, payment, paidOut, checkedCode, checked}
-use Rattle.payments.proofs.Small.{take-each, counts-small, proposal-small}
+use Rattle.payments.proofs.SmallRows.{take-each, counts-small, proposal-small}
 
 -- listed sittings that can be paid are at most ten
 pub few-listed : (s : Teller) → faulty (s .listed) ≡ false → s .listed .count ≤ 10

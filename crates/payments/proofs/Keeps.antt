@@ -16,7 +16,7 @@ use Rattle.teller.specs.Keeping.{faulty, answerLine, SmallRow, Sound}
 use Rattle.teller.proofs.Soundness.{sound-anew, sound-tray, sound-answer, sound-give}
 use Rattle.payments.specs.Payments.{rowWith, rows, paid, proposed, proposing, payment, paidOut, checkedCode, checked}
 use Rattle.payments.specs.Answering.{answersLine, proposalLine, trayAnswer, heardLine}
-use Rattle.payments.proofs.Small.{take-each, drop-each, append-each, after-small}
+use Rattle.payments.proofs.SmallRows.{take-each, drop-each, append-each, after-small}
 
 module _ (s : Teller) (h : Sound s) where
   -- the tray's rows after an answer

@@ -1,4 +1,4 @@
-pub mod Small
+pub mod SmallRows
 pub mod Same
 pub mod Deciding
 pub mod Keeps

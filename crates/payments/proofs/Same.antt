@@ -2,7 +2,7 @@
 use Prim.Native.Nat.{ℕ}
 use mathlib.Core.Path.{_≡_, subst}
 use mathlib.Core.List.{List}
-use Rattle.writing.specs.Sheet.{Wrote}
+use Rattle.writing.specs.AnswerSheet.{Wrote}
 use Rattle.payments.specs.declared.paying.Answered.{Answered}
 use Rattle.payments.specs.Payments.{Answer, Does}
 

@@ -9,7 +9,7 @@ use lib.ListN.{length, getD, take, drop}
 use lib.Dec.{eqb, ltb}
 use Rattle.laws.specs.Tests.{either, pick}
 use Rattle.text.specs.Line.{numberLine}
-use Rattle.writing.specs.Sheet.{Wrote}
+use Rattle.writing.specs.AnswerSheet.{Wrote}
 use Rattle.answers.specs.Answer.{joined, keyCode, keySitting}
 use Rattle.tray.specs.Proposal.{accepted, outOfBounds}
 use Rattle.proposer.specs.Proposer.{proposal}

@@ -21,7 +21,7 @@ ghost use mathlib.Core.Path.{_≡_};
 ghost use mathlib.Core.Bool.{Bool, true};
 ghost use Prim.Native.Nat.{_≤_, _<_, _^_};
 ghost use lib.ListN.{length, set};
-ghost use Rattle.writing.specs.Sheet.{Wrote};
+ghost use Rattle.writing.specs.AnswerSheet.{Wrote};
 ghost use Rattle.teller.specs.Keeping.{Sound};
 ghost use Rattle.payments.specs.Payments.{Does};
 ghost use Rattle.payments.specs.Answering.{answersLine, proposalLine, trayAnswer, heardLine, isOver, endText, lineRoom, endRoom};

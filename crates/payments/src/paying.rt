@@ -10,7 +10,7 @@ use teller::faulty;
 ghost use mathlib.Core.Path.{_≡_};
 ghost use Prim.Native.Nat.{_≤_, _<_, _^_};
 ghost use lib.ListN.{length};
-ghost use Rattle.writing.specs.Sheet.{Wrote};
+ghost use Rattle.writing.specs.AnswerSheet.{Wrote};
 ghost use Rattle.tray.specs.Proposal.{accepted};
 ghost use Rattle.teller.specs.Keeping.{Sound, anew};
 ghost use Rattle.payments.specs.Payments.{codeText, paidOut, checked, payment, proposed, proposing, Does};

@@ -5,7 +5,7 @@ use writing::write_number_line;
 ghost use mathlib.Core.Path.{_≡_};
 ghost use Prim.Native.Nat.{ℕ, _*_, _≤_, _<_, _^_};
 ghost use lib.ListN.{length, getD, take};
-ghost use Rattle.writing.specs.Sheet.{Wrote};
+ghost use Rattle.writing.specs.AnswerSheet.{Wrote};
 ghost use Rattle.answers.specs.Answer.{joined};
 ghost use Rattle.rows.specs.Rows.{noRow};
 ghost use Rattle.teller.specs.Keeping.{SmallRow};

@@ -6,7 +6,7 @@ use native.Mathlib.Numerals.{add-one}
 use native.Mathlib.Omega.{arith}
 use lib.ListN.{length, take, set, getD}
 use lib.Seq.{take-suc, take-all}
-use Rattle.figures.specs.Sheet.{Put}
+use Rattle.figures.specs.Placing.{Put}
 use Rattle.picture.specs.Rows.{visibleOf, visibleAll}
 use Rattle.figures.proofs.Puts.{put-none, put-byte}
 

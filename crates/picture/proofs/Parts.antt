@@ -16,8 +16,8 @@ use Rattle.laws.specs.Tests.{both}
 use Rattle.laws.proofs.Tests.{both-true}
 use Rattle.laws.proofs.Sums.{le-or-lt}
 use Rattle.text.proofs.Parts.{part-is}
-use Rattle.writing.specs.Sheet.{Wrote}
-use Rattle.figures.specs.Sheet.{Put}
+use Rattle.writing.specs.AnswerSheet.{Wrote}
+use Rattle.figures.specs.Placing.{Put}
 use Rattle.figures.proofs.Puts.{next, put-none}
 use Rattle.picture.specs.declared.Screen.{Screen}
 use Rattle.picture.specs.declared.Drawn.{Drawn}

@@ -21,7 +21,7 @@ use Rattle.text.proofs.Numbers.{read-digits}
 use Rattle.text.proofs.RoundTrip.{NoLF, no-append, no-within, no-number, line-shape, read-line}
 use Rattle.text.proofs.ReadBack.{line-back}
 use Rattle.picture.specs.Lines.{lineKinds, keys, mosts, noLine, lineWith, lineAt, lineFrom, answerLine}
-use Rattle.figures.specs.Row.{countedOf}
+use Rattle.figures.specs.ScreenRow.{countedOf}
 use Rattle.picture.specs.Rows.{lineDrawn}
 use Rattle.picture.specs.Screen as screen
 use Rattle.picture.specs.Screen.{lineMost, saidOf, shownOf, stepOf, closeOf, pictureFrom}

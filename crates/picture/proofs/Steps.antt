@@ -10,9 +10,9 @@ use lib.Seq.{take-suc-set, take-set-le, length-take-le}
 use lib.Dec.{eqb}
 use borrow.Author.Tests.{eq-eqb, ne-eqb, lt-ltb, le-ltb}
 use Rattle.laws.specs.Tests.{pick, both, either}
-use Rattle.figures.specs.Sheet.{Put}
+use Rattle.figures.specs.Placing.{Put}
 use Rattle.figures.specs.Words.{rule}
-use Rattle.figures.specs.Row.{halfRow, leftOf, countedOf}
+use Rattle.figures.specs.ScreenRow.{halfRow, leftOf, countedOf}
 use Rattle.picture.specs.Lines.{lineKinds}
 use Rattle.picture.specs.Rows.{numbered, frontOf, completes, startRow, restRow, columnNumber, lineDrawn, markOf, visibleAll, foreignRow}
 use Rattle.picture.specs.Screen.{lineMost, Kept, stateOf, saidOf, shownOf, stepOf, closeOf}

@@ -7,7 +7,7 @@ use lib.ListN.{take, drop}
 use lib.Dec.{ltb, leb}
 pub use Rattle.laws.specs.Lists.{whole}
 use Rattle.laws.specs.Tests.{both}
-use Rattle.writing.specs.Sheet.{Wrote}
+use Rattle.writing.specs.AnswerSheet.{Wrote}
 use Rattle.picture.specs.declared.Screen.{Screen}
 use Rattle.picture.specs.declared.Drawn.{Drawn}
 use Rattle.picture.specs.Screen.{Kept, Step, drawnMost, stateOf, stepOf}

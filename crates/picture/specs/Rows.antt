@@ -6,7 +6,7 @@ use lib.Dec.{eqb}
 use Rattle.laws.specs.Tests.{pick, both, either}
 use Rattle.paper.specs.SheetAndEntries.{between}
 use Rattle.figures.specs.Words.{rule, red, taken, refused, nobody}
-use Rattle.figures.specs.Row.{kindN, kindCode, kindTurn, kindPot, kindBack, kindSitting, kindPaid, kindUnclaimed, kindNone, cellOf, amountOf, leftOf, wordsRow, lampCell, halfRow, countedOf}
+use Rattle.figures.specs.ScreenRow.{kindN, kindCode, kindTurn, kindPot, kindBack, kindSitting, kindPaid, kindUnclaimed, kindNone, cellOf, amountOf, leftOf, wordsRow, lampCell, halfRow, countedOf}
 
 -- taken; or refused, and the refusal in words. A bad sheet has no other line, so a rule ends its picture
 unfoldable pub verdictOf : Bool → ℕ → List ℕ

@@ -5,7 +5,7 @@ use mathlib.Core.Bool.{Bool, true, false}
 use lib.ListN.{length, take}
 use lib.Dec.{eqb, ltb}
 use Rattle.laws.specs.Tests.{pick}
-use Rattle.figures.specs.Row.{kindNone, halfRow, countedOf}
+use Rattle.figures.specs.ScreenRow.{kindNone, halfRow, countedOf}
 use Rattle.picture.specs.Rows.{lineDrawn, foreignRow}
 use Rattle.picture.specs.Lines.{lineKinds, answerLine, noLine}
 use Rattle.picture.specs.declared.Line.{Line}

@@ -12,10 +12,10 @@ ghost use mathlib.Core.Path.{_≡_};
 ghost use mathlib.Core.Bool.{false};
 ghost use Prim.Native.Nat.{_+_, _-_, _≤_, _<_};
 ghost use lib.ListN.{length};
-ghost use Rattle.figures.specs.Sheet.{Put};
+ghost use Rattle.figures.specs.Placing.{Put};
 ghost use Rattle.picture.specs.Lines.{Answering};
 ghost use Rattle.picture.specs.Rows.{visibleOf, visibleAll, markOf, foreignRow};
-ghost use Rattle.figures.specs.Row.{countedOf};
+ghost use Rattle.figures.specs.ScreenRow.{countedOf};
 ghost use Rattle.picture.specs.Screen.{lineMost, lineRoom, drawnMost, closeMost, Held, stateOf, startOf, saidOf, shownOf, stepOf, closeOf};
 ghost use Rattle.picture.specs.Parts.{DrawnOn, goesOn};
 

@@ -15,7 +15,7 @@ use laws::chosen;
 use laws::either;
 ghost use Prim.Native.Nat.{_+_, _≤_, _<_};
 ghost use lib.ListN.{length};
-ghost use Rattle.figures.specs.Sheet.{Put};
+ghost use Rattle.figures.specs.Placing.{Put};
 ghost use Rattle.figures.specs.Words.{refusals};
 ghost use Rattle.picture.specs.Lines.{lineKinds, Answering};
 ghost use Rattle.picture.specs.Screen.{drawnMost};

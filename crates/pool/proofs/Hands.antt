@@ -12,7 +12,7 @@ use Rattle.laws.proofs.Sums.{le-or-lt}
 use Rattle.paper.specs.Paper.{badSheet, when}
 use Rattle.pool.specs.declared.Pool.{Pool}
 use Rattle.pool.specs.declared.Hand.{Hand}
-use Rattle.pool.specs.declared.Opening.{Opening}
+use Rattle.pool.specs.declared.PoolOpened.{PoolOpened}
 use Rattle.pool.specs.Jackpot.{most, fitsIn, houseOf, fedBy, winOf, settledPool, openedWith, noHand}
 
 -- ---- the drop
@@ -84,6 +84,6 @@ opening-nothing held l = ap (λ (b : Bool). pick b 0 held) (lt-ltb most held l)
 pub opening-most : (held : ℕ) → openedWith held .pool .held ≤ most
 opening-most held =
     ⊎-elim
-    (λ (a : held ≤ most). omega (arith, ap (λ (o : Opening). o .pool .held) (opening-good held a)))
+    (λ (a : held ≤ most). omega (arith, ap (λ (o : PoolOpened). o .pool .held) (opening-good held a)))
     (λ (a : most < held). omega (arith, opening-nothing held a))
     (le-or-lt held most)

@@ -9,7 +9,7 @@ use Rattle.paper.specs.Paper.{badSheet, when}
 use Rattle.pool.specs.declared.Pool.{Pool}
 use Rattle.pool.specs.declared.Hand.{Hand}
 use Rattle.pool.specs.declared.Settled.{Settled}
-use Rattle.pool.specs.declared.Opening.{Opening}
+use Rattle.pool.specs.declared.PoolOpened.{PoolOpened}
 
 abbrev pub most : ℕ
 most = 999999999
@@ -39,7 +39,7 @@ settledPool p h = record {
 }
 
 -- "at opening too (else 11)": the code, and the pool; a refused opening opens an empty one
-unfoldable pub openedWith : ℕ → Opening
+unfoldable pub openedWith : ℕ → PoolOpened
 openedWith held = record {
   code = when (ltb most held) badSheet;
   pool = record { held = pick (ltb most held) 0 held };

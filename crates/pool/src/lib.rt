@@ -29,7 +29,7 @@ pub struct Settled {
 }
 
 // The code of an opening, and the pool that it opens: an empty one where it is refused.
-pub struct Opening {
+pub struct PoolOpened {
     pub code: u8,
     pub pool: Pool,
 }
@@ -72,14 +72,14 @@ pub fn settled_pool(p: Pool, h: Hand) -> Settled
 }
 
 // The pool as an evening opens it.
-pub fn open_pool(held: u32) -> Opening
+pub fn open_pool(held: u32) -> PoolOpened
     ensures { λ r. ⌜ r ≡ openedWith held ⌝ }
 {
     let over = MOST < held;
     let pool = Pool {
         held: chosen(over, 0, held),
     };
-    Opening {
+    PoolOpened {
         code: when(over, BAD_SHEET),
         pool,
     }

@@ -10,7 +10,7 @@ use lib.Seq.{getD-set-same, getD-set-other, set-out}
 use Rattle.laws.proofs.Sums.{le-or-lt}
 use Rattle.tray.specs.Counting.{sumTo}
 use Rattle.tray.proofs.Sums.{sum-same}
-use Rattle.proposer.specs.Proposer.{asMany, takeRow, servedTo, Served}
+use Rattle.proposer.specs.Proposer.{asMany, takeRow, servedTo, LeftAndOwed}
 use Rattle.proposer.proofs.Steps.{many-fits, row-long, served-long}
 
 -- two sums that differ at one place
@@ -42,7 +42,7 @@ value-set ws l i x a b =
 
 module _ (ws : List ℕ) where
   -- one row: what leaves it is what is no longer owed
-  pub row-worth : (i : ℕ) (h : Served) → length (h .left) ≡ length ws
+  pub row-worth : (i : ℕ) (h : LeftAndOwed) → length (h .left) ≡ length ws
       → value ws (takeRow (getD ws i 0) i h .left) + h .owed ≡ value ws (h .left) + takeRow (getD ws i 0) i h .owed
   unfolding takeRow
   row-worth i h e =
@@ -71,12 +71,12 @@ module _ (ws : List ℕ) where
       back n q = omega arith
 
   -- all rows of an order
-  pub served-worth : (k : ℕ) (order : List ℕ) (h : Served) → length (h .left) ≡ length ws
+  pub served-worth : (k : ℕ) (order : List ℕ) (h : LeftAndOwed) → length (h .left) ≡ length ws
       → value ws (servedTo k ws order h .left) + h .owed ≡ value ws (h .left) + servedTo k ws order h .owed
   served-worth zero order h e = refl
   served-worth (suc k) order h e =
       let i : ℕ = getD order k 0 in
-      let g : Served = servedTo k ws order h in
+      let g : LeftAndOwed = servedTo k ws order h in
       let a : value ws (g .left) + h .owed ≡ value ws (h .left) + g .owed = served-worth k order h e in
       let b : value ws (takeRow (getD ws i 0) i g .left) + g .owed ≡ value ws (g .left) + takeRow (getD ws i 0) i g .owed = row-worth i g (served-long k ws order h ∙ e) in
       omega (arith, a, b)
@@ -87,7 +87,7 @@ same-or a b =
     (λ (p : b < a). inr (λ e. absurd (omega (arith, p, e)))) (le-or-lt a b)
 
 -- no row gains
-pub row-less : (w i : ℕ) (h : Served) (j : ℕ) → getD (takeRow w i h .left) j 0 ≤ getD (h .left) j 0
+pub row-less : (w i : ℕ) (h : LeftAndOwed) (j : ℕ) → getD (takeRow w i h .left) j 0 ≤ getD (h .left) j 0
 unfolding takeRow
 row-less w i h j =
     let l = h .left in
@@ -106,7 +106,7 @@ row-less w i h j =
     (same-or j i))
     (le-or-lt (length l) i)
 
-pub served-less : (k : ℕ) (ws order : List ℕ) (h : Served) (j : ℕ) → getD (servedTo k ws order h .left) j 0 ≤ getD (h .left) j 0
+pub served-less : (k : ℕ) (ws order : List ℕ) (h : LeftAndOwed) (j : ℕ) → getD (servedTo k ws order h .left) j 0 ≤ getD (h .left) j 0
 served-less zero ws order h j = le-refl _
 served-less (suc k) ws order h j = le-trans (row-less (getD ws (getD order k 0) 0) (getD order k 0) (servedTo k ws order h) j) (served-less k ws order h j)
 

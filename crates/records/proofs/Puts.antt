@@ -10,7 +10,7 @@ use lib.Dec.{leb}
 use borrow.Author.Tests.{le-leb, lt-leb}
 use borrow.Rule.Slice.PartMut.{midOf, putMid}
 use Rattle.laws.specs.Tests.{pick}
-use Rattle.writing.specs.Sheet.{over, Wrote}
+use Rattle.writing.specs.AnswerSheet.{over, Wrote}
 use Rattle.text.proofs.Parts.{part-is, part-back}
 use Rattle.paper.specs.declared.Numbers.{Numbers}
 use Rattle.records.specs.Bytes.{putAt}

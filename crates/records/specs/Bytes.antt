@@ -5,7 +5,7 @@ use mathlib.Core.List.{List, [], _∷_, _++_}
 use lib.ListN.{length, getD, take, drop}
 use lib.Dec.{leb}
 use Rattle.laws.specs.Tests.{pick}
-use Rattle.writing.specs.Sheet.{over}
+use Rattle.writing.specs.AnswerSheet.{over}
 
 -- a number in four bytes, the low one first
 abbrev pub wordBytes : ℕ → List ℕ

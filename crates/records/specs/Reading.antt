@@ -8,10 +8,10 @@ use Rattle.laws.specs.Tests.{pick}
 use Rattle.records.specs.Stored.{recordAt}
 use Rattle.records.specs.declared.Record.{Record}
 use Rattle.records.specs.declared.Reader.{Reader}
-use Rattle.records.specs.declared.Got.{Got}
+use Rattle.records.specs.declared.RecordRead.{RecordRead}
 
 -- what `next` hands back: the record at the reader's place, and the same log at the place behind it
-abbrev pub after : Reader → Got
+abbrev pub after : Reader → RecordRead
 after r = record { got = recordAt (now (r .log)) (r .at); rest = record { log = r .log; at = recordAt (now (r .log)) (r .at) .next } }
 
 -- the same log at another place

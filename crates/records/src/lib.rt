@@ -7,7 +7,7 @@ use writing::put_bytes;
 ghost use mathlib.Core.Path.{_≡_};
 ghost use Prim.Native.Nat.{_+_, _-_, _*_, _/_, _%_, _≤_, _<_};
 ghost use lib.ListN.{length};
-ghost use Rattle.writing.specs.Sheet.{Wrote};
+ghost use Rattle.writing.specs.AnswerSheet.{Wrote};
 ghost use Rattle.records.specs.Bytes.{wordBytes, wordsBytes, putAt};
 ghost use Rattle.records.specs.Stored.{recordAt, recordIn, entryBy, entryIn, recordBytes, putRecord, rowBytes, putRow};
 ghost use Rattle.records.specs.Reading.{after, movedTo, laterOf, lastHand};
@@ -194,7 +194,7 @@ pub struct Reader<'a> {
 }
 
 // A record, and the reader behind it.
-pub struct Got<'a> {
+pub struct RecordRead<'a> {
     pub got: Record,
     pub rest: Reader<'a>,
 }
@@ -208,12 +208,12 @@ impl<'a> Reader<'a> {
     }
 
     // The record at its place, and the reader behind it.
-    pub fn next(self) -> Got<'a>
+    pub fn next(self) -> RecordRead<'a>
         ensures { λ r. ⌜ r ≡ after (self .entry) ⌝ }
     {
         let got = record_at(self.log, self.at);
         let next = got.next;
-        Got {
+        RecordRead {
             got,
             rest: Reader {
                 log: self.log,

@@ -12,7 +12,7 @@ use Rattle.laws.specs.Tests.{pick, both}
 use Rattle.text.specs.Line.{numberLine, lineLen, afterLine, afterLines}
 use Rattle.text.specs.Number.{digits}
 use Rattle.text.specs.TableSheet.{sheetLines}
-use Rattle.writing.specs.Sheet.{Wrote}
+use Rattle.writing.specs.AnswerSheet.{Wrote}
 use Rattle.writing.proofs.Sheets.{then, push, push-first}
 use Rattle.renewal.specs.declared.Renewal.{Renewal}
 use Rattle.renewal.specs.OldSheets.{meant, missing, addedLines}

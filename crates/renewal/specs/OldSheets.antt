@@ -6,7 +6,7 @@ use mathlib.Core.List.{List, [], _∷_, _++_}
 use lib.ListN.{drop}
 use Rattle.text.specs.Line.{numberLine, afterLines}
 use Rattle.text.specs.TableSheet.{sheetKeys}
-use Rattle.logs.specs.LogText.{linesOf}
+use Rattle.logs.specs.LogText.{numberLines}
 
 -- the lines of the first sheets, and the numbers that the later ones are meant with
 abbrev pub firstLines : ℕ
@@ -17,7 +17,7 @@ later = 1 ∷ 2 ∷ 52 ∷ 0 ∷ []
 
 -- the later lines as they are meant
 unfoldable pub meant : List ℕ
-meant = linesOf (drop firstLines sheetKeys) later
+meant = numberLines (drop firstLines sheetKeys) later
 
 -- those that a sheet of k lines lacks
 abbrev pub missing : ℕ → List ℕ

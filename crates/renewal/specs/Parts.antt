@@ -7,7 +7,7 @@ use lib.ListN.{take}
 use lib.Dec.{ltb, leb}
 pub use Rattle.laws.specs.Lists.{whole}
 use Rattle.laws.specs.Tests.{both, pick}
-use Rattle.writing.specs.Sheet.{Wrote}
+use Rattle.writing.specs.AnswerSheet.{Wrote}
 use Rattle.renewal.specs.declared.Renewal.{Renewal}
 use Rattle.renewal.specs.declared.Given.{Given}
 use Rattle.renewal.specs.Renewing.{Step, still, andThen, givenOf, givenMost}

@@ -9,7 +9,7 @@ ghost use mathlib.Core.Bool.{false};
 ghost use Prim.Native.Nat.{_+_, _-_, _≤_, _<_};
 ghost use lib.ListN.{length};
 ghost use Rattle.text.specs.TableSheet.{sheetLines};
-ghost use Rattle.writing.specs.Sheet.{Wrote};
+ghost use Rattle.writing.specs.AnswerSheet.{Wrote};
 ghost use Rattle.renewal.specs.OldSheets.{firstLines, meant, missing, addedLines, added};
 ghost use Rattle.renewal.specs.Renewing.{onwardOf, mayEnd, heldStep, stepOf, closeOf, startOf, InSheet, givenMost};
 ghost use Rattle.renewal.specs.Parts.{Gave, GivenOn, goesOn};

@@ -1,7 +1,7 @@
 // The supervisor's page: a log on standard input, one HTML page on standard output, in constant memory.
-use desk::log::read_opening;
+use desk::log::read_lone_sheet;
 use libc::STDIN_FILENO;
-use lines::Mark;
+use lines::Fill;
 use lines::gather;
 use lines::lines_of;
 use notes::Notes;
@@ -14,7 +14,7 @@ use paper::STAND_IN;
 use reporter::tell;
 use table::table::Table;
 use table::take::new_table;
-use text::sheet::Opening;
+use text::sheet::SheetRead;
 ghost use mathlib.Core.Path.{_≡_};
 ghost use Prim.Native.Nat.{_+_, _≤_, _<_};
 ghost use lib.ListN.{length};
@@ -38,15 +38,15 @@ fn take_sheet(g: Page, block: &[u8], out: &mut [u8]) -> Page
     let p = g.pen;
     let notes = g.notes;
     let t = g.table;
-    match read_opening(block) {
-        Opening::Bad => Page {
+    match read_lone_sheet(block) {
+        SheetRead::Bad => Page {
             opened: false,
             shut: true,
             table: t,
             notes,
             pen: closing::put_bad_sheet(out, p),
         },
-        Opening::Read(s) => Page {
+        SheetRead::Read(s) => Page {
             opened: true,
             shut: false,
             table: new_table(s),
@@ -92,7 +92,7 @@ fn take_lines(g: Page, block: &[u8], out: &mut [u8]) -> Page
 }
 
 // What is kept of unfinished lines: always fewer than are read together.
-fn unfinished(m: Mark, want: usize) -> Mark
+fn unfinished(m: Fill, want: usize) -> Fill
     requires { ⌜ Room m × (0 < want) ⌝ }
     ensures { λ r. ⌜ Room r × (r .lines < want) ⌝ }
 {
@@ -105,82 +105,82 @@ fn unfinished(m: Mark, want: usize) -> Mark
 // The page, what is kept of unfinished lines, and how far the part is read.
 struct Going {
     page: Page,
-    mark: Mark,
+    fill: Fill,
     from: usize,
 }
 
 // The bytes of a part up to the end of the sheet or of a block, which is told, or what is left of the part, which is kept.
-fn take_one(g: Page, m: Mark, buf: &mut [u8], part: &[u8], from: usize, out: &mut [u8]) -> Going
+fn take_one(g: Page, m: Fill, buf: &mut [u8], part: &[u8], from: usize, out: &mut [u8]) -> Going
     requires { ⌜ Sound (g .table) × Room m × (keptMost ≤ length (now buf)) × (from < length (now part)) ⌝ }
-    ensures { λ r. ⌜ Sound (r .page .table) × Room (r .mark) × (from < r .from) × (r .from ≤ length (now (part .entry))) ⌝ }
+    ensures { λ r. ⌜ Sound (r .page .table) × Room (r .fill) × (from < r .from) × (r .from ≤ length (now (part .entry))) ⌝ }
 {
     let want = lines_of(g.opened);
     let old = unfinished(m, want);
     let k = gather(buf, old, &part[from..], want);
     let next = ahead(from, k.used, part);
-    let mark = k.mark;
-    if mark.lines < want {
+    let fill = k.fill;
+    if fill.lines < want {
         return Going {
             page: g,
-            mark,
+            fill,
             from: next,
         };
     }
-    let e = mark.count;
+    let e = fill.count;
     let page = take_lines(g, &buf[0..e], out);
     let none = lines::empty();
     Going {
         page,
-        mark: none,
+        fill: none,
         from: next,
     }
 }
 
 // The page and what is kept, and whether to go on.
-struct Turn {
+struct Lap {
     page: Page,
-    mark: Mark,
+    fill: Fill,
     more: bool,
 }
 
 // Tells every block that ends in this part of the input; what is written goes out at its end, and before where the buffer is full.
-fn take_part(g: Page, m: Mark, buf: &mut [u8], part: &[u8]) -> Turn
+fn take_part(g: Page, m: Fill, buf: &mut [u8], part: &[u8]) -> Lap
     requires { ⌜ Sound (g .table) × Room m × (keptMost ≤ length (now buf)) ⌝ }
-    ensures { λ r. ⌜ Sound (r .page .table) × Room (r .mark) ⌝ }
+    ensures { λ r. ⌜ Sound (r .page .table) × Room (r .fill) ⌝ }
 {
     let mut out = io::large_buffer();
     let mut page = g;
-    let mut mark = m;
+    let mut fill = m;
     let mut from: usize = 0;
     while from < part.len() {
-        let k = take_one(page, mark, buf, part, from, &mut out);
+        let k = take_one(page, fill, buf, part, from, &mut out);
         let h = k.page;
         page = h;
-        let n = k.mark;
-        mark = n;
+        let n = k.fill;
+        fill = n;
         from = k.from;
     }
     let p = page.pen;
     let pen = written_out(&out, p);
     page.pen = pen;
-    Turn {
+    Lap {
         page,
-        mark,
+        fill,
         more: laws::both(pen.ok, !page.shut),
     }
 }
 
 // One read, and what it says. A read that fails is taken for the end of the input.
-fn read_some(g: Page, m: Mark, buf: &mut [u8]) -> Turn
+fn read_some(g: Page, m: Fill, buf: &mut [u8]) -> Lap
     requires { ⌜ Sound (g .table) × Room m × (keptMost ≤ length (now buf)) ⌝ }
-    ensures { λ r. ⌜ Sound (r .page .table) × Room (r .mark) ⌝ }
+    ensures { λ r. ⌜ Sound (r .page .table) × Room (r .fill) ⌝ }
 {
     let mut input = io::large_buffer();
     let got = libc::read(STDIN_FILENO, &mut input);
     if got <= 0 {
-        return Turn {
+        return Lap {
             page: g,
-            mark: m,
+            fill: m,
             more: false,
         };
     }
@@ -208,33 +208,33 @@ fn start() -> Page
 }
 
 // Reads to the end of the input. A proved loop has to end, so it counts its turns down from a number that no run uses up.
-fn read_all(buf: &mut [u8]) -> Turn
+fn read_all(buf: &mut [u8]) -> Lap
     requires { ⌜ keptMost ≤ length (now buf) ⌝ }
-    ensures { λ r. ⌜ Sound (r .page .table) × Room (r .mark) ⌝ }
+    ensures { λ r. ⌜ Sound (r .page .table) × Room (r .fill) ⌝ }
 {
     let mut page = start();
-    let mut mark = lines::empty();
+    let mut fill = lines::empty();
     let mut turns = u64::MAX;
     while turns > 0 {
-        let t = read_some(page, mark, buf);
+        let t = read_some(page, fill, buf);
         let h = t.page;
         page = h;
-        let k = t.mark;
-        mark = k;
+        let k = t.fill;
+        fill = k;
         if !t.more {
             return t;
         }
         turns -= 1;
     }
-    Turn {
+    Lap {
         page,
-        mark,
+        fill,
         more: false,
     }
 }
 
 // A block that is not whole is malformed, and a sheet that is not whole is bad.
-fn take_rest(g: Page, m: Mark, buf: &[u8], out: &mut [u8]) -> Page
+fn take_rest(g: Page, m: Fill, buf: &[u8], out: &mut [u8]) -> Page
     requires { ⌜ Sound (g .table) × Room m × (keptMost ≤ length (now buf)) ⌝ }
     ensures { λ r. ⌜ Sound (r .table) ⌝ }
 {
@@ -246,7 +246,7 @@ fn take_rest(g: Page, m: Mark, buf: &[u8], out: &mut [u8]) -> Page
 }
 
 // The input has ended: how an open hand stands, and the evening.
-fn end(g: Page, m: Mark, buf: &[u8])
+fn end(g: Page, m: Fill, buf: &[u8])
     requires { ⌜ Sound (g .table) × Room m × (keptMost ≤ length (now buf)) ⌝ }
 {
     let mut out = io::large_buffer();
@@ -268,6 +268,6 @@ fn main() {
     let mut buf = [0u8; text::sheet::ROOM];
     let t = read_all(&mut buf);
     let g = t.page;
-    let m = t.mark;
+    let m = t.fill;
     end(g, m, &buf);
 }

@@ -15,7 +15,7 @@ use table::table::Table;
 ghost use Rattle.table.specs.Take.{Sound};
 
 // The table and the notes after a block, and the pen.
-pub struct Told {
+pub struct Reported {
     pub table: Table,
     pub notes: Notes,
     pub pen: Pen,
@@ -205,7 +205,7 @@ fn note(
 }
 
 // A block: judged, and told.
-pub fn tell(out: &mut [u8], p: Pen, m: Notes, t: Table, block: &[u8]) -> Told
+pub fn tell(out: &mut [u8], p: Pen, m: Notes, t: Table, block: &[u8]) -> Reported
     requires { ⌜ Sound t ⌝ }
     ensures { λ r. ⌜ Sound (r .table) ⌝ }
 {
@@ -217,7 +217,7 @@ pub fn tell(out: &mut [u8], p: Pen, m: Notes, t: Table, block: &[u8]) -> Told
     let d = note(out, p, m, t, u, e, j.code, paid);
     let notes = d.notes;
     let pen = d.pen;
-    Told {
+    Reported {
         table: u,
         notes,
         pen,

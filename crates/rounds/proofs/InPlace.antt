@@ -15,13 +15,13 @@ use Rattle.laws.proofs.Sums.{le-or-lt}
 use Rattle.text.specs.Number.{numberOf, wellFormed}
 use Rattle.text.specs.Line.{lineLen, lineOf, lineEnded, hasKey, valueOf, afterLine, lineNumber, afterLines}
 use Rattle.text.specs.TableSheet.{isValue, valueIn}
-use Rattle.writing.specs.Sheet.{Wrote}
+use Rattle.writing.specs.AnswerSheet.{Wrote}
 use Rattle.cuts.proofs.Lines.{lfs, keepAll, keep-append, snoc, lfs-lf, lfs-on, kept-lines, ended, ended-is, lfs-append, lfs-after, lines-lfs, lines-last}
 use Rattle.rounds.specs.RoundText.{keys, readings, allValues, goodForm, numbersOf, judgedOf}
 use Rattle.rounds.specs.RoundAnswer.{outcomeBytes, answerBytes}
 use Rattle.rounds.specs.RoundParts.{Kept, nothing, keepOf, Gathered, gatherOf, stateOf, keptAfter, bytesAfter}
 use Rattle.banked.specs.declared.judged.Outcome.{Outcome}
-use Rattle.rounds.specs.declared.parts.Mark.{Mark}
+use Rattle.rounds.specs.declared.parts.Fill.{Fill}
 use Rattle.rounds.proofs.Whole.{kept-cut, ended-answer, last-lf}
 
 value-open : (key x : List ℕ) → ended x ≡ false → valueOf key x ≡ []
@@ -88,7 +88,7 @@ gathers raw (b ∷ bs) h w =
 
 -- ---- a feed that answers a block where it lies
 
-module _ (m : Mark) (buf part : List ℕ) (e : both (eqb (m .count) 0) (both (eqb (m .lines) 0) (eqb (m .width) 0)) ≡ true)
+module _ (m : Fill) (buf part : List ℕ) (e : both (eqb (m .count) 0) (both (eqb (m .lines) 0) (eqb (m .width) 0)) ≡ true)
     (good : allValues (readings keys part) ≡ true) where
   none-kept : stateOf m buf ≡ nothing
   none-kept =
@@ -102,7 +102,7 @@ module _ (m : Mark) (buf part : List ℕ) (e : both (eqb (m .count) 0) (both (eq
   pub here-left : (used : ℕ) → drop used part ≡ afterLines 16 part → drop used part ≡ gatherOf (stateOf m buf) part .left
   here-left used u = u ∙ sym (took .left)
 
-  pub here-kept : (z : Mark) → z .count ≡ 0 → z .lines ≡ 0 → z .width ≡ 0 → stateOf z buf ≡ keptAfter (gatherOf (stateOf m buf) part .kept)
+  pub here-kept : (z : Fill) → z .count ≡ 0 → z .lines ≡ 0 → z .width ≡ 0 → stateOf z buf ≡ keptAfter (gatherOf (stateOf m buf) part .kept)
   here-kept z c l w = rw (le-ltb (gatherOf (stateOf m buf) part .kept .lines) 16 (took .lines), c, l, w)
 
   pub here-wrote : {out out2 ns : List ℕ} {o : Outcome} {w : ℕ} → ns ≡ map valueIn (readings keys part) → o ≡ judgedOf ns → Wrote (outcomeBytes o) out out2 w

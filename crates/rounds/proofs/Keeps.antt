@@ -7,12 +7,12 @@ use native.Mathlib.Numerals.{add-one}
 use lib.ListN.{length, getD, take, drop, set, drop-of-length-le}
 use lib.Seq.{take-suc-set, drop-cons, length-take-le}
 use borrow.Author.Tests.{eq-eqb, ne-eqb, lt-ltb, le-ltb, le-leb, lt-leb}
-use Rattle.rounds.specs.declared.parts.Mark.{Mark}
-use Rattle.writing.specs.Sheet.{Wrote}
+use Rattle.rounds.specs.declared.parts.Fill.{Fill}
+use Rattle.writing.specs.AnswerSheet.{Wrote}
 use Rattle.rounds.specs.RoundAnswer.{answerBytes}
 use Rattle.rounds.specs.RoundParts.{Kept, keepOf, stateOf, Gathered, gatherOf, keptAfter, bytesAfter, closeBytes}
 
-module _ (m : Mark) (buf : List ℕ) (b : ℕ) (h : m .count < length buf) where
+module _ (m : Fill) (buf : List ℕ) (b : ℕ) (h : m .count < length buf) where
   pub keep-end : b ≡ 10 → stateOf (record { count = m .count + 1; lines = m .lines + 1; width = 0 }) (set buf (m .count) b) ≡ keepOf (stateOf m buf) b
   unfolding keepOf
   keep-end e =
@@ -23,7 +23,7 @@ module _ (m : Mark) (buf : List ℕ) (b : ℕ) (h : m .count < length buf) where
   keep-on n w =
       rw (ne-eqb b 10 n, lt-ltb (m .width) 33 w) (ap (λ (x : List ℕ). record { bytes = x; lines = m .lines; width = m .width + 1 }) (rw (add-one (m .count)) (take-suc-set buf (m .count) b h)))
 
-pub keep-not : (m : Mark) (buf : List ℕ) (b : ℕ) → (b ≡ 10 → ⊥) → 33 ≤ m .width → stateOf m buf ≡ keepOf (stateOf m buf) b
+pub keep-not : (m : Fill) (buf : List ℕ) (b : ℕ) → (b ≡ 10 → ⊥) → 33 ≤ m .width → stateOf m buf ≡ keepOf (stateOf m buf) b
 unfolding keepOf
 keep-not m buf b n w = rw (ne-eqb b 10 n, le-ltb (m .width) 33 w)
 
@@ -56,13 +56,13 @@ turn-end k part i {g} h q =
 
 -- ---- what a feed does with what was gathered
 
-module _ (m : Mark) (buf : List ℕ) {g : Kept} (e : stateOf m buf ≡ g) where
+module _ (m : Fill) (buf : List ℕ) {g : Kept} (e : stateOf m buf ≡ g) where
   pub fed-kept : (out : List ℕ) → m .lines < 16 → (stateOf m buf ≡ keptAfter g) × Wrote (bytesAfter g) out out 0
   fed-kept out h =
       let t = lt-ltb (m .lines) 16 h in
       (rw (sym e, t), rw (sym e, t) (record { count = refl; sheet = refl }))
 
-  pub fed-whole : {out out2 : List ℕ} {w : ℕ} (z : Mark) (buf2 : List ℕ) → 16 ≤ m .lines → z .count ≡ 0 → z .lines ≡ 0 → z .width ≡ 0
+  pub fed-whole : {out out2 : List ℕ} {w : ℕ} (z : Fill) (buf2 : List ℕ) → 16 ≤ m .lines → z .count ≡ 0 → z .lines ≡ 0 → z .width ≡ 0
       → Wrote (answerBytes (take (m .count - 0) buf)) out out2 w → (stateOf z buf2 ≡ keptAfter g) × Wrote (bytesAfter g) out out2 w
   fed-whole z buf2 h c l b p =
       let t = le-ltb (m .lines) 16 h in
@@ -71,7 +71,7 @@ module _ (m : Mark) (buf : List ℕ) {g : Kept} (e : stateOf m buf ≡ g) where
 
 -- ---- the end
 
-module _ (m : Mark) (buf : List ℕ) where
+module _ (m : Fill) (buf : List ℕ) where
   pub close-none : m .count ≡ 0 → closeBytes (stateOf m buf) ≡ []
   unfolding closeBytes
   close-none e = rw e

@@ -8,7 +8,7 @@ use Rattle.laws.specs.Tests.{pick}
 pub use Rattle.cuts.specs.Kept.{Kept, nothing}
 unfoldable pub use Rattle.cuts.specs.Kept.{keepOf}
 use Rattle.rounds.specs.RoundAnswer.{answerBytes}
-use Rattle.rounds.specs.declared.parts.Mark.{Mark}
+use Rattle.rounds.specs.declared.parts.Fill.{Fill}
 
 pub record Gathered : Type 0 where
   pub kept : Kept
@@ -19,18 +19,18 @@ abbrev pub gatherOf : Kept → List ℕ → Gathered
 gatherOf k [] = record { kept = k; left = [] }
 gatherOf k (b ∷ bs) = pick (leb 16 (keepOf k b .lines)) (record { kept = keepOf k b; left = bs }) (gatherOf (keepOf k b) bs)
 
-abbrev pub stateOf : Mark → List ℕ → Kept
+abbrev pub stateOf : Fill → List ℕ → Kept
 stateOf m buf = record { bytes = take (m .count) buf; lines = m .lines; width = m .width }
 
 -- what is kept fits into 544 bytes: sixteen lines, each of 33 bytes and its LF
-pub record Room (m : Mark) : Type 0 where
+pub record Room (m : Fill) : Type 0 where
   pub count : m .count ≤ m .lines * 34 + m .width
   pub width : m .width ≤ 33
   pub lines : m .lines ≤ 16
   pub most : m .count ≤ 544
 
 -- between two parts a block is unfinished
-pub record Held (m : Mark) : Type 0 where
+pub record Held (m : Fill) : Type 0 where
   pub room : Room m
   pub lines : m .lines < 16
 

@@ -11,8 +11,8 @@ use writing::write_number_line;
 ghost use mathlib.Core.Path.{_≡_};
 ghost use Prim.Native.Nat.{_≤_, _<_, _^_};
 ghost use lib.ListN.{length};
-ghost use Rattle.writing.specs.Sheet.{Wrote};
-ghost use Rattle.banked.specs.Rounds.{Most, Small, SmallOutcome};
+ghost use Rattle.writing.specs.AnswerSheet.{Wrote};
+ghost use Rattle.banked.specs.Rounds.{Most, SmallSettled, SmallOutcome};
 ghost use Rattle.rounds.specs.RoundText.{judgedOf};
 ghost use Rattle.rounds.specs.RoundAnswer.{twoBytes, sevenBytes, sumsBytes, settledBytes, outcomeBytes, answerBytes};
 
@@ -37,7 +37,7 @@ fn put_seven(sheet: &mut [u8], s: Seven) -> usize
 
 // The sums and the gain.
 fn put_sums(sheet: &mut [u8], s: Settled) -> usize
-    requires { ⌜ Small s × (72 ≤ length (now sheet)) ⌝ }
+    requires { ⌜ SmallSettled s × (72 ≤ length (now sheet)) ⌝ }
     ensures { λ r. ⌜ Wrote (sumsBytes s) (now (sheet .entry)) (now (sheet .exit)) r × (r ≤ 72) ⌝ }
 {
     let a = put_two(sheet, b"staked", s.staked, b"back", s.back);
@@ -45,7 +45,7 @@ fn put_sums(sheet: &mut [u8], s: Settled) -> usize
 }
 
 fn put_settled(sheet: &mut [u8], s: Settled) -> usize
-    requires { ⌜ Small s × (198 ≤ length (now sheet)) ⌝ }
+    requires { ⌜ SmallSettled s × (198 ≤ length (now sheet)) ⌝ }
     ensures { λ r. ⌜ Wrote (settledBytes s) (now (sheet .entry)) (now (sheet .exit)) r × (r ≤ 198) ⌝ }
 {
     let seven = s.backs;

@@ -4,7 +4,7 @@ mod parts;
 mod reading;
 
 pub use parts::Fed;
-pub use parts::Mark;
+pub use parts::Fill;
 pub use parts::close;
 pub use parts::empty;
 pub use parts::feed;

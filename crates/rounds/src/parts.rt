@@ -9,21 +9,21 @@ ghost use Prim.Native.Nat.{_≤_, _<_};
 ghost use lib.Dec.{eqb};
 ghost use lib.ListN.{length, drop};
 ghost use Rattle.laws.specs.Tests.{both};
-ghost use Rattle.writing.specs.Sheet.{Wrote};
+ghost use Rattle.writing.specs.AnswerSheet.{Wrote};
 ghost use Rattle.rounds.specs.RoundParts.{stateOf, keepOf, gatherOf, Room, Held, keptAfter, bytesAfter, closeBytes};
 
-// How much is kept: its bytes, its LFs, and the bytes of the line that is not ended.
-pub struct Mark {
+// How far a lent buffer is filled by what is kept: its bytes, its LFs, and the bytes of the line that is not ended.
+pub struct Fill {
     pub count: usize,
     pub lines: usize,
     pub width: usize,
 }
 
 // Nothing is kept.
-pub fn empty() -> Mark
+pub fn empty() -> Fill
     ensures { λ r. ⌜ Held r × (r .count ≡ 0) × (r .lines ≡ 0) × (r .width ≡ 0) ⌝ }
 {
-    Mark {
+    Fill {
         count: 0,
         lines: 0,
         width: 0,
@@ -31,14 +31,14 @@ pub fn empty() -> Mark
 }
 
 // One byte more.
-fn keep(buf: &mut [u8], m: Mark, b: u8) -> Mark
+fn keep(buf: &mut [u8], m: Fill, b: u8) -> Fill
     requires { ⌜ Held m × (544 ≤ length (now buf)) ⌝ }
     ensures { λ r. ⌜ (stateOf r (now (buf .exit)) ≡ keepOf (stateOf m (now (buf .entry))) b) × Room r ⌝ }
 {
     let at = m.count;
     if b == 10 {
         buf[at] = b;
-        return Mark {
+        return Fill {
             count: at + 1,
             lines: m.lines + 1,
             width: 0,
@@ -46,7 +46,7 @@ fn keep(buf: &mut [u8], m: Mark, b: u8) -> Mark
     }
     if m.width < 33 {
         buf[at] = b;
-        return Mark {
+        return Fill {
             count: at + 1,
             lines: m.lines,
             width: m.width + 1,
@@ -55,52 +55,52 @@ fn keep(buf: &mut [u8], m: Mark, b: u8) -> Mark
     m
 }
 
-struct Got {
-    mark: Mark,
+struct Progress {
+    fill: Fill,
     used: usize,
 }
 
 // The bytes of a part up to the LF of a block's last line, or all of them.
-fn gather(buf: &mut [u8], m: Mark, part: &[u8]) -> Got
+fn gather(buf: &mut [u8], m: Fill, part: &[u8]) -> Progress
     requires { ⌜ Held m × (544 ≤ length (now buf)) ⌝ }
-    ensures kept { λ r. ⌜ (stateOf (r .mark) (now (buf .exit)) ≡ gatherOf (stateOf m (now (buf .entry))) (now (part .entry)) .kept) × (drop (r .used) (now (part .entry)) ≡ gatherOf (stateOf m (now (buf .entry))) (now (part .entry)) .left) ⌝ }
-    ensures room { λ r. ⌜ Room (r .mark) × (r .used ≤ length (now (part .entry))) × (0 < length (now (part .entry)) → 0 < r .used) ⌝ }
+    ensures kept { λ r. ⌜ (stateOf (r .fill) (now (buf .exit)) ≡ gatherOf (stateOf m (now (buf .entry))) (now (part .entry)) .kept) × (drop (r .used) (now (part .entry)) ≡ gatherOf (stateOf m (now (buf .entry))) (now (part .entry)) .left) ⌝ }
+    ensures room { λ r. ⌜ Room (r .fill) × (r .used ≤ length (now (part .entry))) × (0 < length (now (part .entry)) → 0 < r .used) ⌝ }
 {
-    let mut mark = m;
+    let mut fill = m;
     let mut i: usize = 0;
     while i < part.len() {
         let b = part[i];
-        mark = keep(buf, mark, b);
+        fill = keep(buf, fill, b);
         i += 1;
-        let n = mark.lines;
+        let n = fill.lines;
         if 16 <= n {
-            return Got { mark, used: i };
+            return Progress { fill, used: i };
         }
     }
-    Got { mark, used: i }
+    Progress { fill, used: i }
 }
 
 // What is kept after some bytes, how many were used up and how many written.
 pub struct Fed {
-    pub mark: Mark,
+    pub fill: Fill,
     pub used: usize,
     pub written: usize,
 }
 
 // The bytes of a part by way of the buffer: up to the end of a block, which is answered, or all of them, which are kept.
-fn feed_kept(m: Mark, buf: &mut [u8], part: &[u8], out: &mut [u8]) -> Fed
+fn feed_kept(m: Fill, buf: &mut [u8], part: &[u8], out: &mut [u8]) -> Fed
     requires { ⌜ Held m × (544 ≤ length (now buf)) × (216 ≤ length (now out)) ⌝ }
     ensures left { λ r. ⌜ drop (r .used) (now (part .entry)) ≡ gatherOf (stateOf m (now (buf .entry))) (now (part .entry)) .left ⌝ }
-    ensures kept { λ r. ⌜ stateOf (r .mark) (now (buf .exit)) ≡ keptAfter (gatherOf (stateOf m (now (buf .entry))) (now (part .entry)) .kept) ⌝ }
+    ensures kept { λ r. ⌜ stateOf (r .fill) (now (buf .exit)) ≡ keptAfter (gatherOf (stateOf m (now (buf .entry))) (now (part .entry)) .kept) ⌝ }
     ensures wrote { λ r. ⌜ Wrote (bytesAfter (gatherOf (stateOf m (now (buf .entry))) (now (part .entry)) .kept)) (now (out .entry)) (now (out .exit)) (r .written) ⌝ }
-    ensures held { λ r. ⌜ Held (r .mark) × (r .used ≤ length (now (part .entry))) × (0 < length (now (part .entry)) → 0 < r .used) × (r .written ≤ 216) ⌝ }
+    ensures held { λ r. ⌜ Held (r .fill) × (r .used ≤ length (now (part .entry))) × (0 < length (now (part .entry)) → 0 < r .used) × (r .written ≤ 216) ⌝ }
 {
     let g = gather(buf, m, part);
-    let k = g.mark;
+    let k = g.fill;
     let n = k.lines;
     if n < 16 {
         return Fed {
-            mark: k,
+            fill: k,
             used: g.used,
             written: 0,
         };
@@ -109,14 +109,14 @@ fn feed_kept(m: Mark, buf: &mut [u8], part: &[u8], out: &mut [u8]) -> Fed
     let written = answer(&buf[0..e], out);
     let z = empty();
     Fed {
-        mark: z,
+        fill: z,
         used: g.used,
         written,
     }
 }
 
 // Whether nothing is kept.
-fn is_empty(m: Mark) -> bool
+fn is_empty(m: Fill) -> bool
     ensures { λ r. ⌜ r ≡ both (eqb (m .count) 0) (both (eqb (m .lines) 0) (eqb (m .width) 0)) ⌝ }
 {
     both(m.count == 0, both(m.lines == 0, m.width == 0))
@@ -124,12 +124,12 @@ fn is_empty(m: Mark) -> bool
 
 // The bytes of a part up to the end of a block, which is answered, or all of them, which are kept. A well-formed block that lies whole at the front of the
 // part, behind nothing that is kept, is answered where it lies.
-pub fn feed(m: Mark, buf: &mut [u8], part: &[u8], out: &mut [u8]) -> Fed
+pub fn feed(m: Fill, buf: &mut [u8], part: &[u8], out: &mut [u8]) -> Fed
     requires { ⌜ Held m × (544 ≤ length (now buf)) × (216 ≤ length (now out)) ⌝ }
     ensures left { λ r. ⌜ drop (r .used) (now (part .entry)) ≡ gatherOf (stateOf m (now (buf .entry))) (now (part .entry)) .left ⌝ }
-    ensures kept { λ r. ⌜ stateOf (r .mark) (now (buf .exit)) ≡ keptAfter (gatherOf (stateOf m (now (buf .entry))) (now (part .entry)) .kept) ⌝ }
+    ensures kept { λ r. ⌜ stateOf (r .fill) (now (buf .exit)) ≡ keptAfter (gatherOf (stateOf m (now (buf .entry))) (now (part .entry)) .kept) ⌝ }
     ensures wrote { λ r. ⌜ Wrote (bytesAfter (gatherOf (stateOf m (now (buf .entry))) (now (part .entry)) .kept)) (now (out .entry)) (now (out .exit)) (r .written) ⌝ }
-    ensures held { λ r. ⌜ Held (r .mark) × (r .used ≤ length (now (part .entry))) × (0 < length (now (part .entry)) → 0 < r .used) × (r .written ≤ 216) ⌝ }
+    ensures held { λ r. ⌜ Held (r .fill) × (r .used ≤ length (now (part .entry))) × (0 < length (now (part .entry)) → 0 < r .used) × (r .written ≤ 216) ⌝ }
 {
     if is_empty(m) {
         let s = read_numbers(part);
@@ -139,7 +139,7 @@ pub fn feed(m: Mark, buf: &mut [u8], part: &[u8], out: &mut [u8]) -> Fed
             let written = put_outcome(out, judge(n));
             let z = empty();
             return Fed {
-                mark: z,
+                fill: z,
                 used,
                 written,
             };
@@ -149,7 +149,7 @@ pub fn feed(m: Mark, buf: &mut [u8], part: &[u8], out: &mut [u8]) -> Fed
 }
 
 // The end of the input: a block that is not whole is answered too.
-pub fn close(m: Mark, buf: &[u8], out: &mut [u8]) -> usize
+pub fn close(m: Fill, buf: &[u8], out: &mut [u8]) -> usize
     requires { ⌜ Held m × (544 ≤ length (now buf)) × (216 ≤ length (now out)) ⌝ }
     ensures { λ r. ⌜ Wrote (closeBytes (stateOf m (now (buf .entry)))) (now (out .entry)) (now (out .exit)) r × (r ≤ 216) ⌝ }
 {

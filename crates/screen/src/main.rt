@@ -47,14 +47,14 @@ fn show_one(
 }
 
 // The screen after some input, whether reading or writing failed, and whether to go on.
-struct Turn {
+struct Lap {
     screen: Screen,
     failed: bool,
     more: bool,
 }
 
 // Draws every line that ends in this part of the input, in one write where the picture fits. Unless a write failed, every byte of it is drawn.
-fn show(colour: bool, s: Screen, buf: &mut [u8], part: &[u8]) -> Turn
+fn show(colour: bool, s: Screen, buf: &mut [u8], part: &[u8]) -> Lap
     requires { ⌜ Held s × (lineRoom ≤ length (now buf)) ⌝ }
     ensures drawn { λ r. ⌜ (r .failed ≡ false → DrawnTo colour s (now (buf .entry)) (now (part .entry)) 0 (r .screen) (now (buf .exit)) (length (now (part .entry)))) ⌝ }
     ensures held { λ r. ⌜ Held (r .screen) ⌝ }
@@ -67,7 +67,7 @@ fn show(colour: bool, s: Screen, buf: &mut [u8], part: &[u8]) -> Turn
         let next = d.screen;
         screen = next;
         if !d.ok {
-            return Turn {
+            return Lap {
                 screen,
                 failed: true,
                 more: false,
@@ -75,7 +75,7 @@ fn show(colour: bool, s: Screen, buf: &mut [u8], part: &[u8]) -> Turn
         }
         from = d.from;
     }
-    Turn {
+    Lap {
         screen,
         failed: false,
         more: true,
@@ -83,14 +83,14 @@ fn show(colour: bool, s: Screen, buf: &mut [u8], part: &[u8]) -> Turn
 }
 
 // One read, and the picture of it. A read that fails is no end of the input: then nothing more is drawn.
-fn read_some(colour: bool, s: Screen, buf: &mut [u8]) -> Turn
+fn read_some(colour: bool, s: Screen, buf: &mut [u8]) -> Lap
     requires { ⌜ Held s × (lineRoom ≤ length (now buf)) ⌝ }
     ensures { λ r. ⌜ Held (r .screen) ⌝ }
 {
     let mut input = io::large_buffer();
     let got = libc::read(STDIN_FILENO, &mut input);
     if got <= 0 {
-        return Turn {
+        return Lap {
             screen: s,
             failed: got < 0,
             more: false,
@@ -101,7 +101,7 @@ fn read_some(colour: bool, s: Screen, buf: &mut [u8]) -> Turn
 }
 
 // Reads to the end of the input. A proved loop has to end, so it counts its turns down from a number that no run uses up.
-fn read_all(colour: bool, buf: &mut [u8]) -> Turn
+fn read_all(colour: bool, buf: &mut [u8]) -> Lap
     requires { ⌜ lineRoom ≤ length (now buf) ⌝ }
     ensures { λ r. ⌜ Held (r .screen) ⌝ }
 {
@@ -116,7 +116,7 @@ fn read_all(colour: bool, buf: &mut [u8]) -> Turn
         }
         turns -= 1;
     }
-    Turn {
+    Lap {
         screen,
         failed: false,
         more: false,

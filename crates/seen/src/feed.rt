@@ -3,8 +3,8 @@ use crate::told;
 use crate::told::Told;
 use blocks::read_block;
 use desk::judge;
-use desk::log::read_opening;
-use lines::Mark;
+use desk::log::read_lone_sheet;
+use lines::Fill;
 use lines::empty;
 use lines::gather;
 use lines::lines_of;
@@ -13,7 +13,7 @@ use paper::STAND_IN;
 use paper::Sheet;
 use table::table::Table;
 use table::take::new_table;
-use text::sheet::Opening;
+use text::sheet::SheetRead;
 ghost use mathlib.Core.Path.{_≡_};
 ghost use mathlib.Core.Bool.{true};
 ghost use Prim.Native.Nat.{_≤_, _<_};
@@ -27,7 +27,7 @@ pub struct Seen {
     pub opened: bool,
     pub shut: bool,
     pub table: Table,
-    pub mark: Mark,
+    pub fill: Fill,
     pub told: Told,
 }
 
@@ -49,7 +49,7 @@ pub fn start() -> Seen
         opened: false,
         shut: false,
         table: t,
-        mark: z,
+        fill: z,
         told: o,
     }
 }
@@ -69,7 +69,7 @@ fn after_block(s: Seen, block: &[u8]) -> Seen
         opened: true,
         shut: false,
         table: u,
-        mark: z,
+        fill: z,
         told: p,
     }
 }
@@ -86,7 +86,7 @@ fn bad_sheet(s: Seen) -> Seen
         opened: false,
         shut: true,
         table: t,
-        mark: z,
+        fill: z,
         told: o,
     }
 }
@@ -103,7 +103,7 @@ fn good_sheet(sheet: Sheet) -> Seen
         opened: true,
         shut: false,
         table: t,
-        mark: z,
+        fill: z,
         told: o,
     }
 }
@@ -113,9 +113,9 @@ fn after_sheet(s: Seen, block: &[u8]) -> Seen
     requires { ⌜ Held s ⌝ }
     ensures { λ r. ⌜ (r ≡ afterSheet s (now (block .entry))) × Held r ⌝ }
 {
-    match read_opening(block) {
-        Opening::Bad => bad_sheet(s),
-        Opening::Read(sheet) => good_sheet(sheet),
+    match read_lone_sheet(block) {
+        SheetRead::Bad => bad_sheet(s),
+        SheetRead::Read(sheet) => good_sheet(sheet),
     }
 }
 
@@ -131,11 +131,11 @@ fn after_lines(s: Seen, block: &[u8]) -> Seen
 }
 
 // The same with other lines kept.
-fn keeping(s: Seen, m: Mark) -> Seen
+fn keeping(s: Seen, m: Fill) -> Seen
     ensures { λ r. ⌜ r ≡ keptOn s m ⌝ }
 {
     let mut u = s;
-    u.mark = m;
+    u.fill = m;
     u
 }
 
@@ -153,8 +153,8 @@ pub fn feed(s: Seen, buf: &mut [u8], part: &[u8]) -> Fed
         };
     }
     let want = lines_of(s.opened);
-    let g = gather(buf, s.mark, part, want);
-    let k = g.mark;
+    let g = gather(buf, s.fill, part, want);
+    let k = g.fill;
     if k.lines < want {
         return Fed {
             seen: keeping(s, k),
@@ -178,7 +178,7 @@ pub fn close(s: Seen, buf: &[u8]) -> Seen
     if s.shut {
         return s;
     }
-    let m = s.mark;
+    let m = s.fill;
     let e = m.count;
     if s.opened {
         if e == 0 {
@@ -197,6 +197,6 @@ pub fn ends_open(s: Seen) -> bool
         return false;
     }
     let t = s.table;
-    let whole = laws::both(s.opened, s.mark.count == 0);
+    let whole = laws::both(s.opened, s.fill.count == 0);
     laws::either(!whole, t.play.opened)
 }

@@ -8,10 +8,10 @@ use native.Mathlib.Omega.{arith}
 use lib.ListN.{length}
 use Rattle.laws.specs.Tests.{pick}
 use Rattle.paper.specs.RefusalNumbers.{sharesPool}
-use Rattle.writing.specs.Sheet.{sheetAfter, writtenOf}
+use Rattle.writing.specs.AnswerSheet.{sheetAfter, writtenOf}
 use Rattle.writing.specs.declared.Written.{Written}
 use Rattle.writing.specs.declared.Written.the-variants.{Bytes, NoRoom}
-use Rattle.answers.specs.Answer.{Small, answerBytes}
+use Rattle.answers.specs.Answer.{SmallShown, answerBytes}
 use Rattle.answers.specs.declared.Shown.{Shown}
 use Rattle.table.specs.declared.table.Table.{Table}
 use Rattle.table.specs.Take.{Sound}
@@ -78,7 +78,7 @@ unfolding handOf
 hand-none t j p = sym (ap (λ (z : Bool). pick z (record { drop = j .payout .drop; royal = royalNow t }) noHand) p)
 
 -- ---- shown
-pub shown-small : (s : Shown) (amount : ℕ) → Small s → amount < 10 ^ 9 → Small (withJackpot amount s)
+pub shown-small : (s : Shown) (amount : ℕ) → SmallShown s → amount < 10 ^ 9 → SmallShown (withJackpot amount s)
 unfolding withJackpot
 shown-small s amount m l = record {
   n = m .n;
@@ -92,8 +92,8 @@ shown-small s amount m l = record {
   payout = record { fee = m .payout .fee; jackpot = l; rows = m .payout .rows; unclaimed = m .payout .unclaimed };
 }
 
-pub shown-is : (j : Judged) (amount : ℕ) {s r : Shown} → s ≡ shownOf (j .n) (j .code) (j .table) (j .payout) → (r ≡ withJackpot amount s) × Small r
-    → (r ≡ shownAt j amount) × Small r
+pub shown-is : (j : Judged) (amount : ℕ) {s r : Shown} → s ≡ shownOf (j .n) (j .code) (j .table) (j .payout) → (r ≡ withJackpot amount s) × SmallShown r
+    → (r ≡ shownAt j amount) × SmallShown r
 shown-is j amount e f = (f .0 ∙ ap (withJackpot amount) e, f .1)
 
 pub won-small : (p : Pool) (h : Hand) {s : Settled} → p .held ≤ most → s ≡ settledPool p h → s .jackpot < 10 ^ 9

@@ -10,7 +10,7 @@ use borrow.Author.Tests.{le-leb}
 use Rattle.laws.specs.Tests.{pick}
 use Rattle.laws.specs.Often.{count}
 use Rattle.paper.specs.RefusalNumbers.{sharesPool}
-use Rattle.writing.specs.Sheet.{writtenOf}
+use Rattle.writing.specs.AnswerSheet.{writtenOf}
 use Rattle.writing.specs.declared.Written.{Written}
 use Rattle.writing.specs.declared.Written.the-variants.{Bytes, NoRoom}
 use Rattle.answers.specs.Answer.{answerBytes, tableBytes, payoutBytes, longestShared}

@@ -24,8 +24,8 @@ use writing::Written;
 ghost use mathlib.Core.Path.{_≡_};
 ghost use Prim.Native.Nat.{_≤_, _<_, _^_};
 ghost use lib.ListN.{length};
-ghost use Rattle.writing.specs.Sheet.{sheetAfter, writtenOf};
-ghost use Rattle.answers.specs.Answer.{Small};
+ghost use Rattle.writing.specs.AnswerSheet.{sheetAfter, writtenOf};
+ghost use Rattle.answers.specs.Answer.{SmallShown};
 ghost use Rattle.table.specs.Take.{Sound};
 ghost use Rattle.pool.specs.Jackpot.{most, settledPool};
 ghost use Rattle.desk.specs.Desk.{shownOf, SmallPaid, Closed};
@@ -82,8 +82,8 @@ fn hand_of(t: Table, j: Judged) -> Hand
 
 // What is shown of a table that shares a pool: as of any, and what the hand won.
 fn with_jackpot(s: Shown, amount: u32) -> Shown
-    requires { ⌜ Small s × (amount < 10 ^ 9) ⌝ }
-    ensures { λ r. ⌜ (r ≡ withJackpot amount s) × Small r ⌝ }
+    requires { ⌜ SmallShown s × (amount < 10 ^ 9) ⌝ }
+    ensures { λ r. ⌜ (r ≡ withJackpot amount s) × SmallShown r ⌝ }
 {
     let won = Jackpot {
         shared: true,
@@ -98,7 +98,7 @@ fn with_jackpot(s: Shown, amount: u32) -> Shown
 
 fn shown_at(j: Judged, amount: u32) -> Shown
     requires { ⌜ Sound (j .table) × SmallPaid (j .payout) × (j .n < 10 ^ 9) × Closed (j .table) (j .payout) × (amount < 10 ^ 9) ⌝ }
-    ensures { λ r. ⌜ (r ≡ shownAt j amount) × Small r ⌝ }
+    ensures { λ r. ⌜ (r ≡ shownAt j amount) × SmallShown r ⌝ }
 {
     let u = j.table;
     let paid = j.payout;

@@ -1,6 +1,6 @@
 -- Request No. 9: bytes one by one, and then the close, lead where the whole log leads that is read at once: the same codes, the same bytes, the same state. For any
 -- log, good sheet or bad, and any room for each answer. Assumes nothing.
-use Rattle.desk.specs.Log.{loneOpening, openedOf}
+use Rattle.desk.specs.Log.{loneRead, openedOf}
 use mathlib.Core.Path.{_≡_, refl, sym, ap, subst, _∙_}
 use mathlib.Core.List.{List, [], _∷_, _++_}
 use mathlib.Core.Bool.{Bool, true, false}
@@ -18,8 +18,8 @@ use Rattle.text.specs.Number.{numberOf, wellFormed}
 use Rattle.text.specs.Line.{lineLen, lineOf, lineEnded, hasKey, valueOf, afterLines}
 use Rattle.blocks.specs.Block.{restOf, blockOf}
 use Rattle.text.specs.TableSheet.{sheetLines, sheetKeys, sheetNumber, isValue, sheetOf, sheetEnd}
-use Rattle.text.specs.declared.sheet.Opening.{Opening}
-use Rattle.text.specs.declared.sheet.Opening.the-variants.{Read, Bad}
+use Rattle.text.specs.declared.sheet.SheetRead.{SheetRead}
+use Rattle.text.specs.declared.sheet.SheetRead.the-variants.{Read, Bad}
 use Rattle.blocks.proofs.Blocks.{rest-shorter}
 use Rattle.text.proofs.SheetLaws.{good-not, sheet-bad, sheet-same}
 use Rattle.lines.specs.Kept.{Kept, nothing, keepAll, Gathered, gatherOf}
@@ -110,7 +110,7 @@ each-onward (suc k) room t log h = ⊎-elim
 
 -- ---- the whole log
 
-opened-onward : (room : ℕ) (o : Opening) (log : List ℕ) → closed room (andThen (openOf room o) (onward room (openOf room o .state) (openOf room o .kept) (sheetEnd log))) ≡ atOnceFrom room o log
+opened-onward : (room : ℕ) (o : SheetRead) (log : List ℕ) → closed room (andThen (openOf room o) (onward room (openOf room o .state) (openOf room o .kept) (sheetEnd log))) ≡ atOnceFrom room o log
 opened-onward room (Read s) log = each-onward (length log) room (freshTable s) (sheetEnd log) (end-within log)
 opened-onward room Bad log = ap (λ (x : Given). closed room (andThen (openOf room Bad) x)) (shut-onward room nothing (sheetEnd log)) ∙ shut-closed (openOf room Bad) refl
   where
@@ -131,7 +131,7 @@ sheet-whole room log h =
     ∙ sym (front-sheet front (drop (g .used) log) all)
     ∙ ap sheetOf (take-append-drop (g .used) log) in
     let one : onward room Unread nothing front ≡ openOf room (openedOf log) =
-    ends-onward room Unread refl nothing log (omega arith) (omega (arith, whole-kept (sheetLines - 1) log h .0)) ∙ ap (λ (o : Opening). openOf room (loneOpening o)) reads in
+    ends-onward room Unread refl nothing log (omega arith) (omega (arith, whole-kept (sheetLines - 1) log h .0)) ∙ ap (λ (o : SheetRead). openOf room (loneRead o)) reads in
     ap (closed room)
     (ap (onward room Unread nothing) (sym (take-append-drop (g .used) log))
     ∙ onward-append room Unread nothing front (drop (g .used) log)
@@ -147,4 +147,4 @@ heard-at-once room log = ⊎-elim
     (le-or-lt sheetLines (lfs log))
   where
     bad-whole : lfs log < sheetLines → openOf room Bad ≡ atOnce room log
-    bad-whole h = ap (λ (o : Opening). atOnceFrom room (loneOpening o) log) (sym (sheet-open log h))
+    bad-whole h = ap (λ (o : SheetRead). atOnceFrom room (loneRead o) log) (sym (sheet-open log h))

@@ -21,8 +21,8 @@ use Rattle.blocks.specs.declared.Block.{Block}
 use Rattle.blocks.specs.declared.Block.the-variants.{Raw, Malformed, Nothing}
 use Rattle.blocks.specs.declared.Parsed.{Parsed}
 use Rattle.blocks.specs.declared.Parsed.the-variants as parsed
-use Rattle.text.specs.declared.sheet.Opening.{Opening}
-use Rattle.text.specs.declared.sheet.Opening.the-variants.{Read, Bad}
+use Rattle.text.specs.declared.sheet.SheetRead.{SheetRead}
+use Rattle.text.specs.declared.sheet.SheetRead.the-variants.{Read, Bad}
 use Rattle.lines.specs.Kept.{Kept, keepOf}
 use Rattle.table.specs.declared.table.Table.{Table}
 use Rattle.table.specs.Take.{Sound, codeOf, nextOf, freshTable}
@@ -75,7 +75,7 @@ done-sound room (Open t) lines h = in-sound room t lines h
 done-sound room Shut lines h = h
 done-sound room Unread lines h = go (openedOf lines) refl
   where
-    go : (o : Opening) → openedOf lines ≡ o → soundIn (openOf room o .state)
+    go : (o : SheetRead) → openedOf lines ≡ o → soundIn (openOf room o .state)
     go (Read s) e = sound-fresh s (opened-is lines s e)
     go Bad e = tt
 
@@ -104,7 +104,7 @@ module _ (room : ℕ) (enough : longestAnswer ≤ room) where
   answer-enough t block h =
       answer-fits room t block (omega (arith, longest t block h)) ∙ sym (answer-fits longestAnswer t block (longest t block h))
 
-  open-enough : (o : Opening) → openOf room o ≡ openOf longestAnswer o
+  open-enough : (o : SheetRead) → openOf room o ≡ openOf longestAnswer o
   open-enough (Read s) = refl
   open-enough Bad = ap (λ (b : Bool). record { state = Shut; kept = record { bytes = []; lines = 0; width = 0; bad = false }; codes = 11 ∷ []; bytes = pick b eleven [] }) (le-leb 8 room (omega arith))
 
@@ -147,7 +147,7 @@ done-told (Open t) lines h =
     ∙ ap (λ (b : Bool). pick b true false) (ne-eqb (judgedOf t lines .code) 12 (λ q. omega (arith, judged-most t lines)))
 done-told Unread lines h = go (openedOf lines)
   where
-    go : (o : Opening) → anyShort (openOf longestAnswer o .codes) ≡ false
+    go : (o : SheetRead) → anyShort (openOf longestAnswer o .codes) ≡ false
     go (Read s) = refl
     go Bad = refl
 

@@ -6,7 +6,7 @@ use native.Mathlib.Omega.{arith}
 use lib.ListN.{length, take, drop, length-drop}
 use borrow.Rule.Slice.PartMut.{midOf}
 use Rattle.text.proofs.Parts.{part-is}
-use Rattle.lines.specs.Kept.{Kept, markOf}
+use Rattle.lines.specs.Kept.{Kept, fillOf}
 use Rattle.stream.specs.declared.Clerk.{Clerk}
 use Rattle.stream.specs.declared.Fed.{Fed}
 use Rattle.stream.specs.Onward.{State, Given, andThen}
@@ -18,7 +18,7 @@ pub fed-state : {room : ℕ} {c : Clerk} {buf part out buf2 out2 : List ℕ} (r 
     → stateOf (r .clerk) ≡ heardOf room c buf part (r .used) .state
 fed-state {room} {c} {buf} {part} r f =
     let x : Given = heardOf room c buf part (r .used) in
-    ap stateOf (f .gave .clerk) ∙ state-in (c .table) (x .state) (markOf (x .kept))
+    ap stateOf (f .gave .clerk) ∙ state-in (c .table) (x .state) (fillOf (x .kept))
 
 -- one call
 pub hears-one : {c : Clerk} {buf out buf2 out2 : List ℕ} (part : List ℕ) (from : ℕ) {to : ℕ} (r : Fed) → FedOn longestAnswer c buf (midOf from (length part - from) part) out buf2 out2 r

@@ -13,12 +13,12 @@ use borrow.Rule.Slice.PartMut.{midOf, putMid, same-len-mid}
 use Rattle.laws.specs.Tests.{pick, both}
 use Rattle.laws.proofs.Tests.{test, both-true}
 use Rattle.laws.proofs.Sums.{le-or-lt}
-use Rattle.writing.specs.Sheet.{Wrote}
+use Rattle.writing.specs.AnswerSheet.{Wrote}
 use Rattle.text.proofs.Parts.{part-is}
 use Rattle.writing.proofs.Sheets.{then}
-use Rattle.lines.specs.declared.Mark.{Mark}
-use Rattle.lines.specs.Kept.{Kept, keepOf, keptMost, markOf}
-use Rattle.lines.proofs.Keeps.{mark-back}
+use Rattle.lines.specs.declared.Fill.{Fill}
+use Rattle.lines.specs.Kept.{Kept, keepOf, keptMost, fillOf}
+use Rattle.lines.proofs.Keeps.{fill-back}
 use Rattle.table.specs.declared.table.Table.{Table}
 use Rattle.stream.specs.declared.Clerk.{Clerk}
 use Rattle.stream.specs.declared.Fed.{Fed}
@@ -49,36 +49,36 @@ stays-open : (room : ℕ) (s : State) (k : Kept) (bs : List ℕ) → isOpen s �
 stays-open room s k [] h = h
 stays-open room s k (b ∷ bs) h = stays-open room (byteOf room s k b .state) (byteOf room s k b .kept) bs (byte-open room s k b h)
 
-no-stand-in : (t u : Table) (s : State) (m : Mark) → isOpen s ≡ true → clerkIn t s m ≡ clerkIn u s m
+no-stand-in : (t u : Table) (s : State) (m : Fill) → isOpen s ≡ true → clerkIn t s m ≡ clerkIn u s m
 no-stand-in t u Unread m h = absurd (true≢false (sym h))
 no-stand-in t u (Open v) m h = refl
 no-stand-in t u Shut m h = absurd (true≢false (sym h))
 
 -- the stand-in of the clerk before is that of the clerk after
-stand-in : (room : ℕ) (t : Table) (s : State) (l m : Mark) (k : Kept) (bs : List ℕ)
+stand-in : (room : ℕ) (t : Table) (s : State) (l m : Fill) (k : Kept) (bs : List ℕ)
     → clerkIn (clerkIn t s l .table) (onward room s k bs .state) m ≡ clerkIn t (onward room s k bs .state) m
 stand-in room t Unread l m k bs = refl
 stand-in room t Shut l m k bs = refl
 stand-in room t (Open u) l m k bs = no-stand-in u t (onward room (Open u) k bs .state) m (stays-open room (Open u) k bs refl)
 
-pub state-in : (t : Table) (s : State) (m : Mark) → stateOf (clerkIn t s m) ≡ s
+pub state-in : (t : Table) (s : State) (m : Fill) → stateOf (clerkIn t s m) ≡ s
 unfolding stateOf
 state-in t Unread m = refl
 state-in t (Open u) m = refl
 state-in t Shut m = refl
 
--- a clerk is what its state and its mark say
-pub clerk-own : (c : Clerk) (buf : List ℕ) → Held c → c .mark .count ≤ length buf → c ≡ clerkIn (c .table) (stateOf c) (markOf (keptBy c buf))
+-- a clerk is what its state and its fill say
+pub clerk-own : (c : Clerk) (buf : List ℕ) → Held c → c .fill .count ≤ length buf → c ≡ clerkIn (c .table) (stateOf c) (fillOf (keptBy c buf))
 clerk-own c buf h n = ⊎-elim
-    (λ e. same (h .shut e) e (mark-back (c .mark) buf n) ∙ ap (λ (s : State). clerkIn (c .table) s (markOf (keptBy c buf))) (sym (state-shut c e)))
+    (λ e. same (h .shut e) e (fill-back (c .fill) buf n) ∙ ap (λ (s : State). clerkIn (c .table) s (fillOf (keptBy c buf))) (sym (state-shut c e)))
     (λ e. ⊎-elim
-    (λ o. same o e (mark-back (c .mark) buf n) ∙ ap (λ (s : State). clerkIn (c .table) s (markOf (keptBy c buf))) (sym (state-else c e ∙ ap (λ (b : Bool). stateAt b (c .table)) o)))
-    (λ o. same o e (mark-back (c .mark) buf n) ∙ ap (λ (s : State). clerkIn (c .table) s (markOf (keptBy c buf))) (sym (state-else c e ∙ ap (λ (b : Bool). stateAt b (c .table)) o)))
+    (λ o. same o e (fill-back (c .fill) buf n) ∙ ap (λ (s : State). clerkIn (c .table) s (fillOf (keptBy c buf))) (sym (state-else c e ∙ ap (λ (b : Bool). stateAt b (c .table)) o)))
+    (λ o. same o e (fill-back (c .fill) buf n) ∙ ap (λ (s : State). clerkIn (c .table) s (fillOf (keptBy c buf))) (sym (state-else c e ∙ ap (λ (b : Bool). stateAt b (c .table)) o)))
     (test (c .opened)))
     (test (c .shut))
   where
-    same : {o p s q : Bool} {m l : Mark} → o ≡ p → s ≡ q → m ≡ l
-        → _≡_ {A = Clerk} (record { opened = o; shut = s; table = c .table; mark = m }) (record { opened = p; shut = q; table = c .table; mark = l })
+    same : {o p s q : Bool} {m l : Fill} → o ≡ p → s ≡ q → m ≡ l
+        → _≡_ {A = Clerk} (record { opened = o; shut = s; table = c .table; fill = m }) (record { opened = p; shut = q; table = c .table; fill = l })
     same a b d = cc
 
 -- ---- what was done with some bytes, and then with the next
@@ -140,19 +140,19 @@ module _ {c : Clerk} {buf₀ part out₀ buf out : List ℕ} {clerk : Clerk} {us
       let m : length sheet ≡ length out - at = ap length (part-is at out) ∙ length-drop at out in
       let x : Given = heardOf longestAnswer c buf₀ part used in
       let y : Given = heardOf longestAnswer clerk buf (drop used part) (r .used) in
-      let was : clerk ≡ clerkIn (c .table) (x .state) (markOf (x .kept)) = g .fed .gave .clerk in
-      let state : stateOf clerk ≡ x .state = ap stateOf was ∙ state-in (c .table) (x .state) (markOf (x .kept)) in
+      let was : clerk ≡ clerkIn (c .table) (x .state) (fillOf (x .kept)) = g .fed .gave .clerk in
+      let state : stateOf clerk ≡ x .state = ap stateOf was ∙ state-in (c .table) (x .state) (fillOf (x .kept)) in
       let sound = held-sound clerk (g .held) in
       let here : heardOf (length sheet) clerk buf part' (r .used) ≡ y =
       ap (λ (l : List ℕ). heardOf (length sheet) clerk buf l (r .used)) is ∙ onward-enough (length sheet) (omega (arith, m)) (stateOf clerk) (keptBy clerk buf) (take (r .used) (drop used part)) sound in
       let now : Gave (clerk .table) y sheet mid (r .clerk) (r .written) (r .short) = subst (λ (z : Given). Gave (clerk .table) z sheet mid (r .clerk) (r .written) (r .short)) here (f .gave) in
       let all : heardOf longestAnswer c buf₀ part (used + r .used) ≡ andThen x y = heard-on longestAnswer c buf₀ part used (r .used) clerk buf state (g .fed .kept) in
-      let same-clerk : r .clerk ≡ clerkIn (c .table) (y .state) (markOf (y .kept)) =
+      let same-clerk : r .clerk ≡ clerkIn (c .table) (y .state) (fillOf (y .kept)) =
       now .clerk
-      ∙ ap (λ (d : Clerk). clerkIn (d .table) (y .state) (markOf (y .kept))) was
-      ∙ ap (λ (s : State). clerkIn (clerkIn (c .table) (x .state) (markOf (x .kept)) .table) (onward longestAnswer s (keptBy clerk buf) (take (r .used) (drop used part)) .state) (markOf (y .kept))) state
-      ∙ stand-in longestAnswer (c .table) (x .state) (markOf (x .kept)) (markOf (y .kept)) (keptBy clerk buf) (take (r .used) (drop used part))
-      ∙ ap (λ (s : State). clerkIn (c .table) (onward longestAnswer s (keptBy clerk buf) (take (r .used) (drop used part)) .state) (markOf (y .kept))) (sym state) in
+      ∙ ap (λ (d : Clerk). clerkIn (d .table) (y .state) (fillOf (y .kept))) was
+      ∙ ap (λ (s : State). clerkIn (clerkIn (c .table) (x .state) (fillOf (x .kept)) .table) (onward longestAnswer s (keptBy clerk buf) (take (r .used) (drop used part)) .state) (fillOf (y .kept))) state
+      ∙ stand-in longestAnswer (c .table) (x .state) (fillOf (x .kept)) (fillOf (y .kept)) (keptBy clerk buf) (take (r .used) (drop used part))
+      ∙ ap (λ (s : State). clerkIn (c .table) (onward longestAnswer s (keptBy clerk buf) (take (r .used) (drop used part)) .state) (fillOf (y .kept))) (sym state) in
       record {
         held = h;
         size = n ∙ g .size;

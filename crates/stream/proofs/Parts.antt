@@ -12,11 +12,11 @@ use borrow.Author.Tests.{eq-eqb, ne-eqb, leb-false}
 use Rattle.laws.specs.Tests.{pick, both}
 use Rattle.laws.proofs.Tests.{test, both-true}
 use Rattle.laws.proofs.Sums.{le-or-lt}
-use Rattle.writing.specs.Sheet.{over}
-use Rattle.lines.specs.declared.Mark.{Mark}
+use Rattle.writing.specs.AnswerSheet.{over}
+use Rattle.lines.specs.declared.Fill.{Fill}
 use Rattle.text.specs.TableSheet.{sheetLines}
-use Rattle.lines.specs.Kept.{Kept, nothing, keepOf, Gathered, gatherOf, keptIn, markOf, gotOf, Room, keptMost}
-use Rattle.lines.proofs.Keeps.{mark-back, empty-room}
+use Rattle.lines.specs.Kept.{Kept, nothing, keepOf, Gathered, gatherOf, keptIn, fillOf, progressOf, Room, keptMost}
+use Rattle.lines.proofs.Keeps.{fill-back, empty-room}
 use Rattle.lines.proofs.Gathers.{gather-some, keep-room, gather-room}
 use Rattle.table.specs.declared.table.Table.{Table}
 use Rattle.table.specs.Take.{Sound, freshTable}
@@ -25,7 +25,7 @@ use Rattle.paper.specs.Paper.{standIn}
 use Rattle.paper.proofs.Sheets.{stand-in-good}
 use Rattle.stream.specs.declared.Clerk.{Clerk}
 use Rattle.stream.specs.declared.Fed.{Fed}
-use Rattle.stream.specs.declared.Step.{Step}
+use Rattle.stream.specs.declared.ClerkAfter.{ClerkAfter}
 use Rattle.stream.specs.Onward.{State, Unread, Open, Shut, Given, still, andThen, linesDone, linesOf, wanted, isShut, byteOf, onward, closing, closed, anyShort, atOnce}
 use Rattle.stream.specs.InPlace.{inPlaceOf, ranOf, awaitsBlock, answersFront}
 use Rattle.stream.specs.Feeding.{stateAt, stateOf, keptBy, clerkIn, Held, startOf, Gave, heardOf, FedOn, goesInPlace, gatheredBy, usedOf, bufferOf}
@@ -33,7 +33,7 @@ use Rattle.stream.specs.Parts.{Served, idle, following, calledOf, callOf
 use Rattle.stream.proofs.Onward.{onward-append, then-nothing, then-assoc}
 use Rattle.stream.proofs.Runs.{uses-some}
 use Rattle.stream.proofs.Steps.{state-shut, state-else}
-use Rattle.stream.proofs.Feeds.{clerkAt, fed-kept, fed-whole, fed-shut, fed-placed, used-placed, used-shut, used-gathered, awaits-is, clerk-is, mark-in, done-nothing}
+use Rattle.stream.proofs.Feeds.{clerkAt, fed-kept, fed-whole, fed-shut, fed-placed, used-placed, used-shut, used-gathered, awaits-is, clerk-is, fill-in, done-nothing}
 use Rattle.stream.proofs.Enough.{soundIn, done-sound, held-sound}
 use Rattle.stream.proofs.On.{state-in}
 use Rattle.stream.proofs.AtOnce.{heard-at-once}
@@ -42,7 +42,7 @@ use Rattle.stream.proofs.AtOnce.{heard-at-once}
 
 record Fine (s : State) (k : Kept) : Type 0 where
   sound : soundIn s
-  room : Room (markOf k)
+  room : Room (fillOf k)
   lines : k .lines < wanted s
 
 want-few : (s : State) → (0 < wanted s) × (wanted s ≤ sheetLines)
@@ -75,20 +75,20 @@ onward-fine room s k [] h = h
 onward-fine room s k (b ∷ bs) h = onward-fine room (byteOf room s k b .state) (byteOf room s k b .kept) bs (byte-fine room s k b h)
 
 -- the clerk is so
-open-few : (c : Clerk) (o : Bool) → c .mark .lines < linesOf o → c .mark .lines < wanted (stateAt o (c .table))
+open-few : (c : Clerk) (o : Bool) → c .fill .lines < linesOf o → c .fill .lines < wanted (stateAt o (c .table))
 open-few c true l = l
 open-few c false l = l
 
-held-few : (c : Clerk) → Held c → c .mark .lines < wanted (stateOf c)
+held-few : (c : Clerk) → Held c → c .fill .lines < wanted (stateOf c)
 held-few c h = ⊎-elim
-    (λ e. subst (λ (s : State). c .mark .lines < wanted s) (sym (state-shut c e)) (subst (λ (o : Bool). c .mark .lines < linesOf o) (h .shut e) (h .lines)))
-    (λ e. subst (λ (s : State). c .mark .lines < wanted s) (sym (state-else c e)) (open-few c (c .opened) (h .lines)))
+    (λ e. subst (λ (s : State). c .fill .lines < wanted s) (sym (state-shut c e)) (subst (λ (o : Bool). c .fill .lines < linesOf o) (h .shut e) (h .lines)))
+    (λ e. subst (λ (s : State). c .fill .lines < wanted s) (sym (state-else c e)) (open-few c (c .opened) (h .lines)))
     (test (c .shut))
 
-held-fine : (c : Clerk) (buf : List ℕ) → Held c → c .mark .count ≤ length buf → Fine (stateOf c) (keptBy c buf)
-held-fine c buf h n = record { sound = held-sound c h; room = subst Room (mark-back (c .mark) buf n) (h .room); lines = held-few c h }
+held-fine : (c : Clerk) (buf : List ℕ) → Held c → c .fill .count ≤ length buf → Fine (stateOf c) (keptBy c buf)
+held-fine c buf h n = record { sound = held-sound c h; room = subst Room (fill-back (c .fill) buf n) (h .room); lines = held-few c h }
 
-fine-held : (t : Table) (s : State) (k : Kept) → Sound t → Fine s k → Held (clerkIn t s (markOf k))
+fine-held : (t : Table) (s : State) (k : Kept) → Sound t → Fine s k → Held (clerkIn t s (fillOf k))
 fine-held t Unread k h f = record { sound = h; room = f .room; lines = f .lines; shut = λ q. refl }
 fine-held t (Open u) k h f = record { sound = f .sound; room = f .room; lines = f .lines; shut = λ q. absurd (true≢false (sym q)) }
 fine-held t Shut k h f = record { sound = h; room = f .room; lines = f .lines; shut = λ q. refl }
@@ -102,7 +102,7 @@ pub record Meets (c : Clerk) (buf part out : List ℕ) : Type 0 where
   pub fed : FedOn (length out) c buf part out buf2 out2 result
   pub used : (result .used ≡ usedOf c buf part (length out)) × (buf2 ≡ bufferOf c buf part (length out))
 
-module _ (opened : Bool) (t : Table) (m : Mark) (buf part out : List ℕ) (l : m .lines < linesOf opened)
+module _ (opened : Bool) (t : Table) (m : Fill) (buf part out : List ℕ) (l : m .lines < linesOf opened)
     (z : goesInPlace (clerkAt opened t m) part (length out) ≡ false) where
   abbrev g : Gathered
   g = gatherOf (linesOf opened) (keptIn m buf) part
@@ -113,8 +113,8 @@ module _ (opened : Bool) (t : Table) (m : Mark) (buf part out : List ℕ) (l : m
   abbrev done : Given
   done = linesDone (length out) (stateAt opened t) (take (length (g .kept .bytes) - 0) (drop 0 after))
 
-  abbrev step : Step
-  step = record { clerk = clerkIn t (done .state) (markOf (done .kept)); written = length (done .bytes); short = anyShort (done .codes) }
+  abbrev step : ClerkAfter
+  step = record { clerk = clerkIn t (done .state) (fillOf (done .kept)); written = length (done .bytes); short = anyShort (done .codes) }
 
   meets-gathered : Meets (clerkAt opened t m) buf part out
   meets-gathered = ⊎-elim
@@ -122,32 +122,32 @@ module _ (opened : Bool) (t : Table) (m : Mark) (buf part out : List ℕ) (l : m
         result = record { clerk = step .clerk; used = g .used; written = step .written; short = step .short };
         buf2 = after;
         out2 = over (done .bytes) out;
-        fed = fed-whole opened t m buf part out after {got = gotOf g} refl refl refl {s = step} l h (record { clerk = refl; wrote = record { count = refl; sheet = refl }; short = refl });
+        fed = fed-whole opened t m buf part out after {got = progressOf g} refl refl refl {s = step} l h (record { clerk = refl; wrote = record { count = refl; sheet = refl }; short = refl });
         used = used-gathered (clerkAt opened t m) buf part (length out) refl z (refl, refl);
       })
       (λ h. record {
-        result = record { clerk = clerkAt opened t (markOf (g .kept)); used = g .used; written = 0; short = false };
+        result = record { clerk = clerkAt opened t (fillOf (g .kept)); used = g .used; written = 0; short = false };
         buf2 = after;
         out2 = out;
-        fed = fed-kept opened t m buf part out after {got = gotOf g} refl refl refl h;
+        fed = fed-kept opened t m buf part out after {got = progressOf g} refl refl refl h;
         used = used-gathered (clerkAt opened t m) buf part (length out) refl z (refl, refl);
       })
       (le-or-lt (linesOf opened) (g .kept .lines))
 
-module _ (t : Table) (m : Mark) (buf part out : List ℕ) (r : Room m) where
+module _ (t : Table) (m : Fill) (buf part out : List ℕ) (r : Room m) where
   meets-placed : awaitsBlock true m ≡ true → answersFront t part (length out) ≡ true → Meets (clerkAt true t m) buf part out
   meets-placed w f =
       let p = inPlaceOf t part (length out) in
       let n : ranOf p part .used ≡ 0 → ⊥ = λ z. omega (arith, uses-some t part (length out) f) in
       record {
-        result = record { clerk = clerkAt true (p .table) (markOf nothing); used = ranOf p part .used; written = length (p .bytes); short = false };
+        result = record { clerk = clerkAt true (p .table) (fillOf nothing); used = ranOf p part .used; written = length (p .bytes); short = false };
         buf2 = buf;
         out2 = over (p .bytes) out;
         fed = fed-placed t m part out {a = ranOf p part} refl refl buf r w n refl;
         used = used-placed t m part out {a = ranOf p part} refl refl buf r w n;
       }
 
-meets-open : (opened : Bool) (t : Table) (m : Mark) (buf part out : List ℕ) → Room m → m .lines < linesOf opened → Meets (clerkAt opened t m) buf part out
+meets-open : (opened : Bool) (t : Table) (m : Fill) (buf part out : List ℕ) → Room m → m .lines < linesOf opened → Meets (clerkAt opened t m) buf part out
 meets-open opened t m buf part out r l = ⊎-elim
     (λ e.
     let h = both-true (awaitsBlock opened m) (answersFront t part (length out)) e in
@@ -166,7 +166,7 @@ feeds c buf part out h n = ⊎-elim
       fed = fed-shut c buf part out h (omega (arith, h .room .most)) e;
       used = used-shut c buf part (length out) e;
     })
-    (λ e. subst (λ (x : Clerk). Meets x buf part out) (sym (clerk-is c (c .opened) e refl)) (meets-open (c .opened) (c .table) (c .mark) buf part out (h .room) (h .lines)))
+    (λ e. subst (λ (x : Clerk). Meets x buf part out) (sym (clerk-is c (c .opened) e refl)) (meets-open (c .opened) (c .table) (c .fill) buf part out (h .room) (h .lines)))
     (test (c .shut))
 
 -- and no two: what the promise allows coincides
@@ -178,7 +178,7 @@ feed-alike c buf part out {buf2} {out2} {buf3} {out3} r s f g p q =
     let x : Given = heardOf (length out) c buf part (r .used) in
     let same : x ≡ heardOf (length out) c buf part (s .used) = ap (heardOf (length out) c buf part) u in (
       alike
-          (f .gave .clerk ∙ ap (λ (y : Given). clerkIn (c .table) (y .state) (markOf (y .kept))) same ∙ sym (g .gave .clerk))
+          (f .gave .clerk ∙ ap (λ (y : Given). clerkIn (c .table) (y .state) (fillOf (y .kept))) same ∙ sym (g .gave .clerk))
           u
           (f .gave .wrote .count ∙ ap (λ (y : Given). length (y .bytes)) same ∙ sym (g .gave .wrote .count))
           (f .gave .short ∙ ap (λ (y : Given). anyShort (y .codes)) same ∙ sym (g .gave .short)),
@@ -213,7 +213,7 @@ buffer-size c buf part room h n = go (c .shut) (goesInPlace c part room)
     most : length (gatheredBy c buf part .kept .bytes) ≤ keptMost
     most =
         gather-room (linesOf (c .opened)) (keptBy c buf) part (few-lines (c .opened)) (h .lines)
-        (subst Room (mark-back (c .mark) buf (omega (arith, h .room .most))) (h .room)) .most
+        (subst Room (fill-back (c .fill) buf (omega (arith, h .room .most))) (h .room)) .most
 
     go : (s p : Bool) → length (pick s buf (pick p buf (over (gatheredBy c buf part .kept .bytes) buf))) ≡ length buf
     go true p = refl
@@ -229,19 +229,19 @@ called room c buf part h n =
     let x : Given = calledOf room c buf part in
     let same : heardOf (length out) c buf part (m .result .used) ≡ x =
     ap (heardOf (length out) c buf part) (m .used .0) ∙ ap (λ (i : ℕ). heardOf i c buf part (usedOf c buf part i)) e in
-    let mark : m .result .clerk .mark ≡ markOf (x .kept) =
-    ap (λ (d : Clerk). d .mark) (m .fed .gave .clerk)
-    ∙ mark-in (c .table) (heardOf (length out) c buf part (m .result .used) .state) (markOf (heardOf (length out) c buf part (m .result .used) .kept))
-    ∙ ap (λ (y : Given). markOf (y .kept)) same in
+    let fill : m .result .clerk .fill ≡ fillOf (x .kept) =
+    ap (λ (d : Clerk). d .fill) (m .fed .gave .clerk)
+    ∙ fill-in (c .table) (heardOf (length out) c buf part (m .result .used) .state) (fillOf (heardOf (length out) c buf part (m .result .used) .kept))
+    ∙ ap (λ (y : Given). fillOf (y .kept)) same in
     let buffer : m .buf2 ≡ bufferOf c buf part room = m .used .1 ∙ ap (bufferOf c buf part) e in
     record {
       held = fine-held (c .table) (x .state) (x .kept) (h .sound)
           (onward-fine room (stateOf c) (keptBy c buf) (take (usedOf c buf part room) part) (held-fine c buf h (omega (arith, h .room .most))));
       size = buffer-size c buf part room h n;
-      state = state-in (c .table) (x .state) (markOf (x .kept));
+      state = state-in (c .table) (x .state) (fillOf (x .kept));
       kept =
-          ap (λ (k : Mark). keptIn k (bufferOf c buf part room)) (mark-in (c .table) (x .state) (markOf (x .kept)) ∙ sym mark)
-          ∙ ap (keptIn (m .result .clerk .mark)) (sym buffer)
+          ap (λ (k : Fill). keptIn k (bufferOf c buf part room)) (fill-in (c .table) (x .state) (fillOf (x .kept)) ∙ sym fill)
+          ∙ ap (keptIn (m .result .clerk .fill)) (sym buffer)
           ∙ m .fed .kept
           ∙ ap (λ (y : Given). y .kept) same;
     }
@@ -254,7 +254,7 @@ used-some room c buf part h = go (c .shut) (goesInPlace c part room) refl
     go : (s p : Bool) → goesInPlace c part room ≡ p
         → 0 < pick s (length part) (pick p (ranOf (inPlaceOf (c .table) part room) part .used) (gatheredBy c buf part .used))
     go true p e = h
-    go false true e = uses-some (c .table) part room (both-true (awaitsBlock (c .opened) (c .mark)) (answersFront (c .table) part room) e .1)
+    go false true e = uses-some (c .table) part room (both-true (awaitsBlock (c .opened) (c .fill)) (answersFront (c .table) part room) e .1)
     go false false e = gather-some (linesOf (c .opened)) (keptBy c buf) part h
 
 -- ---- a part, fed until it is used up, and part after part

@@ -12,8 +12,8 @@ use borrow.Author.Tests.{le-leb}
 use Rattle.laws.specs.Tests.{pick}
 use Rattle.blocks.specs.Block.{restOf}
 use Rattle.text.specs.TableSheet.{sheetEnd}
-use Rattle.text.specs.declared.sheet.Opening.{Opening}
-use Rattle.text.specs.declared.sheet.Opening.the-variants.{Read, Bad}
+use Rattle.text.specs.declared.sheet.SheetRead.{SheetRead}
+use Rattle.text.specs.declared.sheet.SheetRead.the-variants.{Read, Bad}
 use Rattle.table.specs.declared.table.Table.{Table}
 use Rattle.table.specs.Take.{Sound, freshTable}
 use Rattle.table.proofs.Standing.{sound-fresh}
@@ -44,7 +44,7 @@ pub plenty : (room : ℕ) (log : List ℕ) → longestAnswer ≤ room → atOnce
 unfolding atOnce outputOf
 plenty room log e = go (openedOf log) refl
   where
-    go : (o : Opening) → openedOf log ≡ o → atOnceFrom room o log .bytes ≡ outputFrom o log
+    go : (o : SheetRead) → openedOf log ≡ o → atOnceFrom room o log .bytes ≡ outputFrom o log
     go (Read s) q = each-plenty (length log) room (freshTable s) (sheetEnd log) (sound-fresh s (opened-is log s q)) e
     go Bad q = ap (λ (z : Bool). pick z eleven []) (le-leb 8 room (omega arith))
 

@@ -19,7 +19,7 @@ use Rattle.blocks.specs.Block.{restOf}
 use Rattle.blocks.specs.Front.{blockEnded, frontOf}
 use Rattle.blocks.specs.declared.front.Front.{Front}
 use Rattle.writing.specs.declared.Written.the-variants.{Bytes, NoRoom}
-use Rattle.writing.specs.Sheet.{Wrote, over, sheetAfter, writtenOf}
+use Rattle.writing.specs.AnswerSheet.{Wrote, over, sheetAfter, writtenOf}
 use Rattle.writing.proofs.Sheets.{then}
 use Rattle.text.proofs.Parts.{part-is}
 use Rattle.blocks.proofs.Blocks.{rest-shorter}
@@ -31,7 +31,7 @@ use Rattle.desk.specs.Desk.{judgeBlock, judgedOf, judgedBytes, blockBytes, answ
 use Rattle.desk.specs.Log.{fitting}
 use Rattle.desk.proofs.Laws.{read-answered, judged-most, twelve-when}
 use Rattle.desk.proofs.Whole.{answered-parts, fitting-within}
-use Rattle.stream.specs.declared.Ran.{Ran}
+use Rattle.stream.specs.declared.RanInPlace.{RanInPlace}
 use Rattle.stream.specs.InPlace.{InPlace, stopped, behind, answersFront, inPlaceFrom, inPlaceOf, ranOf}
 
 -- ---- one block more
@@ -173,7 +173,7 @@ run-start t part out h = record {
 -- the contract
 abbrev Ends : Table → List ℕ → List ℕ → Table → ℕ → List ℕ → ℕ → Type 0
 Ends t part out table used now at =
-    (_≡_ {A = Ran} (record { table = table; used = used; written = at }) (ranOf (inPlaceOf t part (length out)) part))
+    (_≡_ {A = RanInPlace} (record { table = table; used = used; written = at }) (ranOf (inPlaceOf t part (length out)) part))
     × ((now ≡ over (inPlaceOf t part (length out) .bytes) out) × (Sound table × (used ≤ length part) × (at ≤ length out)))
 
 module _ {t : Table} {part out : List ℕ} {table : Table} {left now : List ℕ} {at : ℕ} (g : Running t part out table left now at) where
@@ -188,7 +188,7 @@ module _ {t : Table} {part out : List ℕ} {table : Table} {left now : List ℕ}
         (w .sheet ∙ ap (λ (p : InPlace). over (p .bytes) out) (sym q), (g .sound, omega (arith, u), g .within)),
       )
     where
-      same-ran : {u v m n : ℕ} → u ≡ v → m ≡ n → _≡_ {A = Ran} (record { table = table; used = u; written = m }) (record { table = table; used = v; written = n })
+      same-ran : {u v m n : ℕ} → u ≡ v → m ≡ n → _≡_ {A = RanInPlace} (record { table = table; used = u; written = m }) (record { table = table; used = v; written = n })
       same-ran e f = cc
 
   wrote-nil : Wrote (g .bs ++ []) out now at

@@ -9,9 +9,9 @@ use Rattle.blocks.specs.declared.Block.{Block}
 use Rattle.lines.specs.Kept.{nothing, keepAll}
 use Rattle.lines.proofs.Cut.{lfs}
 use Rattle.text.specs.TableSheet.{sheetLines, sheetOf}
-use Rattle.text.specs.declared.sheet.Opening.{Opening}
-use Rattle.text.specs.declared.sheet.Opening.the-variants.{Bad}
-use Rattle.desk.specs.Log.{loneOpening, openedOf}
+use Rattle.text.specs.declared.sheet.SheetRead.{SheetRead}
+use Rattle.text.specs.declared.sheet.SheetRead.the-variants.{Bad}
+use Rattle.desk.specs.Log.{loneRead, openedOf}
 use Rattle.lines.proofs.Bad.{bad-block, bad-sheet}
 use Rattle.paper.specs.RefusalNumbers.{malformed}
 use Rattle.table.specs.declared.table.Table.{Table}
@@ -34,7 +34,7 @@ open-silent room t raw h = open-onward room (Open t) raw refl h
 pub bad-is-11 : (room : ℕ) (raw : List ℕ) → keepAll nothing raw .bad ≡ true → lfs raw ≤ sheetLines → afterLines sheetLines raw ≡ []
     → linesDone room Unread raw ≡ openOf room Bad
 unfolding openedOf
-bad-is-11 room raw h l e = ap (λ (o : Opening). openOf room (loneOpening o)) (bad-sheet raw h l e)
+bad-is-11 room raw h l e = ap (λ (o : SheetRead). openOf room (loneRead o)) (bad-sheet raw h l e)
 
 pub sheet-silent : (room : ℕ) (raw : List ℕ) → lfs raw < sheetLines → onward room Unread nothing raw ≡ still Unread (keepAll nothing raw)
 sheet-silent room raw h = open-onward room Unread raw refl h

@@ -12,12 +12,12 @@ use borrow.Author.Tests.{eq-eqb, ne-eqb}
 use Rattle.laws.specs.Tests.{pick}
 use Rattle.laws.proofs.Tests.{test}
 use Rattle.paper.specs.declared.Sheet.{Sheet}
-use Rattle.writing.specs.Sheet.{Wrote, over, fits, sheetAfter}
-use Rattle.text.specs.declared.sheet.Opening.{Opening}
-use Rattle.text.specs.declared.sheet.Opening.the-variants.{Read, Bad}
+use Rattle.writing.specs.AnswerSheet.{Wrote, over, fits, sheetAfter}
+use Rattle.text.specs.declared.sheet.SheetRead.{SheetRead}
+use Rattle.text.specs.declared.sheet.SheetRead.the-variants.{Read, Bad}
 use Rattle.writing.specs.declared.Written.the-variants.{Bytes, NoRoom}
-use Rattle.lines.specs.declared.Mark.{Mark}
-use Rattle.lines.specs.Kept.{nothing, markOf}
+use Rattle.lines.specs.declared.Fill.{Fill}
+use Rattle.lines.specs.Kept.{nothing, fillOf}
 use Rattle.lines.proofs.Keeps.{empty-room}
 use Rattle.table.specs.declared.table.Table.{Table}
 use Rattle.table.specs.Take.{Sound, freshTable}
@@ -48,16 +48,16 @@ answered-code t block sheet = go (fits (blockBytes t block) sheet)
     go false = refl
 
 -- a box that is not shut by its sheet has read it or not
-open-held : (t : Table) (m : Mark) → Sound t → m ≡ markOf nothing → Held (clerkIn t (Open t) m)
-open-held t m h e = subst (λ (x : Mark). Held (clerkIn t (Open t) x)) (sym e) (record {
+open-held : (t : Table) (m : Fill) → Sound t → m ≡ fillOf nothing → Held (clerkIn t (Open t) m)
+open-held t m h e = subst (λ (x : Fill). Held (clerkIn t (Open t) x)) (sym e) (record {
   sound = h;
   room = empty-room;
   lines = omega arith;
   shut = λ q. absurd (true≢false (sym q));
 })
 
-shut-held : (t : Table) (m : Mark) → Sound t → m ≡ markOf nothing → Held (clerkIn t Shut m)
-shut-held t m h e = subst (λ (x : Mark). Held (clerkIn t Shut x)) (sym e) (record {
+shut-held : (t : Table) (m : Fill) → Sound t → m ≡ fillOf nothing → Held (clerkIn t Shut m)
+shut-held t m h e = subst (λ (x : Fill). Held (clerkIn t Shut x)) (sym e) (record {
   sound = h;
   room = empty-room;
   lines = omega arith;
@@ -65,10 +65,10 @@ shut-held t m h e = subst (λ (x : Mark). Held (clerkIn t Shut x)) (sym e) (reco
 })
 
 module _ (t : Table) (block out : List ℕ) where
-  pub block-gave : {a : Answered} {new : List ℕ} {m : Mark} {b : Bool} → a ≡ answeredOf t block out → new ≡ sheetAfter (blockBytes t block) out → m ≡ markOf nothing
+  pub block-gave : {a : Answered} {new : List ℕ} {m : Fill} {b : Bool} → a ≡ answeredOf t block out → new ≡ sheetAfter (blockBytes t block) out → m ≡ fillOf nothing
       → b ≡ eqb (a .code) 12 → Sound (a .table)
-      → Gave t (linesDone (length out) (stateAt true t) block) out new (record { opened = true; shut = false; table = a .table; mark = m }) (a .written) b
-      × (Held (record { opened = true; shut = false; table = a .table; mark = m }) × (a .written ≤ length out))
+      → Gave t (linesDone (length out) (stateAt true t) block) out new (record { opened = true; shut = false; table = a .table; fill = m }) (a .written) b
+      × (Held (record { opened = true; shut = false; table = a .table; fill = m }) × (a .written ≤ length out))
   block-gave {a} {new} {m} {b} e f g q h =
       let p = answered-parts t block out in
       let w : Wrote (fitting (blockBytes t block) (length out)) out new (a .written) = rw (e, f) (p .1) in
@@ -81,31 +81,31 @@ module _ (t : Table) (block out : List ℕ) where
         (open-held (a .table) m h g, omega (arith, w .count, fitting-within (blockBytes t block) (length out))),
       )
     where
-      same : {u v : Table} {x y : Mark} → u ≡ v → x ≡ y
-          → _≡_ {A = Clerk} (record { opened = true; shut = false; table = u; mark = x }) (record { opened = true; shut = false; table = v; mark = y })
+      same : {u v : Table} {x y : Fill} → u ≡ v → x ≡ y
+          → _≡_ {A = Clerk} (record { opened = true; shut = false; table = u; fill = x }) (record { opened = true; shut = false; table = v; fill = y })
       same p q = cc
 
-  pub bad-gave : {o : Opening} {new : List ℕ} {m : Mark} {r : ℕ} → o ≡ openedOf block → o ≡ Bad → Wrote (fitting eleven (length out)) out new r → m ≡ markOf nothing → Sound t
-      → Gave t (linesDone (length out) (stateAt false t) block) out new (record { opened = false; shut = true; table = t; mark = m }) r false
-      × (Held (record { opened = false; shut = true; table = t; mark = m }) × (r ≤ length out))
+  pub bad-gave : {o : SheetRead} {new : List ℕ} {m : Fill} {r : ℕ} → o ≡ openedOf block → o ≡ Bad → Wrote (fitting eleven (length out)) out new r → m ≡ fillOf nothing → Sound t
+      → Gave t (linesDone (length out) (stateAt false t) block) out new (record { opened = false; shut = true; table = t; fill = m }) r false
+      × (Held (record { opened = false; shut = true; table = t; fill = m }) × (r ≤ length out))
   bad-gave {o} {new} {m} {r} e q w g h =
       let z : openOf (length out) Bad ≡ openOf (length out) (openedOf block) = ap (openOf (length out)) (sym q ∙ e) in (
-        subst (λ (x : Given). Gave t x out new (record { opened = false; shut = true; table = t; mark = m }) r false) z (record { clerk = ap (clerkIn t Shut) g; wrote = w; short = refl }),
+        subst (λ (x : Given). Gave t x out new (record { opened = false; shut = true; table = t; fill = m }) r false) z (record { clerk = ap (clerkIn t Shut) g; wrote = w; short = refl }),
         (shut-held t m h g, omega (arith, w .count, fitting-within eleven (length out))),
       )
 
-  pub read-gave : {o : Opening} {s : Sheet} {u : Table} {m : Mark} → o ≡ openedOf block → o ≡ Read s → (u ≡ freshTable s) × Sound u → m ≡ markOf nothing
-      → Gave t (linesDone (length out) (stateAt false t) block) out out (record { opened = true; shut = false; table = u; mark = m }) 0 false
-      × (Held (record { opened = true; shut = false; table = u; mark = m }) × (0 ≤ length out))
+  pub read-gave : {o : SheetRead} {s : Sheet} {u : Table} {m : Fill} → o ≡ openedOf block → o ≡ Read s → (u ≡ freshTable s) × Sound u → m ≡ fillOf nothing
+      → Gave t (linesDone (length out) (stateAt false t) block) out out (record { opened = true; shut = false; table = u; fill = m }) 0 false
+      × (Held (record { opened = true; shut = false; table = u; fill = m }) × (0 ≤ length out))
   read-gave {o} {s} {u} {m} e q f g =
       let z : openOf (length out) (Read s) ≡ openOf (length out) (openedOf block) = ap (openOf (length out)) (sym q ∙ e) in (
-        subst (λ (x : Given). Gave t x out out (record { opened = true; shut = false; table = u; mark = m }) 0 false) z
+        subst (λ (x : Given). Gave t x out out (record { opened = true; shut = false; table = u; fill = m }) 0 false) z
             (record { clerk = same (f .0) g; wrote = record { count = refl; sheet = refl }; short = refl }),
         (open-held u m (f .1) g, omega arith),
       )
     where
-      same : {u v : Table} {x y : Mark} → u ≡ v → x ≡ y
-          → _≡_ {A = Clerk} (record { opened = true; shut = false; table = u; mark = x }) (record { opened = true; shut = false; table = v; mark = y })
+      same : {u v : Table} {x y : Fill} → u ≡ v → x ≡ y
+          → _≡_ {A = Clerk} (record { opened = true; shut = false; table = u; fill = x }) (record { opened = true; shut = false; table = v; fill = y })
       same p q = cc
 
 pub gave-as : (room : ℕ) (block : List ℕ) {o p : Bool} {t : Table} {out out2 : List ℕ} {w : ℕ} {d : Clerk} {b : Bool} → p ≡ o → Gave t (linesDone room (stateAt o t) block) out out2 d w b
@@ -140,21 +140,21 @@ module _ (c : Clerk) (buf out : List ℕ) where
   open-is : c .shut ≡ false → c .opened ≡ true → stateOf c ≡ Open (c .table)
   open-is e f = state-else c e ∙ ap (λ (b : Bool). stateAt b (c .table)) f
 
-  size : c .mark .count ≤ length buf → length (take (c .mark .count) buf) ≡ c .mark .count
-  size h = omega (arith, length-take (c .mark .count) buf)
+  size : c .fill .count ≤ length buf → length (take (c .fill .count) buf) ≡ c .fill .count
+  size h = omega (arith, length-take (c .fill .count) buf)
 
-  pub close-none : c .mark .count ≤ length buf → c .shut ≡ false → c .opened ≡ true → c .mark .count ≡ 0 → Closes out 0 false closing-is
+  pub close-none : c .fill .count ≤ length buf → c .shut ≡ false → c .opened ≡ true → c .fill .count ≡ 0 → Closes out 0 false closing-is
   close-none h e f g =
       closed-by (Open (c .table)) (open-is e f)
-      (subst (λ (b : Bool). Closes out 0 false (pick b (record { state = Open (c .table); kept = nothing; codes = []; bytes = [] }) (answerOf (length out) (c .table) (take (c .mark .count) buf))))
-      (sym (eq-eqb (length (take (c .mark .count) buf)) 0 (size h ∙ g))) (record { count = refl; sheet = refl }, (refl, omega arith)))
+      (subst (λ (b : Bool). Closes out 0 false (pick b (record { state = Open (c .table); kept = nothing; codes = []; bytes = [] }) (answerOf (length out) (c .table) (take (c .fill .count) buf))))
+      (sym (eq-eqb (length (take (c .fill .count) buf)) 0 (size h ∙ g))) (record { count = refl; sheet = refl }, (refl, omega arith)))
 
-  pub close-block : {a : Answered} {new : List ℕ} {b : Bool} → c .mark .count ≤ length buf → c .shut ≡ false → c .opened ≡ true → (c .mark .count ≡ 0 → ⊥)
-      → a ≡ answeredOf (c .table) (take (c .mark .count - 0) (drop 0 buf)) out → new ≡ sheetAfter (blockBytes (c .table) (take (c .mark .count - 0) (drop 0 buf))) out
+  pub close-block : {a : Answered} {new : List ℕ} {b : Bool} → c .fill .count ≤ length buf → c .shut ≡ false → c .opened ≡ true → (c .fill .count ≡ 0 → ⊥)
+      → a ≡ answeredOf (c .table) (take (c .fill .count - 0) (drop 0 buf)) out → new ≡ sheetAfter (blockBytes (c .table) (take (c .fill .count - 0) (drop 0 buf))) out
       → b ≡ eqb (a .code) 12 → Closes new (a .written) b closing-is
   close-block {a} {new} {b} h e f g p q d =
-      let n : c .mark .count - 0 ≡ c .mark .count = omega arith in
-      let log : List ℕ = take (c .mark .count) buf in
+      let n : c .fill .count - 0 ≡ c .fill .count = omega arith in
+      let log : List ℕ = take (c .fill .count) buf in
       let p' : a ≡ answeredOf (c .table) log out = p ∙ ap (λ (i : ℕ). answeredOf (c .table) (take i buf) out) n in
       let q' : new ≡ sheetAfter (blockBytes (c .table) log) out = q ∙ ap (λ (i : ℕ). sheetAfter (blockBytes (c .table) (take i buf)) out) n in
       let w : Wrote (fitting (blockBytes (c .table) log) (length out)) out new (a .written) = rw (p', q') (answered-parts (c .table) log out .1) in

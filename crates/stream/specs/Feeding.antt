@@ -6,9 +6,9 @@ use mathlib.Core.Bool.{Bool, true, false}
 use lib.ListN.{length, take, drop}
 use lib.Dec.{ltb, leb}
 use Rattle.laws.specs.Tests.{pick, both}
-use Rattle.writing.specs.Sheet.{over, Wrote}
-use Rattle.lines.specs.declared.Mark.{Mark}
-use Rattle.lines.specs.Kept.{Kept, nothing, Gathered, gatherOf, keptIn, markOf, Room, keptMost}
+use Rattle.writing.specs.AnswerSheet.{over, Wrote}
+use Rattle.lines.specs.declared.Fill.{Fill}
+use Rattle.lines.specs.Kept.{Kept, nothing, Gathered, gatherOf, keptIn, fillOf, Room, keptMost}
 use Rattle.table.specs.declared.table.Table.{Table}
 use Rattle.paper.specs.Paper.{standIn}
 use Rattle.answers.specs.Answer.{longest}
@@ -32,30 +32,30 @@ unfoldable pub stateOf : Clerk → State
 stateOf c = pick (c .shut) Shut (stateAt (c .opened) (c .table))
 
 abbrev pub keptBy : Clerk → List ℕ → Kept
-keptBy c buf = keptIn (c .mark) buf
+keptBy c buf = keptIn (c .fill) buf
 
--- the clerk in a state, with a mark of what is kept; where it has no table of its own the stand-in stays
-abbrev pub clerkIn : Table → State → Mark → Clerk
-clerkIn t Unread m = record { opened = false; shut = false; table = t; mark = m }
-clerkIn t (Open u) m = record { opened = true; shut = false; table = u; mark = m }
-clerkIn t Shut m = record { opened = false; shut = true; table = t; mark = m }
+-- the clerk in a state, with the buffer's fill; where it has no table of its own the stand-in stays
+abbrev pub clerkIn : Table → State → Fill → Clerk
+clerkIn t Unread m = record { opened = false; shut = false; table = t; fill = m }
+clerkIn t (Open u) m = record { opened = true; shut = false; table = u; fill = m }
+clerkIn t Shut m = record { opened = false; shut = true; table = t; fill = m }
 
 -- what it keeps
 pub record Held (c : Clerk) : Type 0 where
   pub sound : Sound (c .table)
-  pub room : Room (c .mark)
-  pub lines : c .mark .lines < linesOf (c .opened)
+  pub room : Room (c .fill)
+  pub lines : c .fill .lines < linesOf (c .opened)
   pub shut : c .shut ≡ true → c .opened ≡ false
 
 -- before the first byte: nothing is read and nothing kept; the table is a stand-in until the sheet is read
 abbrev pub startOf : Clerk
-startOf = clerkIn (freshTable standIn) Unread (markOf nothing)
+startOf = clerkIn (freshTable standIn) Unread (fillOf nothing)
 
 -- ---- what a call does
 
 -- what was given to bytes is what a call says and has written: the clerk, the front of the sheet with the count of its bytes, and whether an answer had no room
 pub record Gave (t : Table) (x : Given) (out out2 : List ℕ) (d : Clerk) (written : ℕ) (told : Bool) : Type 0 where
-  pub clerk : d ≡ clerkIn t (x .state) (markOf (x .kept))
+  pub clerk : d ≡ clerkIn t (x .state) (fillOf (x .kept))
   pub wrote : Wrote (x .bytes) out out2 written
   pub short : told ≡ anyShort (x .codes)
 
@@ -79,7 +79,7 @@ HeardTo c buf part from d buf2 to =
 
 -- the clerk awaits a block, and the part begins with one to be answered
 abbrev pub goesInPlace : Clerk → List ℕ → ℕ → Bool
-goesInPlace c part room = both (awaitsBlock (c .opened) (c .mark)) (answersFront (c .table) part room)
+goesInPlace c part room = both (awaitsBlock (c .opened) (c .fill)) (answersFront (c .table) part room)
 
 abbrev pub gatheredBy : Clerk → List ℕ → List ℕ → Gathered
 gatheredBy c buf part = gatherOf (linesOf (c .opened)) (keptBy c buf) part

@@ -8,10 +8,10 @@ use lib.Dec.{eqb, leb}
 use Rattle.laws.specs.Tests.{pick, both}
 use Rattle.blocks.specs.Block.{restOf}
 use Rattle.blocks.specs.Front.{blockEnded}
-use Rattle.lines.specs.declared.Mark.{Mark}
+use Rattle.lines.specs.declared.Fill.{Fill}
 use Rattle.table.specs.declared.table.Table.{Table}
 use Rattle.desk.specs.Desk.{judgedOf, blockBytes}
-use Rattle.stream.specs.declared.Ran.{Ran}
+use Rattle.stream.specs.declared.RanInPlace.{RanInPlace}
 
 -- the table after the blocks that were answered, their answers, and what is left of the part
 pub record InPlace : Type 0 where
@@ -43,9 +43,9 @@ unfoldable pub inPlaceOf : Table → List ℕ → ℕ → InPlace
 inPlaceOf t part room = inPlaceFrom (length part) t part room
 
 -- the same by its counts: how many bytes of the part were used up, and how many were written
-abbrev pub ranOf : InPlace → List ℕ → Ran
+abbrev pub ranOf : InPlace → List ℕ → RanInPlace
 ranOf p part = record { table = p .table; used = length part - length (p .left); written = length (p .bytes) }
 
 -- the sheet was read and nothing of the next block is kept
-abbrev pub awaitsBlock : Bool → Mark → Bool
+abbrev pub awaitsBlock : Bool → Fill → Bool
 awaitsBlock opened m = both (eqb (m .lines) 0) (both (eqb (m .width) 0) opened)

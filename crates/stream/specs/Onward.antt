@@ -11,8 +11,8 @@ use Rattle.laws.specs.Tests.{pick}
 use Rattle.paper.specs.RefusalNumbers.{badSheet, noRoom}
 use Rattle.blocks.specs.Block.{restOf}
 use Rattle.text.specs.TableSheet.{sheetEnd}
-use Rattle.text.specs.declared.sheet.Opening.{Opening}
-use Rattle.text.specs.declared.sheet.Opening.the-variants.{Read, Bad}
+use Rattle.text.specs.declared.sheet.SheetRead.{SheetRead}
+use Rattle.text.specs.declared.sheet.SheetRead.the-variants.{Read, Bad}
 use Rattle.lines.specs.Kept.{Kept, nothing, keepOf}
 pub use Rattle.lines.specs.Kept.{linesOf}
 use Rattle.table.specs.declared.table.Table.{Table}
@@ -55,7 +55,7 @@ answerOf room t block = record {
 }
 
 -- a sheet opens the table, or is bad and shuts the box
-abbrev pub openOf : ℕ → Opening → Given
+abbrev pub openOf : ℕ → SheetRead → Given
 openOf room (Read s) = still (Open (freshTable s)) nothing
 openOf room Bad = record { state = Shut; kept = nothing; codes = badSheet ∷ []; bytes = fitting eleven room }
 
@@ -104,7 +104,7 @@ eachFrom zero room t log = still (Open t) nothing
 eachFrom (suc k) room t log =
     pick (eqb (length log) 0) (still (Open t) nothing) (andThen (answerOf room t log) (eachFrom k room (tableIn t log room) (restOf log)))
 
-abbrev pub atOnceFrom : ℕ → Opening → List ℕ → Given
+abbrev pub atOnceFrom : ℕ → SheetRead → List ℕ → Given
 atOnceFrom room (Read s) log = eachFrom (length log) room (freshTable s) (sheetEnd log)
 atOnceFrom room Bad log = openOf room Bad
 

@@ -6,7 +6,7 @@ use lib.ListN.{length, drop}
 use lib.Dec.{eqb}
 pub use Rattle.laws.specs.Lists.{whole}
 use Rattle.laws.specs.Tests.{pick}
-use Rattle.lines.specs.Kept.{markOf}
+use Rattle.lines.specs.Kept.{fillOf}
 use Rattle.stream.specs.declared.Clerk.{Clerk}
 use Rattle.stream.specs.Onward.{Given, still, andThen, closing}
 use Rattle.stream.specs.Feeding.{stateOf, keptBy, clerkIn, startOf, heardOf, usedOf, bufferOf}
@@ -29,7 +29,7 @@ calledOf room c buf part = heardOf room c buf part (usedOf c buf part room)
 
 unfoldable pub callOf : ℕ → Clerk → List ℕ → List ℕ → Served
 callOf room c buf part = record {
-  clerk = clerkIn (c .table) (calledOf room c buf part .state) (markOf (calledOf room c buf part .kept));
+  clerk = clerkIn (c .table) (calledOf room c buf part .state) (fillOf (calledOf room c buf part .kept));
   buf = bufferOf c buf part room;
   given = calledOf room c buf part;
 }

@@ -4,9 +4,9 @@ use blocks::front_rest;
 use blocks::read_front;
 use desk::answer;
 use desk::answer_block;
-use desk::log::read_opening;
+use desk::log::read_lone_sheet;
 use desk::log::refuse_sheet;
-use lines::Mark;
+use lines::Fill;
 use lines::empty;
 use lines::gather;
 use lines::lines_of;
@@ -14,12 +14,12 @@ use paper::NO_ROOM;
 use paper::STAND_IN;
 use table::table::Table;
 use table::take::new_table;
-use text::sheet::Opening;
+use text::sheet::SheetRead;
 ghost use mathlib.Core.Path.{_≡_};
 ghost use mathlib.Core.Bool.{true, false};
 ghost use Prim.Native.Nat.{ℕ, _+_, _-_, _*_, _≤_, _<_};
 ghost use lib.ListN.{length};
-ghost use Rattle.writing.specs.Sheet.{over, Wrote};
+ghost use Rattle.writing.specs.AnswerSheet.{over, Wrote};
 ghost use Rattle.lines.specs.Kept.{gatherOf, keptIn, Room, keptMost};
 ghost use Rattle.table.specs.Take.{Sound};
 ghost use Rattle.stream.specs.Onward.{linesOf, linesDone, closing, anyShort};
@@ -31,7 +31,7 @@ pub struct Clerk {
     pub opened: bool,
     pub shut: bool,
     pub table: Table,
-    pub mark: Mark,
+    pub fill: Fill,
 }
 
 // The clerk after a part of the log, how many of its bytes are used up, how many bytes are written, and whether a block had no room for its answer: it is used
@@ -44,14 +44,14 @@ pub struct Fed {
 }
 
 // Whole lines: the clerk after them, with nothing kept.
-pub struct Step {
+pub struct ClerkAfter {
     pub clerk: Clerk,
     pub written: usize,
     pub short: bool,
 }
 
 // A block that the table answers.
-fn whole_block(t: Table, block: &[u8], out: &mut [u8]) -> Step
+fn whole_block(t: Table, block: &[u8], out: &mut [u8]) -> ClerkAfter
     requires { ⌜ Sound t ⌝ }
     ensures gave { λ r. ⌜ Gave t (linesDone (length (now (out .entry))) (stateAt true t) (now (block .entry))) (now (out .entry)) (now (out .exit)) (r .clerk) (r .written) (r .short) ⌝ }
     ensures held { λ r. ⌜ Held (r .clerk) × (r .written ≤ length (now (out .entry))) ⌝ }
@@ -59,12 +59,12 @@ fn whole_block(t: Table, block: &[u8], out: &mut [u8]) -> Step
     let a = answer(t, block, out);
     let u = a.table;
     let z = empty();
-    Step {
+    ClerkAfter {
         clerk: Clerk {
             opened: true,
             shut: false,
             table: u,
-            mark: z,
+            fill: z,
         },
         written: a.written,
         short: a.code == NO_ROOM,
@@ -72,29 +72,29 @@ fn whole_block(t: Table, block: &[u8], out: &mut [u8]) -> Step
 }
 
 // The sheet: it opens the table, or is bad.
-fn whole_sheet(t: Table, block: &[u8], out: &mut [u8]) -> Step
+fn whole_sheet(t: Table, block: &[u8], out: &mut [u8]) -> ClerkAfter
     requires { ⌜ Sound t ⌝ }
     ensures gave { λ r. ⌜ Gave t (linesDone (length (now (out .entry))) (stateAt false t) (now (block .entry))) (now (out .entry)) (now (out .exit)) (r .clerk) (r .written) (r .short) ⌝ }
     ensures held { λ r. ⌜ Held (r .clerk) × (r .written ≤ length (now (out .entry))) ⌝ }
 {
     let z = empty();
-    match read_opening(block) {
-        Opening::Bad => Step {
+    match read_lone_sheet(block) {
+        SheetRead::Bad => ClerkAfter {
             clerk: Clerk {
                 opened: false,
                 shut: true,
                 table: t,
-                mark: z,
+                fill: z,
             },
             written: refuse_sheet(out),
             short: false,
         },
-        Opening::Read(s) => Step {
+        SheetRead::Read(s) => ClerkAfter {
             clerk: Clerk {
                 opened: true,
                 shut: false,
                 table: new_table(s),
-                mark: z,
+                fill: z,
             },
             written: 0,
             short: false,
@@ -103,7 +103,7 @@ fn whole_sheet(t: Table, block: &[u8], out: &mut [u8]) -> Step
 }
 
 // Whole lines: the sheet, or a block that the table answers.
-fn whole(opened: bool, t: Table, block: &[u8], out: &mut [u8]) -> Step
+fn whole(opened: bool, t: Table, block: &[u8], out: &mut [u8]) -> ClerkAfter
     requires { ⌜ Sound t ⌝ }
     ensures gave { λ r. ⌜ Gave t (linesDone (length (now (out .entry))) (stateAt opened t) (now (block .entry))) (now (out .entry)) (now (out .exit)) (r .clerk) (r .written) (r .short) ⌝ }
     ensures held { λ r. ⌜ Held (r .clerk) × (r .written ≤ length (now (out .entry))) ⌝ }
@@ -115,22 +115,22 @@ fn whole(opened: bool, t: Table, block: &[u8], out: &mut [u8]) -> Step
 }
 
 // A part of the log by way of the buffer: its bytes are kept up to the end of the sheet or of a block, which is answered, or all of them.
-fn feed_kept(opened: bool, t: Table, m: Mark, buf: &mut [u8], part: &[u8], out: &mut [u8]) -> Fed
+fn feed_kept(opened: bool, t: Table, m: Fill, buf: &mut [u8], part: &[u8], out: &mut [u8]) -> Fed
     requires { ⌜ Sound t × Room m × (m .lines < linesOf opened) × (keptMost ≤ length (now buf)) ⌝ }
-    ensures fed { λ r. ⌜ FedOn (length (now (out .entry))) (record { opened = opened; shut = false; table = t; mark = m }) (now (buf .entry)) (now (part .entry)) (now (out .entry)) (now (buf .exit)) (now (out .exit)) r ⌝ }
+    ensures fed { λ r. ⌜ FedOn (length (now (out .entry))) (record { opened = opened; shut = false; table = t; fill = m }) (now (buf .entry)) (now (part .entry)) (now (out .entry)) (now (buf .exit)) (now (out .exit)) r ⌝ }
     ensures used { λ r. ⌜ (r .used ≡ gatherOf (linesOf opened) (keptIn m (now (buf .entry))) (now (part .entry)) .used) × (now (buf .exit) ≡ over (gatherOf (linesOf opened) (keptIn m (now (buf .entry))) (now (part .entry)) .kept .bytes) (now (buf .entry))) ⌝ }
     ensures held { λ r. ⌜ Held (r .clerk) × (r .used ≤ length (now (part .entry))) × (0 < length (now (part .entry)) → 0 < r .used) × (r .written ≤ length (now (out .entry))) ⌝ }
 {
     let want = lines_of(opened);
     let g = gather(buf, m, part, want);
-    let k = g.mark;
+    let k = g.fill;
     let n = k.lines;
     if n < want {
         let d = Clerk {
             opened: opened,
             shut: false,
             table: t,
-            mark: k,
+            fill: k,
         };
         return Fed {
             clerk: d,
@@ -151,7 +151,7 @@ fn feed_kept(opened: bool, t: Table, m: Mark, buf: &mut [u8], part: &[u8], out: 
 }
 
 // What was answered where it lies: the table after it, the bytes used up and the bytes written.
-pub struct Ran {
+pub struct RanInPlace {
     pub table: Table,
     pub used: usize,
     pub written: usize,
@@ -167,7 +167,7 @@ fn used_up(part: &[u8], left: &[u8]) -> usize
 
 // The whole blocks at the front of a part, each answered where it lies, up to one whose answer has no room. What follows a block is handed on as the rest of
 // the part.
-pub fn in_place(t: Table, part: &[u8], out: &mut [u8]) -> Ran
+pub fn in_place(t: Table, part: &[u8], out: &mut [u8]) -> RanInPlace
     requires { ⌜ Sound t ⌝ }
     ensures ran { λ r. ⌜ r ≡ ranOf (inPlaceOf t (now (part .entry)) (length (now (out .entry)))) (now (part .entry)) ⌝ }
     ensures bytes { λ r. ⌜ now (out .exit) ≡ over (inPlaceOf t (now (part .entry)) (length (now (out .entry))) .bytes) (now (out .entry)) ⌝ }
@@ -179,7 +179,7 @@ pub fn in_place(t: Table, part: &[u8], out: &mut [u8]) -> Ran
     while 0 < left.len() {
         let f = read_front(left);
         if !f.whole {
-            return Ran {
+            return RanInPlace {
                 table,
                 used: used_up(part, left),
                 written: at,
@@ -188,7 +188,7 @@ pub fn in_place(t: Table, part: &[u8], out: &mut [u8]) -> Ran
         let b = f.block;
         let a = answer_block(table, b, &mut out[at..]);
         if a.code == NO_ROOM {
-            return Ran {
+            return RanInPlace {
                 table,
                 used: used_up(part, left),
                 written: at,
@@ -200,7 +200,7 @@ pub fn in_place(t: Table, part: &[u8], out: &mut [u8]) -> Ran
         let next = front_rest(left, f.used);
         left = &next[0..];
     }
-    Ran {
+    RanInPlace {
         table,
         used: used_up(part, left),
         written: at,
@@ -208,7 +208,7 @@ pub fn in_place(t: Table, part: &[u8], out: &mut [u8]) -> Ran
 }
 
 // Whether the sheet was read and nothing of the next block is kept.
-fn awaits_block(opened: bool, m: Mark) -> bool
+fn awaits_block(opened: bool, m: Fill) -> bool
     ensures { λ r. ⌜ r ≡ awaitsBlock opened m ⌝ }
 {
     if m.lines == 0 {
@@ -220,10 +220,10 @@ fn awaits_block(opened: bool, m: Mark) -> bool
 }
 
 // A part of the log where a block is awaited: the whole blocks at its front where they lie; where there is none with room for its answer, by way of the buffer.
-fn feed_awaiting(t: Table, m: Mark, buf: &mut [u8], part: &[u8], out: &mut [u8]) -> Fed
+fn feed_awaiting(t: Table, m: Fill, buf: &mut [u8], part: &[u8], out: &mut [u8]) -> Fed
     requires { ⌜ Sound t × Room m × (awaitsBlock true m ≡ true) × (keptMost ≤ length (now buf)) ⌝ }
-    ensures fed { λ r. ⌜ FedOn (length (now (out .entry))) (record { opened = true; shut = false; table = t; mark = m }) (now (buf .entry)) (now (part .entry)) (now (out .entry)) (now (buf .exit)) (now (out .exit)) r ⌝ }
-    ensures used { λ r. ⌜ (r .used ≡ usedOf (record { opened = true; shut = false; table = t; mark = m }) (now (buf .entry)) (now (part .entry)) (length (now (out .entry)))) × (now (buf .exit) ≡ bufferOf (record { opened = true; shut = false; table = t; mark = m }) (now (buf .entry)) (now (part .entry)) (length (now (out .entry)))) ⌝ }
+    ensures fed { λ r. ⌜ FedOn (length (now (out .entry))) (record { opened = true; shut = false; table = t; fill = m }) (now (buf .entry)) (now (part .entry)) (now (out .entry)) (now (buf .exit)) (now (out .exit)) r ⌝ }
+    ensures used { λ r. ⌜ (r .used ≡ usedOf (record { opened = true; shut = false; table = t; fill = m }) (now (buf .entry)) (now (part .entry)) (length (now (out .entry)))) × (now (buf .exit) ≡ bufferOf (record { opened = true; shut = false; table = t; fill = m }) (now (buf .entry)) (now (part .entry)) (length (now (out .entry)))) ⌝ }
     ensures held { λ r. ⌜ Held (r .clerk) × (r .used ≤ length (now (part .entry))) × (0 < length (now (part .entry)) → 0 < r .used) × (r .written ≤ length (now (out .entry))) ⌝ }
 {
     let a = in_place(t, part, out);
@@ -236,7 +236,7 @@ fn feed_awaiting(t: Table, m: Mark, buf: &mut [u8], part: &[u8], out: &mut [u8])
         opened: true,
         shut: false,
         table: u,
-        mark: z,
+        fill: z,
     };
     Fed {
         clerk: d,
@@ -264,7 +264,7 @@ pub fn feed(c: Clerk, buf: &mut [u8], part: &[u8], out: &mut [u8]) -> Fed
         };
     }
     let t = c.table;
-    let m = c.mark;
+    let m = c.fill;
     if awaits_block(c.opened, m) {
         return feed_awaiting(t, m, buf, part, out);
     }
@@ -317,7 +317,7 @@ pub fn start() -> Clerk
         opened: false,
         shut: false,
         table: t,
-        mark: z,
+        fill: z,
     }
 }
 
@@ -340,7 +340,7 @@ pub fn close(c: Clerk, buf: &[u8], out: &mut [u8]) -> Closed
             short: false,
         };
     }
-    let m = c.mark;
+    let m = c.fill;
     let e = m.count;
     if c.opened {
         if e == 0 {

@@ -49,10 +49,10 @@ unfolding nextDealtIn
 chips-most t s h q = clockwise-most (wantOf Chips) (t .chairs) (t .sheet .seats) s 10 h q
 
 -- the mark and the turn of a table are small
-abbrev Small : Table → Type 0
-Small t = (t .play .mark ≤ 100000000) × (t .play .turn ≤ 10)
+abbrev SmallPlay : Table → Type 0
+SmallPlay t = (t .play .mark ≤ 100000000) × (t .play .turn ≤ 10)
 
-small-pick : (b : Bool) (t u : Table) → Small t → Small u → Small (pick b t u)
+small-pick : (b : Bool) (t u : Table) → SmallPlay t → SmallPlay u → SmallPlay (pick b t u)
 small-pick true t u p q = p
 small-pick false t u p q = q
 
@@ -65,7 +65,7 @@ unfolding turnAfter
 dead-turn t u s h v q =
     pick-most (eqb (t .play .turn) s) _ _ 10 (owing-most u s v q) (pick-most (nobodyOwes u) 0 (t .play .turn) 10 (omega arith) (h .turn))
 
-pub marks : (t : Table) (e : Entry) → Sound t → inKind (t .sheet) e ≡ true → Small (appliedTo t e)
+pub marks : (t : Table) (e : Entry) → Sound t → inKind (t .sheet) e ≡ true → SmallPlay (appliedTo t e)
 unfolding foldedTo checkedTo calledTo wageredTo satTo leftTo deadTo heldTo boardedTo openedTo newRound postedTo afterAct settledTo
 marks t (Sit s a) h r = (h .mark, h .turn)
 marks t (Leave s) h r = (h .mark, h .turn)

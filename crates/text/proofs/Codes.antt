@@ -4,7 +4,7 @@ use mathlib.Core.Path.{_≡_, refl}
 use Rattle.text.specs.Line.{numberLine}
 use Rattle.text.specs.Number.{digits}
 use Rattle.text.specs.Codes.{codeOfOpening, eleven}
-use Rattle.text.specs.declared.sheet.Opening.the-variants.{Bad}
+use Rattle.text.specs.declared.sheet.SheetRead.the-variants.{Bad}
 
 pub eleven-says : eleven ≡ numberLine (99 ∷ 111 ∷ 100 ∷ 101 ∷ []) (codeOfOpening Bad)
 unfolding numberLine digits

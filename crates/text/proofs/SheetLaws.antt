@@ -14,7 +14,7 @@ use Rattle.paper.specs.Paper.{sheetBy, isSheet}
 use Rattle.text.specs.TableSheet.{sheetLines, sheetNumber, isValue, valueIn, allGood, valuesFrom, sheetWith, sheetOf}
 use Rattle.paper.specs.declared.Sheet.{Sheet}
 use Rattle.laws.proofs.Tests.{both-true}
-use Rattle.text.specs.declared.sheet.Opening.the-variants as opening
+use Rattle.text.specs.declared.sheet.SheetRead.the-variants as read-as
 
 pub lines-none : (l : List ℕ) (k : ℕ) → k ≡ 0 → l ≡ afterLines k l
 lines-none l k e = rw e
@@ -72,31 +72,31 @@ module _ (x y : List ℕ) where
   unfolding sheetOf sheetWith
   sheet-same e =
       let v : valuesFrom sheetLines 0 x ≡ valuesFrom sheetLines 0 y = values-same sheetLines 0 (λ k h. let z : 0 + k ≡ k = omega arith in rw z (e k h)) in
-      ap (λ (b : Bool). pick (both b (isSheet (sheetWith x))) (opening.Read (sheetWith x)) opening.Bad) (good-same sheetLines e)
-      ∙ ap (λ (vs : List ℕ). pick (both (allGood sheetLines y) (isSheet (sheetBy vs))) (opening.Read (sheetBy vs)) opening.Bad) v
+      ap (λ (b : Bool). pick (both b (isSheet (sheetWith x))) (read-as.Read (sheetWith x)) read-as.Bad) (good-same sheetLines e)
+      ∙ ap (λ (vs : List ℕ). pick (both (allGood sheetLines y) (isSheet (sheetBy vs))) (read-as.Read (sheetBy vs)) read-as.Bad) v
 
 -- ---- the three answers of reading a sheet
 
 module _ (l : List ℕ) where
-  pub sheet-bad : allGood sheetLines l ≡ false → sheetOf l ≡ opening.Bad
+  pub sheet-bad : allGood sheetLines l ≡ false → sheetOf l ≡ read-as.Bad
   unfolding sheetOf
   sheet-bad e = rw e
 
-  pub sheet-crossed : allGood sheetLines l ≡ true → isSheet (sheetWith l) ≡ false → sheetOf l ≡ opening.Bad
+  pub sheet-crossed : allGood sheetLines l ≡ true → isSheet (sheetWith l) ≡ false → sheetOf l ≡ read-as.Bad
   unfolding sheetOf
   sheet-crossed e f = rw (e, f)
 
-  pub sheet-good : allGood sheetLines l ≡ true → isSheet (sheetWith l) ≡ true → sheetOf l ≡ opening.Read (sheetWith l)
+  pub sheet-good : allGood sheetLines l ≡ true → isSheet (sheetWith l) ≡ true → sheetOf l ≡ read-as.Read (sheetWith l)
   unfolding sheetOf
   sheet-good e f = rw (e, f)
 
 -- what a sheet that was read says: each line is good, the numbers are the sheet's, and they passed paper's test
-pub sheet-said : (l : List ℕ) (s : Sheet) → sheetOf l ≡ opening.Read s → (allGood sheetLines l ≡ true) × (sheetWith l ≡ s) × (isSheet s ≡ true)
+pub sheet-said : (l : List ℕ) (s : Sheet) → sheetOf l ≡ read-as.Read s → (allGood sheetLines l ≡ true) × (sheetWith l ≡ s) × (isSheet s ≡ true)
 unfolding sheetOf
 sheet-said l s e = go (both (allGood sheetLines l) (isSheet (sheetWith l))) refl e
   where
     go : (t : Bool) → both (allGood sheetLines l) (isSheet (sheetWith l)) ≡ t
-        → pick t (opening.Read (sheetWith l)) opening.Bad ≡ opening.Read s → (allGood sheetLines l ≡ true) × (sheetWith l ≡ s) × (isSheet s ≡ true)
+        → pick t (read-as.Read (sheetWith l)) read-as.Bad ≡ read-as.Read s → (allGood sheetLines l ≡ true) × (sheetWith l ≡ s) × (isSheet s ≡ true)
     go false w v = let z : _≡_ {A = ℕ} 0 1 = cc in absurd (omega arith)
     go true w v =
         let p = both-true (allGood sheetLines l) (isSheet (sheetWith l)) w in
@@ -104,5 +104,5 @@ sheet-said l s e = go (both (allGood sheetLines l) (isSheet (sheetWith l))) refl
         (p .0, m, sym (ap isSheet m) ∙ p .1)
 
 -- so it is a good sheet: that is the test itself
-pub sheet-is : (l : List ℕ) (s : Sheet) → sheetOf l ≡ opening.Read s → isSheet s ≡ true
+pub sheet-is : (l : List ℕ) (s : Sheet) → sheetOf l ≡ read-as.Read s → isSheet s ≡ true
 sheet-is l s e = sheet-said l s e .2

@@ -2,12 +2,12 @@
 use Prim.Native.Nat.{ℕ}
 use mathlib.Core.List.{List, [], _∷_}
 use Rattle.paper.specs.RefusalNumbers.{taken, badSheet}
-use Rattle.text.specs.declared.sheet.Opening.{Opening}
-use Rattle.text.specs.declared.sheet.Opening.the-variants as opening
+use Rattle.text.specs.declared.sheet.SheetRead.{SheetRead}
+use Rattle.text.specs.declared.sheet.SheetRead.the-variants as read-as
 
-abbrev pub codeOfOpening : Opening → ℕ
-codeOfOpening (opening.Read s) = taken
-codeOfOpening opening.Bad = badSheet
+abbrev pub codeOfOpening : SheetRead → ℕ
+codeOfOpening (read-as.Read s) = taken
+codeOfOpening read-as.Bad = badSheet
 
 -- refusal 11, as it is written: "`code=11` and one LF" (proofs/Codes, `eleven-says`: the line of `codeOfOpening`'s number)
 abbrev pub eleven : List ℕ

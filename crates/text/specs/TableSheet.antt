@@ -12,8 +12,8 @@ use Rattle.paper.specs.SheetAndEntries.{sheetBy, isSheet}
 use Rattle.text.specs.declared.Number.{Number}
 use Rattle.text.specs.declared.Number.the-variants.{Value, Bad}
 use Rattle.paper.specs.declared.Sheet.{Sheet}
-use Rattle.text.specs.declared.sheet.Opening.{Opening}
-use Rattle.text.specs.declared.sheet.Opening.the-variants as opening
+use Rattle.text.specs.declared.sheet.SheetRead.{SheetRead}
+use Rattle.text.specs.declared.sheet.SheetRead.the-variants as read-as
 
 -- the keys of the sheet's lines in their order: the one table of them. What numbers they may have is said by paper's `isSheet`
 abbrev pub sheetKeys : List (List ℕ)
@@ -72,8 +72,8 @@ unfoldable pub sheetWith : List ℕ → Sheet
 sheetWith log = sheetBy (valuesFrom sheetLines 0 log)
 
 -- the sheet at the front of a log: each of its lines is a number line with its key, and the numbers are those of a sheet
-unfoldable pub sheetOf : List ℕ → Opening
-sheetOf log = pick (both (allGood sheetLines log) (isSheet (sheetWith log))) (opening.Read (sheetWith log)) opening.Bad
+unfoldable pub sheetOf : List ℕ → SheetRead
+sheetOf log = pick (both (allGood sheetLines log) (isSheet (sheetWith log))) (read-as.Read (sheetWith log)) read-as.Bad
 
 -- what follows the sheet: its lines are used up
 unfoldable pub sheetEnd : List ℕ → List ℕ

@@ -9,7 +9,7 @@ ghost use Prim.Native.Nat.{_<_};
 ghost use Rattle.text.specs.TableSheet.{sheetLines, sheetNumber, isValue, valueIn, allGood, sheetOf, sheetEnd, sheetWith};
 
 // A sheet, or that one of its lines is missing, malformed or out of its range: code 11.
-pub enum Opening {
+pub enum SheetRead {
     Read(Sheet),
     Bad,
 }
@@ -134,16 +134,16 @@ fn sheet_with(log: &[u8]) -> Sheet
 }
 
 // The sheet at the front of a log.
-pub fn read_sheet(log: &[u8]) -> Opening
+pub fn read_sheet(log: &[u8]) -> SheetRead
     ensures { λ r. ⌜ r ≡ sheetOf (now (log .entry)) ⌝ }
 {
     if all_good(log) {
         let s = sheet_with(log);
         if is_sheet(s) {
-            return Opening::Read(s);
+            return SheetRead::Read(s);
         }
     }
-    Opening::Bad
+    SheetRead::Bad
 }
 
 // What follows the sheet.

@@ -23,7 +23,7 @@ struct Form {
 }
 
 // What is seen after some input, whether reading or writing failed, and whether to go on.
-struct Turn {
+struct Lap {
     seen: Seen,
     failed: bool,
     more: bool,
@@ -63,7 +63,7 @@ fn tell(form: Form, s: Seen, fresh: bool, out: &mut [u8]) -> bool
 }
 
 // A part of the input: a picture for each block that ends in it.
-fn show(form: Form, s: Seen, buf: &mut [u8], part: &[u8]) -> Turn
+fn show(form: Form, s: Seen, buf: &mut [u8], part: &[u8]) -> Lap
     requires { ⌜ Held s × (keptMost ≤ length (now buf)) ⌝ }
     ensures { λ r. ⌜ Held (r .seen) ⌝ }
 {
@@ -75,7 +75,7 @@ fn show(form: Form, s: Seen, buf: &mut [u8], part: &[u8]) -> Turn
         let next = d.seen;
         seen = next;
         if !tell(form, next, d.fresh, &mut out) {
-            return Turn {
+            return Lap {
                 seen,
                 failed: true,
                 more: false,
@@ -83,7 +83,7 @@ fn show(form: Form, s: Seen, buf: &mut [u8], part: &[u8]) -> Turn
         }
         from = d.from;
     }
-    Turn {
+    Lap {
         seen,
         failed: false,
         more: true,
@@ -91,14 +91,14 @@ fn show(form: Form, s: Seen, buf: &mut [u8], part: &[u8]) -> Turn
 }
 
 // One read, and its pictures. A read that fails is no end of the input: then nothing more is drawn.
-fn read_some(form: Form, s: Seen, buf: &mut [u8]) -> Turn
+fn read_some(form: Form, s: Seen, buf: &mut [u8]) -> Lap
     requires { ⌜ Held s × (keptMost ≤ length (now buf)) ⌝ }
     ensures { λ r. ⌜ Held (r .seen) ⌝ }
 {
     let mut input = io::large_buffer();
     let got = libc::read(STDIN_FILENO, &mut input);
     if got <= 0 {
-        return Turn {
+        return Lap {
             seen: s,
             failed: got < 0,
             more: false,
@@ -109,7 +109,7 @@ fn read_some(form: Form, s: Seen, buf: &mut [u8]) -> Turn
 }
 
 // Reads to the end of the input. A proved loop has to end, so it counts its turns down from a number that no run uses up.
-fn read_all(form: Form, buf: &mut [u8]) -> Turn
+fn read_all(form: Form, buf: &mut [u8]) -> Lap
     requires { ⌜ keptMost ≤ length (now buf) ⌝ }
     ensures { λ r. ⌜ Held (r .seen) ⌝ }
 {
@@ -124,7 +124,7 @@ fn read_all(form: Form, buf: &mut [u8]) -> Turn
         }
         turns -= 1;
     }
-    Turn {
+    Lap {
         seen,
         failed: false,
         more: false,

@@ -6,7 +6,7 @@ use native.Mathlib.Omega.{arith}
 use lib.ListN.{length, replicate, take, length-append, length-replicate}
 use Rattle.text.specs.Number.{digits}
 use Rattle.text.proofs.Numbers.{count-most}
-use Rattle.writing.specs.Sheet.{Wrote}
+use Rattle.writing.specs.AnswerSheet.{Wrote}
 use Rattle.writing.specs.Nine.{nineDigits, nineLine}
 
 pub nine-is : (n : ℕ) → length (nineDigits n) ≡ 9

@@ -8,7 +8,7 @@ use native.Mathlib.Nat.{le-refl}
 use lib.ListN.{length, getD, take, drop, set, length-append, length-drop, drop-of-length-le}
 use lib.Seq.{take-all, take-append-seam, drop-append-seam, drop-drop, drop-cons, set-append-seam, length-take-le, take-suc, set-split}
 use borrow.Rule.Slice.PartMut.{midOf, putMid}
-use Rattle.writing.specs.Sheet.{over, Wrote, fits, sheetAfter, writtenOf}
+use Rattle.writing.specs.AnswerSheet.{over, Wrote, fits, sheetAfter, writtenOf}
 use Rattle.writing.specs.declared.Written.the-variants.{Bytes, NoRoom}
 use borrow.Author.Tests.{le-leb, lt-leb}
 use Rattle.text.proofs.Parts.{part-is, part-back}

@@ -4,7 +4,7 @@ ghost use mathlib.Core.Path.{_≡_};
 ghost use Prim.Native.Nat.{_≤_, _<_, _^_};
 ghost use lib.ListN.{length};
 ghost use Rattle.text.specs.Number.{digits};
-ghost use Rattle.writing.specs.Sheet.{Wrote};
+ghost use Rattle.writing.specs.AnswerSheet.{Wrote};
 ghost use Rattle.writing.specs.Nine.{nineDigits};
 
 // The decimal digits of n at the front of the sheet, from the highest place down. Where n is below what a one is worth

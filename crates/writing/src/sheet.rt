@@ -8,7 +8,7 @@ ghost use Prim.Native.Nat.{_≤_, _<_, _^_};
 ghost use lib.ListN.{length, getD};
 ghost use Rattle.text.specs.Line.{numberLine};
 ghost use Rattle.text.specs.TableSheet.{sheetLines, sheetKeys};
-ghost use Rattle.writing.specs.Sheet.{Wrote};
+ghost use Rattle.writing.specs.AnswerSheet.{Wrote};
 
 // How long the sheet's k-th line is with the number n.
 pub fn line_len(k: usize, n: u32) -> usize

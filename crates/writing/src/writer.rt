@@ -8,7 +8,7 @@ ghost use mathlib.Core.List.{[], _∷_};
 ghost use Prim.Native.Nat.{_≤_, _<_, _^_};
 ghost use lib.ListN.{length};
 ghost use Rattle.text.specs.Line.{numberLine};
-ghost use Rattle.writing.specs.Sheet.{Wrote, sheetAfter, writtenOf};
+ghost use Rattle.writing.specs.AnswerSheet.{Wrote, sheetAfter, writtenOf};
 ghost use Rattle.writing.specs.Nine.{nineLine};
 
 // One byte at the front of the sheet.

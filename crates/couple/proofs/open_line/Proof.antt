@@ -1,5 +1,5 @@
 -- `open_line` meets its contract.
-use Rattle.pool.specs.declared.Opening as opens
+use Rattle.pool.specs.declared.PoolOpened as opens
 use mathlib.Core.Path.{ap, sym, _∙_, subst}
 use Rattle.couple.proofs.Tables.{opened-held, pool-gave, pool-over, pool-bad}
 use borrow.Author.Needs.{needs}
@@ -34,7 +34,7 @@ with-pool-requires c κs = ((c .before .before .before .before .before .before .
 
 -- src/lib.rt:169:17
 returns : tie.Need-returns
-returns c = let o = c .before .before .before .before .open-pool .ensures in let w = c .with-pool .ensures in (pool-gave ((c .before .before .before .before .before .before .before .before .before .before .before .before) .args .p) (c .before .before .before .before .before .before .before .before .read-key-number .ensures) (c .before .before .before .before .before .before .v .given .1) (sym (ap (λ (x : opens.Opening). x .code) o) ∙ c .before .before .if1 .taken) (w .0 ∙ ap (λ (x : opens.Opening). record { shut = (c .before .before .before .before .before .before .before .before .before .before .before .before) .args .p .shut; tables = (c .before .before .before .before .before .before .before .before .before .before .before .before) .args .p .tables; pool = x .pool; house = (c .before .before .before .before .before .before .before .before .before .before .before .before) .args .p .house }) o), w .1)
+returns c = let o = c .before .before .before .before .open-pool .ensures in let w = c .with-pool .ensures in (pool-gave ((c .before .before .before .before .before .before .before .before .before .before .before .before) .args .p) (c .before .before .before .before .before .before .before .before .read-key-number .ensures) (c .before .before .before .before .before .before .v .given .1) (sym (ap (λ (x : opens.PoolOpened). x .code) o) ∙ c .before .before .if1 .taken) (w .0 ∙ ap (λ (x : opens.PoolOpened). record { shut = (c .before .before .before .before .before .before .before .before .before .before .before .before) .args .p .shut; tables = (c .before .before .before .before .before .before .before .before .before .before .before .before) .args .p .tables; pool = x .pool; house = (c .before .before .before .before .before .before .before .before .before .before .before .before) .args .p .house }) o), w .1)
 
 -- src/lib.rt:174:13
 refuse-requires : tie.Need-refuse-requires
@@ -54,7 +54,7 @@ same-length c = search needs
 
 -- src/lib.rt:159:1
 returns-2 : tie.Need-returns-2
-returns-2 c = let o = c .before .before .before .before .before .before .open-pool .ensures in let w = c .before .before .refuse .ensures in (pool-over ((c .before .before .before .before .before .before .before .before .before .before .before .before .before .before) .args .p) (c .before .before .before .before .before .before .before .before .before .before .read-key-number .ensures) (c .before .before .before .before .before .before .before .before .v .given .1) (λ z. c .before .before .before .before .if1 .left (ap (λ (x : opens.Opening). x .code) o ∙ z)) (w .0), w .1)
+returns-2 c = let o = c .before .before .before .before .before .before .open-pool .ensures in let w = c .before .before .refuse .ensures in (pool-over ((c .before .before .before .before .before .before .before .before .before .before .before .before .before .before) .args .p) (c .before .before .before .before .before .before .before .before .before .before .read-key-number .ensures) (c .before .before .before .before .before .before .before .before .v .given .1) (λ z. c .before .before .before .before .if1 .left (ap (λ (x : opens.PoolOpened). x .code) o ∙ z)) (w .0), w .1)
 
 -- src/lib.rt:159:1
 same-length-2 : tie.Need-same-length-2

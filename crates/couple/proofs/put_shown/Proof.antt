@@ -4,7 +4,7 @@ use Prim.Native.Nat.{ℕ}
 use mathlib.Core.List.{List, _++_}
 use mathlib.Core.Path.{ap, subst}
 use Rattle.text.specs.Line.{numberLine}
-use Rattle.writing.specs.Sheet.{Wrote}
+use Rattle.writing.specs.AnswerSheet.{Wrote}
 use Rattle.frames.specs.Frames.{tableKey}
 use Rattle.writing.proofs.Sheets.{then}
 use Rattle.couple.proofs.Tables.{line-most, shown-both, shown-one, shown-none}

@@ -8,10 +8,10 @@ use Rattle.crown.proofs.read_all.Statement.{statement}
 use Rattle.crown.proofs.read_all.Tie as tie
 
 abbrev Inv-loop : tie.InvT-loop
-Inv-loop buf₀ mark₀ turns₀ buf mark turns = (length buf ≡ length buf₀) × Held mark
+Inv-loop buf₀ fill₀ turns₀ buf fill turns = (length buf ≡ length buf₀) × Held fill
 
 abbrev μ-loop : tie.MeasureT-loop
-μ-loop buf₀ mark₀ turns₀ buf mark turns = turns
+μ-loop buf₀ fill₀ turns₀ buf fill turns = turns
 
 empty-requires : tie.Need-empty-requires Inv-loop μ-loop
 empty-requires c κs = search needs

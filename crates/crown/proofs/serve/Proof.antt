@@ -9,11 +9,11 @@ use Rattle.crown.proofs.serve.Statement.{statement}
 use Rattle.crown.proofs.serve.Tie as tie
 
 abbrev Inv-loop : tie.InvT-loop
-Inv-loop buf₀ part out₀ mark₀ from₀ at₀ buf out mark from at =
-    (length buf ≡ length buf₀) × (length out ≡ 65536) × Held mark × (from ≤ length part) × (at ≤ 65536)
+Inv-loop buf₀ part out₀ fill₀ from₀ at₀ buf out fill from at =
+    (length buf ≡ length buf₀) × (length out ≡ 65536) × Held fill × (from ≤ length part) × (at ≤ 65536)
 
 abbrev μ-loop : tie.MeasureT-loop
-μ-loop buf₀ part out₀ mark₀ from₀ at₀ buf out mark from at = length part - from
+μ-loop buf₀ part out₀ fill₀ from₀ at₀ buf out fill from at = length part - from
 
 large-buffer-requires : tie.Need-large-buffer-requires Inv-loop μ-loop
 large-buffer-requires c κs = search needs

@@ -2,7 +2,7 @@
 use mathlib.Core.Path.{ap, _∙_}
 use mathlib.Core.List.{List}
 use Prim.Native.Nat.{ℕ}
-use Rattle.writing.specs.Sheet.{sheetAfter}
+use Rattle.writing.specs.AnswerSheet.{sheetAfter}
 use Rattle.desk.proofs.Laws.{block-small, read-answered}
 use borrow.Author.Needs.{needs}
 use Rattle.desk.proofs.answer.Statement.{statement}

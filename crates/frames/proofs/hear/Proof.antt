@@ -6,7 +6,7 @@ use Rattle.frames.proofs.hear.Statement.{statement}
 use Rattle.frames.proofs.hear.Tie as tie
 use Rattle.frames.proofs.hear.Reads as reads
 use Rattle.frames.proofs.hear.Lts as lts
-use Rattle.frames.proofs.kept_mark.Reads as kept-mark-reads
+use Rattle.frames.proofs.kept_fill.Reads as kept-fill-reads
 use Rattle.frames.proofs.line_next.Reads as line-next-reads
 use Rattle.frames.proofs.table_of.Reads as table-of-reads
 use Rattle.lines.proofs.gather.Reads as gather-reads
@@ -52,8 +52,8 @@ line-next-requires : tie.Need-line-next-requires
 line-next-requires c κs = search needs
 
 -- src/lib.rt:219:15
-kept-mark-requires : tie.Need-kept-mark-requires
-kept-mark-requires c κs = search needs
+kept-fill-requires : tie.Need-kept-fill-requires
+kept-fill-requires c κs = search needs
 
 -- src/lib.rt:189:1
 same-length-2 : tie.Need-same-length-2
@@ -61,7 +61,7 @@ same-length-2 c = search needs
 
 -- src/lib.rt:189:1
 returns-2 : tie.Need-returns-2
-returns-2 c = let h = (c .before .before .before .before .before .before .before .before .before .before .before .before .before .before .before .before) .pre in let g = c .before .before .before .before .before .before .before .before .before .before .gather .ensures in let r = heard-whole ((c .before .before .before .before .before .before .before .before .before .before .before .before .before .before .before .before) .args .f) ((c .before .before .before .before .before .before .before .before .before .before .before .before .before .before .before .before) .args .buf .now) ((c .before .before .before .before .before .before .before .before .before .before .before .before .before .before .before .before) .args .part .now) (h .0) (h .1) (g .0) (g .1 .0) (g .1 .1 .0) (c .before .before .table-of .ensures) (c .before .line-next .ensures) (c .kept-mark .ensures) (c .before .before .before .before .before .if1 .left) in (r .0, (g .1 .0, (r .1, g .1 .1 .1, g .1 .1 .2, g .1 .1 .0 .most)))
+returns-2 c = let h = (c .before .before .before .before .before .before .before .before .before .before .before .before .before .before .before .before) .pre in let g = c .before .before .before .before .before .before .before .before .before .before .gather .ensures in let r = heard-whole ((c .before .before .before .before .before .before .before .before .before .before .before .before .before .before .before .before) .args .f) ((c .before .before .before .before .before .before .before .before .before .before .before .before .before .before .before .before) .args .buf .now) ((c .before .before .before .before .before .before .before .before .before .before .before .before .before .before .before .before) .args .part .now) (h .0) (h .1) (g .0) (g .1 .0) (g .1 .1 .0) (c .before .before .table-of .ensures) (c .before .line-next .ensures) (c .kept-fill .ensures) (c .before .before .before .before .before .if1 .left) in (r .0, (g .1 .0, (r .1, g .1 .1 .1, g .1 .1 .2, g .1 .1 .0 .most)))
 
 pub hear-spec : {M : Type 1} → statement M
 hear-spec =
@@ -77,6 +77,6 @@ hear-spec =
     part-table-of-end
     table-of-requires
     line-next-requires
-    kept-mark-requires
+    kept-fill-requires
     same-length-2
     returns-2)

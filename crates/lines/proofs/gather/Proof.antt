@@ -9,11 +9,11 @@ use Rattle.lines.proofs.gather.Statement.{statement}
 use Rattle.lines.proofs.gather.Tie as tie
 
 abbrev Inv-loop : tie.InvT-loop
-Inv-loop buf₀ part want mark₀ i₀ buf mark i =
-    Going want (gatherOf want (keptIn mark₀ buf₀) part) part buf₀ mark buf i × Room mark × (mark .lines < want)
+Inv-loop buf₀ part want fill₀ i₀ buf fill i =
+    Going want (gatherOf want (keptIn fill₀ buf₀) part) part buf₀ fill buf i × Room fill × (fill .lines < want)
 
 abbrev μ-loop : tie.MeasureT-loop
-μ-loop buf₀ part want mark₀ i₀ buf mark i = length part - i
+μ-loop buf₀ part want fill₀ i₀ buf fill i = length part - i
 
 loop-holds : tie.Need-loop-holds Inv-loop μ-loop
 loop-holds c =

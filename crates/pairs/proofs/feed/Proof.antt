@@ -19,7 +19,7 @@ part-take-piece-end : tie.Need-part-take-piece-end
 part-take-piece-end c = search needs
 
 take-piece-requires : tie.Need-take-piece-requires
-take-piece-requires c κs = let s = (c .before .before .before .before .before .before .before .before .before .before) .pre in let h = c .before .before .before .before .before .hear .ensures in (s .0, of-fits ((c .before .before .before .before .before .before .before .before .before .before) .args .f) (gatherOf ((c .before .before .before .before .before .before .before .before .before .before) .args .f .mark .lines + 1) (keptIn ((c .before .before .before .before .before .before .before .before .before .before) .args .f .mark) ((c .before .before .before .before .before .before .before .before .before .before) .args .buf .now)) ((c .before .before .before .before .before .before .before .before .before .before) .args .part .now)) (h .0) (s .1 .due), s .2, s .4)
+take-piece-requires c κs = let s = (c .before .before .before .before .before .before .before .before .before .before) .pre in let h = c .before .before .before .before .before .hear .ensures in (s .0, of-fits ((c .before .before .before .before .before .before .before .before .before .before) .args .f) (gatherOf ((c .before .before .before .before .before .before .before .before .before .before) .args .f .fill .lines + 1) (keptIn ((c .before .before .before .before .before .before .before .before .before .before) .args .f .fill) ((c .before .before .before .before .before .before .before .before .before .before) .args .buf .now)) ((c .before .before .before .before .before .before .before .before .before .before) .args .part .now)) (h .0) (s .1 .due), s .2, s .4)
 
 same-length : tie.Need-same-length
 same-length c = search needs

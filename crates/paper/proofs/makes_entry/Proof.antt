@@ -1,7 +1,7 @@
 -- `makes_entry` meets its contract.
 use mathlib.Core.Path.{ap, _∙_}
 use native.Mathlib.Omega.{arith}
-use Rattle.paper.specs.declared.Row.{Row}
+use Rattle.paper.specs.declared.KindRow.{KindRow}
 use Rattle.paper.specs.SheetAndEntries.{spared}
 use Rattle.paper.proofs.Rows.{kind-known, kind-unknown}
 use borrow.Author.Needs.{needs}
@@ -17,7 +17,7 @@ spared-requires c κs = search needs
 returns : tie.Need-returns
 returns c =
     let x = c .before .before .before .args .x in
-    c .spared .ensures ∙ ap (λ (r : Row). spared r x) (c .before .row-at .ensures) ∙ kind-known x (omega arith)
+    c .spared .ensures ∙ ap (λ (r : KindRow). spared r x) (c .before .row-at .ensures) ∙ kind-known x (omega arith)
 
 returns-2 : tie.Need-returns-2
 returns-2 c = kind-unknown ((c .before) .args .x) (omega arith)

@@ -1,7 +1,7 @@
 -- `pay::read_all` meets its contract: the loop over the input ends, and the teller is sound behind it. Assumes nothing.
 use Rattle.teller.specs.Keeping.{Sound}
 use Rattle.lines.specs.Kept.{Room}
-use Rattle.lines.specs.declared.Mark.{Mark}
+use Rattle.lines.specs.declared.Fill.{Fill}
 use borrow.Author.Needs.{needs}
 use native.Mathlib.Omega.{arith}
 use lib.ListN.{length}
@@ -10,10 +10,10 @@ use Rattle.pay.proofs.read_all.Statement.{statement}
 use Rattle.pay.proofs.read_all.Tie as tie
 
 abbrev Inv-loop : tie.InvT-loop
-Inv-loop check buf₀ gives₀ teller₀ mark₀ turns₀ buf gives teller mark turns = (length buf ≡ length buf₀) × (length gives ≡ length gives₀) × Sound teller × Room mark × (mark .lines ≡ 0)
+Inv-loop check buf₀ gives₀ teller₀ fill₀ turns₀ buf gives teller fill turns = (length buf ≡ length buf₀) × (length gives ≡ length gives₀) × Sound teller × Room fill × (fill .lines ≡ 0)
 
 abbrev μ-loop : tie.MeasureT-loop
-μ-loop check buf₀ gives₀ teller₀ mark₀ turns₀ buf gives teller mark turns = turns
+μ-loop check buf₀ gives₀ teller₀ fill₀ turns₀ buf gives teller fill turns = turns
 
 start-requires : tie.Need-start-requires Inv-loop μ-loop
 start-requires c κs = search needs
@@ -22,7 +22,7 @@ empty-requires : tie.Need-empty-requires Inv-loop μ-loop
 empty-requires c κs = search needs
 
 loop-holds : tie.Need-loop-holds Inv-loop μ-loop
-loop-holds c = (refl, refl, c .before .start .ensures .1, c .empty .ensures .1, ap (λ (m : Mark). m .lines) (c .empty .ensures .0))
+loop-holds c = (refl, refl, c .before .start .ensures .1, c .empty .ensures .1, ap (λ (m : Fill). m .lines) (c .empty .ensures .0))
 
 read-some-requires : tie.Need-read-some-requires Inv-loop μ-loop
 read-some-requires c κs = (c .before .before .before .loop .inv .2, c .before .before .before .loop .inv .3, c .before .before .before .loop .inv .4, omega (arith, (c .before .before .before .before .before .before .before .before) .pre .0, c .before .before .before .loop .inv .0), omega (arith, (c .before .before .before .before .before .before .before .before) .pre .1, c .before .before .before .loop .inv .1))

@@ -1,5 +1,5 @@
 -- `pay::take_one` meets its contract: what is kept of a line and what is written stay within their buffers, and what holds at every line is kept. Assumes nothing.
-use Rattle.lines.specs.declared.Mark.{Mark}
+use Rattle.lines.specs.declared.Fill.{Fill}
 use mathlib.Core.Path.{ap}
 use Rattle.pay.proofs.Rest.{rest-some}
 use native.Mathlib.Omega.{arith}
@@ -83,7 +83,7 @@ same-length-5 : tie.Need-same-length-5
 same-length-5 c = search needs
 
 returns-2 : tie.Need-returns-2
-returns-2 c = (c .before .before .before .before .before .before .before .take-line .ensures .1, c .before .empty .ensures .1, ap (λ (m : Mark). m .lines) (c .before .empty .ensures .0), omega (arith, c .before .before .before .before .before .before .before .before .before .before .before .before .before .before .before .before .ahead .ensures .0, c .before .before .before .before .before .before .before .before .before .before .before .before .before .before .before .before .before .before .before .gather .ensures .1 .1 .2 (rest-some ((c .before .before .before .before .before .before .before .before .before .before .before .before .before .before .before .before .before .before .before .before .before .before .before .before .before .before .before .before .before) .args .part .now) ((c .before .before .before .before .before .before .before .before .before .before .before .before .before .before .before .before .before .before .before .before .before .before .before .before .before .before .before .before .before) .args .from) ((c .before .before .before .before .before .before .before .before .before .before .before .before .before .before .before .before .before .before .before .before .before .before .before .before .before .before .before .before .before) .pre .5))), c .before .before .before .before .before .before .before .before .before .before .before .before .before .before .before .before .ahead .ensures .1, omega (arith, c .before .before .before .before .before .before .before .before .before .before .before .before .before .before .before .before .before .before .before .before .before .before .flush .ensures .1 .1, c .before .before .before .before .before .before .before .take-line .ensures .0 .most))
+returns-2 c = (c .before .before .before .before .before .before .before .take-line .ensures .1, c .before .empty .ensures .1, ap (λ (m : Fill). m .lines) (c .before .empty .ensures .0), omega (arith, c .before .before .before .before .before .before .before .before .before .before .before .before .before .before .before .before .ahead .ensures .0, c .before .before .before .before .before .before .before .before .before .before .before .before .before .before .before .before .before .before .before .gather .ensures .1 .1 .2 (rest-some ((c .before .before .before .before .before .before .before .before .before .before .before .before .before .before .before .before .before .before .before .before .before .before .before .before .before .before .before .before .before) .args .part .now) ((c .before .before .before .before .before .before .before .before .before .before .before .before .before .before .before .before .before .before .before .before .before .before .before .before .before .before .before .before .before) .args .from) ((c .before .before .before .before .before .before .before .before .before .before .before .before .before .before .before .before .before .before .before .before .before .before .before .before .before .before .before .before .before) .pre .5))), c .before .before .before .before .before .before .before .before .before .before .before .before .before .before .before .before .ahead .ensures .1, omega (arith, c .before .before .before .before .before .before .before .before .before .before .before .before .before .before .before .before .before .before .before .before .before .before .flush .ensures .1 .1, c .before .before .before .before .before .before .before .take-line .ensures .0 .most))
 
 pub take-one-spec : {M : Type 1} → statement M
 take-one-spec =

@@ -10,11 +10,11 @@ use Rattle.pay.proofs.take_part.Statement.{statement}
 use Rattle.pay.proofs.take_part.Tie as tie
 
 abbrev Inv-loop : tie.InvT-loop
-Inv-loop check buf₀ gives₀ part out₀ teller₀ mark₀ ok₀ from₀ at₀ buf gives out teller mark ok from at =
-    (length buf ≡ length buf₀) × (length gives ≡ length gives₀) × (length out ≡ 65536) × Sound teller × Room mark × (mark .lines ≡ 0) × (from ≤ length part) × (at ≤ 65536)
+Inv-loop check buf₀ gives₀ part out₀ teller₀ fill₀ ok₀ from₀ at₀ buf gives out teller fill ok from at =
+    (length buf ≡ length buf₀) × (length gives ≡ length gives₀) × (length out ≡ 65536) × Sound teller × Room fill × (fill .lines ≡ 0) × (from ≤ length part) × (at ≤ 65536)
 
 abbrev μ-loop : tie.MeasureT-loop
-μ-loop check buf₀ gives₀ part out₀ teller₀ mark₀ ok₀ from₀ at₀ buf gives out teller mark ok from at =
+μ-loop check buf₀ gives₀ part out₀ teller₀ fill₀ ok₀ from₀ at₀ buf gives out teller fill ok from at =
     length part - from
 
 large-buffer-requires : tie.Need-large-buffer-requires Inv-loop μ-loop

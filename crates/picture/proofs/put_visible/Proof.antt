@@ -2,7 +2,7 @@
 use borrow.Author.Needs.{needs}
 use Rattle.picture.proofs.Foreign.{visible-start, visible-on, visible-done}
 use Rattle.picture.specs.Rows.{visibleAll}
-use Rattle.figures.specs.Sheet.{Put}
+use Rattle.figures.specs.Placing.{Put}
 use lib.ListN.{length, take, length-set}
 use native.Mathlib.Omega.{arith}
 use mathlib.Core.Path.{_≡_, refl}

@@ -51,7 +51,7 @@ use Rattle.records.specs.Stored.{recordAt}
 use Rattle.records.specs.Reading.{after, laterOf, lastOn, lastHand}
 use Rattle.records.specs.declared.Record.{Record}
 use Rattle.records.specs.declared.Reader.{Reader}
-use Rattle.records.specs.declared.Got.{Got}
+use Rattle.records.specs.declared.RecordRead.{RecordRead}
 use Rattle.records.proofs.Found.{here-long, next-is, turn, fewer, all-of, done as all-read}
 use Rattle.records.proofs.Reader.new.Symbol.{name as #records·Reader·new}
 use Rattle.records.proofs.Reader.next.Symbol.{name as #records·Reader·next}
@@ -62,8 +62,8 @@ use Rattle.records.proofs.Record as R
 use Rattle.records.proofs.Record.Laws as R′
 use Rattle.records.proofs.Reader as T
 use Rattle.records.proofs.Reader.Laws as T′
-use Rattle.records.proofs.Got as G
-use Rattle.records.proofs.Got.Laws as G′
+use Rattle.records.proofs.RecordRead as G
+use Rattle.records.proofs.RecordRead.Laws as G′
 use Rattle.records.proofs.Reader.new as new
 use Rattle.records.proofs.Reader.new.Symbol as new-def
 use Rattle.records.proofs.Reader.new.Met as new-thm
@@ -166,11 +166,11 @@ module _ {M : Type 1} (𝓤 : URA M) (H : Heap 𝓤) (A : Atoms 𝓤) (W : Given
   goes-next : (r : Reader) (u : Val) → ent 𝓤 (⋆ 𝓤 H A (‵ (B (κ, tt) .own r (u ∷ [])) ∷ Token ∷ [])) (Next 𝓤 H A mem run .pre (to-next r u))
   goes-next r u = qed W (‵ (B (κ, tt) .own r (u ∷ [])) ∷ Token ∷ []) ∵ nothing ! $ move ! (1 ∷ 0 ∷ []) $ fjoin ! $ move ! (1 ∷ 0 ∷ []) $ join ! $ frame ! $ done !
 
-  next-said : (r : Reader) (g : Got) → ent 𝓤 (ensured 𝓤 H A next.ended (next.clauses 𝓤 H A mem run) (κ, tt) (r, tt) tt g) (fact 𝓤 (g ≡ after r))
+  next-said : (r : Reader) (g : RecordRead) → ent 𝓤 (ensured 𝓤 H A next.ended (next.clauses 𝓤 H A mem run) (κ, tt) (r, tt) tt g) (fact 𝓤 (g ≡ after r))
   next-said r g = exE 𝓤 _ (λ ws. snd∗ 𝓤 (sem 𝓤 H A (lasts next.ended (κ, tt) (r, tt) ws)) (fact 𝓤 (g ≡ after r)))
 
   -- of what `next` handed back, what the reader in it owns goes to the next call
-  goes-rest : (g : Got) → ent 𝓤 (⋆ 𝓤 H A (‵ (BG (κ, tt) .own g (G′.lowered g ∷ [])) ∷ Token ∷ [])) (Next 𝓤 H A mem run .pre (to-next (g .rest) (T′.lowered (g .rest))))
+  goes-rest : (g : RecordRead) → ent 𝓤 (⋆ 𝓤 H A (‵ (BG (κ, tt) .own g (G′.lowered g ∷ [])) ∷ Token ∷ [])) (Next 𝓤 H A mem run .pre (to-next (g .rest) (T′.lowered (g .rest))))
   goes-rest g =
       qed W (‵ (BG (κ, tt) .own g (G′.lowered g ∷ [])) ∷ Token ∷ []) ∵
       use1 W (given (G′.lowered g ∷ [] ≡ G′.lowered g ∷ []) (‵ (all-own (DG .parts) LG vg))) (own-open 𝓤 H A W DG LG vg (G′.lowered g)) $ learn ! (λ _. use1 W (‵ (ownAt (DG .parts) LG 1 (g .rest)) ⊛ ‵ (rest (DG .parts) LG 1 vg)) (own-out 𝓤 H A W (DG .parts) LG 1 vg) $ split ! $
@@ -202,24 +202,24 @@ module _ {M : Type 1} (𝓤 : URA M) (H : Heap 𝓤) (A : Atoms 𝓤) (W : Given
     later-of-said k = exE 𝓤 _ (λ ws. snd∗ 𝓤 (sem 𝓤 H A (lasts later-of.ended tt (m, (r, tt)) ws)) (fact 𝓤 (k ≡ laterOf m r)))
 
   -- where a turn stands: the place of the record in hand, that behind the last `hand` before it, and what is known of the two
-  abbrev Turn : Type 0
-  Turn = (i : ℕ) × ((m : ℕ) × (((f : ℕ) × ((lastOn f xs i m ≡ lastHand xs) × (n - i ≤ f))) × (m < 2 ^ 64)))
+  abbrev Lap : Type 0
+  Lap = (i : ℕ) × ((m : ℕ) × (((f : ℕ) × ((lastOn f xs i m ≡ lastHand xs) × (n - i ≤ f))) × (m < 2 ^ 64)))
 
-  abbrev Nearer : Turn → Turn → Type 0
+  abbrev Nearer : Lap → Lap → Type 0
   Nearer y x = n - y .0 < n - x .0
 
   all-left : n - 0 ≤ n
   all-left = omega arith
 
   nearer-wf : WellFounded Nearer
-  nearer-wf = InvImage·wf (λ (x : Turn). n - x .0) (Nat·lt-wfRel .wf)
+  nearer-wf = InvImage·wf (λ (x : Lap). n - x .0) (Nat·lt-wfRel .wf)
 
-  abbrev hand : Turn → Got
+  abbrev hand : Lap → RecordRead
   hand x = after (reader (x .0))
 
   -- a result of `next` is at the machine value that is written out
-  spelled : (g : Got) (u : Val) (r : Reader) → Is (BG (κ, tt)) g (u ∷ []) → g ≡ after r → u ∷ [] ≡ G′.lowered (after r) ∷ []
-  spelled g u r is e = LL.tells DG LG g (u ∷ []) is ∙ ap (λ (h : Got). G′.lowered h ∷ []) e
+  spelled : (g : RecordRead) (u : Val) (r : Reader) → Is (BG (κ, tt)) g (u ∷ []) → g ≡ after r → u ∷ [] ≡ G′.lowered (after r) ∷ []
+  spelled g u r is e = LL.tells DG LG g (u ∷ []) is ∙ ap (λ (h : RecordRead). G′.lowered h ∷ []) e
 
   module _ (𝓣 : Tables 𝓤 H) (known-new : Triple 𝓤 (𝓣 .C #records·Reader·new) (New 𝓤 H A mem run)) (known-next : Triple 𝓤 (𝓣 .C #records·Reader·next) (Next 𝓤 H A mem run)) (known-later-of : Triple 𝓤 (𝓣 .C #records·later) (Later 𝓤 H A mem run)) where
     abbrev C : Calls 𝓤 H
@@ -244,15 +244,15 @@ module _ {M : Type 1} (𝓤 : URA M) (H : Heap 𝓤) (A : Atoms 𝓤) (W : Given
       abbrev En : Env 𝓤 H
       En = (tyInt w64, l₀) ∷ (logTy, l₁) ∷ (gotTy, l₂) ∷ (tyInt w64, l₃) ∷ (readerTy, l₄) ∷ (tyBool, l₅) ∷ (R′.mir, l₆) ∷ (readerTy, l₇) ∷ []
 
-      abbrev At : Turn → List (Item 𝓤)
+      abbrev At : Lap → List (Item 𝓤)
       At x = ‵ (BG (κ, tt) .own (hand x) (G′.lowered (hand x) ∷ [])) ∷ Token ∷ ‵ Own ∷ ‵ (fat fullShare gotTy l₂ 0 (G′.lowered (hand x))) ∷ ‵ (fat fullShare (tyInt w64) l₃ 0 (vint w64 (x .1 .0)))
           ∷ ‵ (froom readerTy l₄ 0) ∷ ‵ (froom tyBool l₅ 0) ∷ ‵ (froom R′.mir l₆ 0) ∷ ‵ (froom readerTy l₇ 0) ∷ ‵ (fat fullShare logTy l₁ 0 v) ∷ ‵ (froom (tyInt w64) l₀ 0)
           ∷ ‵ (fdies (tyInt w64) l₀) ∷ ‵ (fdies logTy l₁) ∷ ‵ (fdies gotTy l₂) ∷ ‵ (fdies (tyInt w64) l₃) ∷ ‵ (fdies readerTy l₄) ∷ ‵ (fdies tyBool l₅) ∷ ‵ (fdies R′.mir l₆) ∷ ‵ (fdies readerTy l₇) ∷ []
 
-      abbrev Turned : Turn → Out → SProp 𝓤
+      abbrev Turned : Lap → Out → SProp 𝓤
       Turned x = afterTurn 𝓤 H (Below 𝓤 H A Nearer At x) (afterBlock 𝓤 H (afterSeq 𝓤 H (Wp 𝓤 H C Λ En body.t-5 (atReturn 𝓤 H En Post)) (atReturn 𝓤 H En Post)))
 
-      more : (x : Turn) → recordAt xs (x .0) .there ≡ true → Sq W (At x) (runs C Λ En body.turn-1 (anyQ (Turned x)))
+      more : (x : Lap) → recordAt xs (x .0) .there ≡ true → Sq W (At x) (runs C Λ En body.turn-1 (anyQ (Turned x)))
       unfolding afterTurn
       more x there =
           peeks ! (BG (κ, tt)) (Is (BG (κ, tt))) (shows 𝓤 H A (BG (κ, tt))) (hand x) (G′.lowered (hand x) ∷ []) (λ is.
@@ -272,13 +272,13 @@ module _ {M : Type 1} (𝓤 : URA M) (H : Heap 𝓤) (A : Atoms 𝓤) (W : Given
           assigns ! (of-opd ! (load ! (from ! (fld ! refl (stop !))) (look-in ! 3 (sub ! 1 refl (whole !))))) (from ! (stop !)) (init ! 8 refl (tt, typed is .1 .1 .0)) $
           use2 W (raw (Next 𝓤 H A mem run .pre (to-next (hand x .rest) (T′.lowered (hand x .rest))))) (goes-rest (hand x)) $
           calls-at-last ! fm (Next 𝓤 H A mem run) known-next (to-next (hand x .rest) (T′.lowered (hand x .rest))) (and-then ! (load ! (from ! (stop !)) (look ! 7 refl)) (no-more !)) (λ u′.
-          use1 W (later (some (λ (g : Got). (Token ⊛ ‵ (BG (κ, tt) .own g (u′ ∷ []))) ⊛ raw (ensured 𝓤 H A next.ended (next.clauses 𝓤 H A mem run) (κ, tt) (hand x .rest, tt) tt g)))) (id⊢ 𝓤 _) $ await ! tt $ pick ! (λ g.
+          use1 W (later (some (λ (g : RecordRead). (Token ⊛ ‵ (BG (κ, tt) .own g (u′ ∷ []))) ⊛ raw (ensured 𝓤 H A next.ended (next.clauses 𝓤 H A mem run) (κ, tt) (hand x .rest, tt) tt g)))) (id⊢ 𝓤 _) $ await ! tt $ pick ! (λ g.
           split ! $ move ! (1 ∷ []) $ use1 W (raw (fact 𝓤 (g ≡ after (hand x .rest)))) (next-said (hand x .rest) g) $ heard ! (g ≡ after (hand x .rest)) (λ e′. split ! $ move ! (1 ∷ []) $
           peeks ! (BG (κ, tt)) (Is (BG (κ, tt))) (shows 𝓤 H A (BG (κ, tt))) g (u′ ∷ []) (λ is′.
           land-last ! (from ! (stop !)) (store ! 3 refl (LL.lawful (G.the-type αᵉ) (G′.the-laws αᵉ) 𝓤 H A W .typed g _ is′ .0)) $
           rewrite ! 3 (λ (w : Val). ‵ (fat fullShare gotTy l₂ 0 w)) (ap only (spelled g u′ (hand x .rest) is′ e′)) refl $
           rewrite ! 0 (λ (us : List Val). ‵ (BG (κ, tt) .own g us)) (spelled g u′ (hand x .rest) is′ e′) refl $
-          rewrite ! 0 (λ (h : Got). ‵ (BG (κ, tt) .own h (G′.lowered (after (hand x .rest)) ∷ []))) e′ refl $
+          rewrite ! 0 (λ (h : RecordRead). ‵ (BG (κ, tt) .own h (G′.lowered (after (hand x .rest)) ∷ []))) e′ refl $
           forget ! 6 refl $ forget ! 7 refl $ forget ! 8 refl $ again ! Nearer At x (after-turn (subst (λ (w : ℕ). w < 2 ^ 64) e (isk .1))) nearer)))))))))
         where
           m : ℕ
@@ -296,7 +296,7 @@ module _ {M : Type 1} (𝓤 : URA M) (H : Heap 𝓤) (A : Atoms 𝓤) (W : Given
           long : 8 ≤ n - x .0
           long = here-long xs (x .0) there
 
-          after-turn : laterOf m got < 2 ^ 64 → Turn
+          after-turn : laterOf m got < 2 ^ 64 → Lap
           after-turn fits = (
             recordAt xs (x .0) .next,
             (laterOf m got, ((f - 1, (sym (turn xs f (x .0) m there (x .1 .1 .0 .1 .1)) ∙ x .1 .1 .0 .1 .0, fewer xs f (x .0) there (x .1 .1 .0 .1 .1))), fits)),
@@ -308,7 +308,7 @@ module _ {M : Type 1} (𝓤 : URA M) (H : Heap 𝓤) (A : Atoms 𝓤) (W : Given
               let l = long in
               subst (λ (k : ℕ). n - k < n - x .0) (sym e) (omega (arith, l))
 
-      ends : (x : Turn) → recordAt xs (x .0) .there ≡ false → Sq W (At x) (runs C Λ En body.turn-1 (anyQ (Turned x)))
+      ends : (x : Lap) → recordAt xs (x .0) .there ≡ false → Sq W (At x) (runs C Λ En body.turn-1 (anyQ (Turned x)))
       unfolding afterTurn
       ends x gone =
           assigns ! (of-opd ! (load ! (from ! (fld ! refl (fld ! refl (stop !)))) (look-in ! 3 (sub ! 0 refl (sub ! 0 refl (whole !)))))) (from ! (stop !)) (init ! 6 refl (tt, tt)) $
@@ -319,11 +319,11 @@ module _ {M : Type 1} (𝓤 : URA M) (H : Heap 𝓤) (A : Atoms 𝓤) (W : Given
           move ! (10 ∷ 11 ∷ []) $ free1 ! $ move ! (9 ∷ 10 ∷ []) $ free1 ! $ move ! (3 ∷ 9 ∷ []) $ free1 ! $ move ! (3 ∷ 8 ∷ []) $ free1 ! $ move ! (3 ∷ 7 ∷ []) $ free1 ! $ move ! (3 ∷ 6 ∷ []) $ free1 ! $ move ! (3 ∷ 5 ∷ []) $ free1 ! $ move ! (3 ∷ 4 ∷ []) $ free1 ! $ free0 ! $
           omit ! $ by ! (exits (x .1 .0) (sym (all-read xs (x .1 .1 .0 .0) (x .0) (x .1 .0) gone) ∙ x .1 .1 .0 .1 .0) (x .1 .1 .1))
 
-      turns : (x : Turn) → Sq W (At x) (runs C Λ En body.turn-1 (anyQ (Turned x)))
+      turns : (x : Lap) → Sq W (At x) (runs C Λ En body.turn-1 (anyQ (Turned x)))
       turns x = elim (test (recordAt xs (x .0) .there)) [ inl y ↦ more x y | inr z ↦ ends x z ]
 
       -- ---- before the loop, in two parts, each with its context written out: the kernel checks each by itself
-      abbrev start : Turn
+      abbrev start : Lap
       start = (0, (0, ((n, (all-of xs, all-left)), lit< tt)))
 
       -- the locals that `f` has while it calls: _4 is what `l4` says, and _2 what `l2` says
@@ -332,13 +332,13 @@ module _ {M : Type 1} (𝓤 : URA M) (H : Heap 𝓤) (A : Atoms 𝓤) (W : Given
           ∷ ‵ (froom (tyInt w64) l₃ 0) ∷ ‵ (fdies (tyInt w64) l₃) ∷ l2 ∷ ‵ (fdies gotTy l₂) ∷ ‵ (fat fullShare logTy l₁ 0 v) ∷ ‵ (fdies logTy l₁) ∷ ‵ (froom (tyInt w64) l₀ 0) ∷ ‵ (fdies (tyInt w64) l₀) ∷ []
 
       -- from what `next` handed back to the loop
-      looped : (g : Got) (w u′ : Val) → g ≡ after (reader 0) → u′ ∷ [] ≡ G′.lowered (after (reader 0)) ∷ []
+      looped : (g : RecordRead) (w u′ : Val) → g ≡ after (reader 0) → u′ ∷ [] ≡ G′.lowered (after (reader 0)) ∷ []
           → Sq W (‵ (BG (κ, tt) .own g (u′ ∷ [])) ∷ Token ∷ ‵ Own ∷ Locals (‵ (fat fullShare readerTy l₄ 0 w)) (‵ (fat fullShare gotTy l₂ 0 u′))) (runs C Λ En body.t-3 (atRet En Post))
       looped g w u′ e h =
           assigns ! (of-opd ! (lit ! tt)) (from ! (stop !)) (init ! 11 refl (tt, record { fits = lit< tt })) $ forget ! 9 refl $
           rewrite ! 13 (λ (z : Val). ‵ (fat fullShare gotTy l₂ 0 z)) (ap only h) refl $
           rewrite ! 0 (λ (us : List Val). ‵ (BG (κ, tt) .own g us)) h refl $
-          rewrite ! 0 (λ (k : Got). ‵ (BG (κ, tt) .own k (G′.lowered (after (reader 0)) ∷ []))) e refl $
+          rewrite ! 0 (λ (k : RecordRead). ‵ (BG (κ, tt) .own k (G′.lowered (after (reader 0)) ∷ []))) e refl $
           keep ! (0 ∷ 1 ∷ 2 ∷ 13 ∷ 11 ∷ 9 ∷ 7 ∷ 5 ∷ 3 ∷ 15 ∷ 17 ∷ 18 ∷ 16 ∷ 14 ∷ 12 ∷ 10 ∷ 8 ∷ 6 ∷ 4 ∷ []) $
           first ! $ blocks ! $ loops ! 𝓣 Nearer nearer-wf At turns start
 
@@ -348,7 +348,7 @@ module _ {M : Type 1} (𝓤 : URA M) (H : Heap 𝓤) (A : Atoms 𝓤) (W : Given
       called r u e =
           use2 W (raw (Next 𝓤 H A mem run .pre (to-next r u))) (goes-next r u) $
           calls-at ! fm (Next 𝓤 H A mem run) known-next (to-next r u) (and-then ! (load ! (from ! (stop !)) (look ! 8 refl)) (no-more !)) (λ u′.
-          use1 W (later (some (λ (g : Got). (Token ⊛ ‵ (BG (κ, tt) .own g (u′ ∷ []))) ⊛ raw (ensured 𝓤 H A next.ended (next.clauses 𝓤 H A mem run) (κ, tt) (r, tt) tt g)))) (id⊢ 𝓤 _) $ await ! tt $ pick ! (λ g.
+          use1 W (later (some (λ (g : RecordRead). (Token ⊛ ‵ (BG (κ, tt) .own g (u′ ∷ []))) ⊛ raw (ensured 𝓤 H A next.ended (next.clauses 𝓤 H A mem run) (κ, tt) (r, tt) tt g)))) (id⊢ 𝓤 _) $ await ! tt $ pick ! (λ g.
           split ! $ move ! (1 ∷ []) $ use1 W (raw (fact 𝓤 (g ≡ after r))) (next-said r g) $ heard ! (g ≡ after r) (λ e′. split ! $ move ! (1 ∷ []) $
           peeks ! (BG (κ, tt)) (Is (BG (κ, tt))) (shows 𝓤 H A (BG (κ, tt))) g (u′ ∷ []) (λ is′.
           land ! (from ! (stop !)) (init ! 13 refl (LL.lawful (G.the-type αᵉ) (G′.the-laws αᵉ) 𝓤 H A W .typed g _ is′ .0)) $

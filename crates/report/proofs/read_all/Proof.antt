@@ -9,10 +9,10 @@ use Rattle.report.proofs.read_all.Statement.{statement}
 use Rattle.report.proofs.read_all.Tie as tie
 
 abbrev Inv-loop : tie.InvT-loop
-Inv-loop buf₀ page₀ mark₀ turns₀ buf page mark turns = (length buf ≡ length buf₀) × Sound (page .table) × Room mark
+Inv-loop buf₀ page₀ fill₀ turns₀ buf page fill turns = (length buf ≡ length buf₀) × Sound (page .table) × Room fill
 
 abbrev μ-loop : tie.MeasureT-loop
-μ-loop buf₀ page₀ mark₀ turns₀ buf page mark turns = turns
+μ-loop buf₀ page₀ fill₀ turns₀ buf page fill turns = turns
 
 start-requires : tie.Need-start-requires Inv-loop μ-loop
 start-requires c κs = search needs

@@ -10,10 +10,10 @@ use Rattle.report.proofs.take_part.Statement.{statement}
 use Rattle.report.proofs.take_part.Tie as tie
 
 abbrev Inv-loop : tie.InvT-loop
-Inv-loop buf₀ part out₀ page₀ mark₀ from₀ buf out page mark from = (length buf ≡ length buf₀) × Sound (page .table) × Room mark × (from ≤ length part) × (length out ≡ 65536)
+Inv-loop buf₀ part out₀ page₀ fill₀ from₀ buf out page fill from = (length buf ≡ length buf₀) × Sound (page .table) × Room fill × (from ≤ length part) × (length out ≡ 65536)
 
 abbrev μ-loop : tie.MeasureT-loop
-μ-loop buf₀ part out₀ page₀ mark₀ from₀ buf out page mark from = length part - from
+μ-loop buf₀ part out₀ page₀ fill₀ from₀ buf out page fill from = length part - from
 
 large-buffer-requires : tie.Need-large-buffer-requires Inv-loop μ-loop
 large-buffer-requires c κs = search needs

@@ -5,8 +5,8 @@ use borrow.Author.Needs.{needs}
 use Rattle.report.proofs.take_sheet.Statement.{statement}
 use Rattle.report.proofs.take_sheet.Tie as tie
 
-read-opening-requires : tie.Need-read-opening-requires
-read-opening-requires c κs = search needs
+read-lone-sheet-requires : tie.Need-read-lone-sheet-requires
+read-lone-sheet-requires c κs = search needs
 
 enum-told : tie.Need-enum-told
 enum-told c = search needs
@@ -18,7 +18,7 @@ enum-known-s : tie.Need-enum-known-s
 enum-known-s c = search needs
 
 new-table-requires : tie.Need-new-table-requires
-new-table-requires c κs = opened-is ((c .before .before .before .before .before .before .before .before .before) .args .block .now) _ (sym ((c .before .before .before) .read-opening .ensures) ∙ (c .before) .s .given .1)
+new-table-requires c κs = opened-is ((c .before .before .before .before .before .before .before .before .before) .args .block .now) _ (sym ((c .before .before .before) .read-lone-sheet .ensures) ∙ (c .before) .s .given .1)
 
 put-start-requires : tie.Need-put-start-requires
 put-start-requires c κs = search needs
@@ -39,7 +39,7 @@ pub take-sheet-spec : {M : Type 1} → statement M
 take-sheet-spec =
     tie.close
     (tie.spec
-    read-opening-requires
+    read-lone-sheet-requires
     enum-told
     put-bad-sheet-requires
     enum-known-s

@@ -21,7 +21,7 @@ awaits-block-requires c κs = search needs
 feed-awaiting-requires : tie.Need-feed-awaiting-requires
 feed-awaiting-requires c κs =
     let s = c .before .before .before .before .before .before .before .before .before .before in
-    (s .pre .0 .sound, s .pre .0 .room, awaits-open (s .args .c .opened) (s .args .c .mark) (c .before .before .before .awaits-block .ensures) (c .before .before .if2 .taken), s .pre .1)
+    (s .pre .0 .sound, s .pre .0 .room, awaits-open (s .args .c .opened) (s .args .c .fill) (c .before .before .before .awaits-block .ensures) (c .before .before .if2 .taken), s .pre .1)
 
 same-length : tie.Need-same-length
 same-length c = search needs
@@ -33,7 +33,7 @@ returns-2 : tie.Need-returns-2
 returns-2 c =
     let s = c .before .before .before .before .before .before .before .before .before .before .before .before .before .before .before in
     let f = c .before .before .before .before .feed-awaiting in
-    let o = awaits-is (s .args .c .opened) (s .args .c .mark) (sym (c .before .before .before .before .before .before .before .before .awaits-block .ensures) ∙ c .before .before .before .before .before .before .before .if2 .taken) .0 in
+    let o = awaits-is (s .args .c .opened) (s .args .c .fill) (sym (c .before .before .before .before .before .before .before .before .awaits-block .ensures) ∙ c .before .before .before .before .before .before .before .if2 .taken) .0 in
     let q = clerk-is (s .args .c) true (c .before .before .before .before .before .before .before .before .before .before .before .if1 .left) o in (
       fed-as q (f .ensures .0),
       (

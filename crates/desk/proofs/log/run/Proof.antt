@@ -7,8 +7,8 @@ use mathlib.Core.Path.{sym, _∙_}
 use Rattle.desk.proofs.log.run.Statement.{statement}
 use Rattle.desk.proofs.log.run.Tie as tie
 
-read-opening-requires : tie.Need-read-opening-requires
-read-opening-requires c κs = search needs
+read-lone-sheet-requires : tie.Need-read-lone-sheet-requires
+read-lone-sheet-requires c κs = search needs
 
 enum-told : tie.Need-enum-told
 enum-told c = search needs
@@ -20,7 +20,7 @@ enum-known-s : tie.Need-enum-known-s
 enum-known-s c = search needs
 
 new-table-requires : tie.Need-new-table-requires
-new-table-requires c κs = opened-is ((c .before .before .before .before .before .before) .args .log .now) _ (sym (c .before .before .before .read-opening .ensures) ∙ c .before .s .given .1)
+new-table-requires c κs = opened-is ((c .before .before .before .before .before .before) .args .log .now) _ (sym (c .before .before .before .read-lone-sheet .ensures) ∙ c .before .s .given .1)
 
 after-sheet-requires : tie.Need-after-sheet-requires
 after-sheet-requires c κs = search needs
@@ -32,19 +32,19 @@ same-length : tie.Need-same-length
 same-length c = search needs
 
 returns : tie.Need-returns
-returns c = rw (run-bad ((c .before .before .before .before .before .before .before .before .before) .args .log .now) _ (length ((c .before .before .before .before .before .before .before .before .before) .args .out .now)) (c .before .before .before .before .before .before .read-opening .ensures) (c .before .before .before .before .enum-told .given .1)) (c .before .before .refuse-sheet .ensures)
+returns c = rw (run-bad ((c .before .before .before .before .before .before .before .before .before) .args .log .now) _ (length ((c .before .before .before .before .before .before .before .before .before) .args .out .now)) (c .before .before .before .before .before .before .read-lone-sheet .ensures) (c .before .before .before .before .enum-told .given .1)) (c .before .before .refuse-sheet .ensures)
 
 same-length-2 : tie.Need-same-length-2
 same-length-2 c = search needs
 
 returns-2 : tie.Need-returns-2
-returns-2 c = rw (run-good ((c .before .before .before .before .before .before .before .before .before .before .before .before) .args .log .now) _ _ (length ((c .before .before .before .before .before .before .before .before .before .before .before .before) .args .out .now)) (c .before .before .before .before .before .before .before .before .before .read-opening .ensures) (c .before .before .before .before .before .before .before .s .given .1) (c .before .before .before .before .before .new-table .ensures .0) (c .before .before .before .before .after-sheet .ensures)) (c .before .before .blocks2 .ensures)
+returns-2 c = rw (run-good ((c .before .before .before .before .before .before .before .before .before .before .before .before) .args .log .now) _ _ (length ((c .before .before .before .before .before .before .before .before .before .before .before .before) .args .out .now)) (c .before .before .before .before .before .before .before .before .before .read-lone-sheet .ensures) (c .before .before .before .before .before .before .before .s .given .1) (c .before .before .before .before .before .new-table .ensures .0) (c .before .before .before .before .after-sheet .ensures)) (c .before .before .blocks2 .ensures)
 
 pub run-spec : {M : Type 1} → statement M
 run-spec =
     tie.close
     (tie.spec
-    read-opening-requires
+    read-lone-sheet-requires
     enum-told
     refuse-sheet-requires
     enum-known-s

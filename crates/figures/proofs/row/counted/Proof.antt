@@ -1,5 +1,5 @@
 -- `counted` meets its contract, by its tests.
-use Rattle.figures.specs.Row.{countedOf}
+use Rattle.figures.specs.ScreenRow.{countedOf}
 use borrow.Author.Tests.{eq-eqb, ne-eqb}
 use native.Mathlib.Omega.{arith}
 use borrow.Author.Needs.{needs}

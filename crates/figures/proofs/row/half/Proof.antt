@@ -1,5 +1,5 @@
 -- `half` meets its contract.
-use Rattle.figures.specs.Row.{halfRow}
+use Rattle.figures.specs.ScreenRow.{halfRow}
 use borrow.Author.Needs.{needs}
 use Rattle.figures.proofs.row.half.Statement.{statement}
 use Rattle.figures.proofs.row.half.Tie as tie

@@ -1,5 +1,5 @@
 -- `put_amount` meets its contract.
-use Rattle.figures.specs.Row.{amountOf}
+use Rattle.figures.specs.ScreenRow.{amountOf}
 use borrow.Author.Needs.{needs}
 use Rattle.figures.proofs.row.put_amount.Statement.{statement}
 use Rattle.figures.proofs.row.put_amount.Tie as tie

@@ -1,6 +1,6 @@
 -- `put_cell` meets its contract: its three parts stand one behind the other.
 use Rattle.figures.proofs.Puts.{next}
-use Rattle.figures.specs.Row.{cellOf}
+use Rattle.figures.specs.ScreenRow.{cellOf}
 use native.Mathlib.Omega.{arith}
 use borrow.Author.Needs.{needs}
 use Rattle.figures.proofs.row.put_cell.Statement.{statement}

@@ -1,5 +1,5 @@
 -- `put_lamp_cell` meets its contract.
-use Rattle.figures.specs.Row.{lampCell}
+use Rattle.figures.specs.ScreenRow.{lampCell}
 use borrow.Author.Needs.{needs}
 use Rattle.figures.proofs.row.put_lamp_cell.Statement.{statement}
 use Rattle.figures.proofs.row.put_lamp_cell.Tie as tie

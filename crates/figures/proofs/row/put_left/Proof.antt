@@ -2,7 +2,7 @@
 use mathlib.Core.Path.{sym}
 use Rattle.figures.proofs.Tables.{label-row}
 use Rattle.figures.proofs.Puts.{next}
-use Rattle.figures.specs.Row.{leftOf}
+use Rattle.figures.specs.ScreenRow.{leftOf}
 use native.Mathlib.Omega.{arith}
 use mathlib.Core.Path.{_≡_}
 use lib.ListN.{length}

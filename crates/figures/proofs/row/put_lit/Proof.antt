@@ -1,6 +1,6 @@
 -- `put_lit` meets its contract: its three parts stand one behind the other.
 use Rattle.figures.proofs.Puts.{next}
-use Rattle.figures.specs.Row.{litOf}
+use Rattle.figures.specs.ScreenRow.{litOf}
 use native.Mathlib.Omega.{arith}
 use borrow.Author.Needs.{needs}
 use Rattle.figures.proofs.row.put_lit.Statement.{statement}

@@ -2,7 +2,7 @@
 use mathlib.Core.Path.{sym}
 use Rattle.figures.proofs.Tables.{words-row}
 use Rattle.figures.proofs.Puts.{next}
-use Rattle.figures.specs.Row.{wordsRow}
+use Rattle.figures.specs.ScreenRow.{wordsRow}
 use native.Mathlib.Omega.{arith}
 use borrow.Author.Needs.{needs}
 use Rattle.figures.proofs.row.put_words.Statement.{statement}

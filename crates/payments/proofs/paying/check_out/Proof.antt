@@ -2,7 +2,7 @@
 use borrow.Author.Needs.{length-unmapped, needs}
 use Rattle.payments.proofs.Same.{wrote-as}
 use Rattle.payments.proofs.Deciding.{few-listed, checked-bad, checked-good}
-use Rattle.payments.proofs.Small.{judged-small}
+use Rattle.payments.proofs.SmallRows.{judged-small}
 use Rattle.payments.specs.Payments.{checked}
 use Rattle.teller.specs.Keeping.{faulty}
 use Rattle.laws.specs.Tests.{either}

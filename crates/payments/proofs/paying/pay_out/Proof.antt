@@ -3,7 +3,7 @@ use borrow.Author.Needs.{length-unmapped, needs}
 use Rattle.answers.proofs.Blocks.{length-mapped}
 use Rattle.payments.proofs.Same.{does-as}
 use Rattle.payments.proofs.Deciding.{few-listed, proposed-long, list-kept, list-written, list-front, code-is, list-is, out-bad, out-refused, out-paid}
-use Rattle.payments.proofs.Small.{proposing-small}
+use Rattle.payments.proofs.SmallRows.{proposing-small}
 use Rattle.payments.specs.Payments.{long, refusal, payment}
 use borrow.Rule.Slice.PartMut.{midOf}
 use native.Mathlib.Omega.{arith}

@@ -3,7 +3,7 @@ use Rattle.payments.specs.Payments.{giveText}
 use Rattle.answers.proofs.Blocks.{joined-more}
 use Rattle.answers.specs.Answer.{joined}
 use Rattle.writing.proofs.Sheets.{then}
-use Rattle.writing.specs.Sheet.{Wrote}
+use Rattle.writing.specs.AnswerSheet.{Wrote}
 use borrow.Author.Needs.{needs}
 use native.Mathlib.Omega.{arith}
 use lib.Seq.{take-all}

@@ -1,8 +1,8 @@
 -- `payments::writer::put_sittings` meets its contract: each sitting with its part of the proposal. Assumes nothing.
 use Rattle.payments.proofs.Cutting.{part-within, part-most, part-long, sittings-turn}
-use Rattle.payments.proofs.Small.{take-each, drop-each}
+use Rattle.payments.proofs.SmallRows.{take-each, drop-each}
 use Rattle.payments.specs.Payments.{sittingsText}
-use Rattle.writing.specs.Sheet.{Wrote}
+use Rattle.writing.specs.AnswerSheet.{Wrote}
 use borrow.Rule.Slice.PartMut.{mid-len}
 use borrow.Author.Needs.{needs}
 use native.Mathlib.Omega.{arith}

@@ -44,7 +44,7 @@ use denote.Exit.{yes}
 use denote.Triple.Clauses.{ensured, lasts}
 use Rattle.records.specs.Stored.{recordAt}
 use Rattle.records.specs.declared.Record.{Record}
-use Rattle.records.specs.declared.Got.{Got}
+use Rattle.records.specs.declared.RecordRead.{RecordRead}
 use Rattle.records.specs.declared.Reader.{Reader}
 use Rattle.records.proofs.record_at.Symbol.{name as #records·record-at}
 use Rattle.records.proofs.Reader.next.Key.{name as #records·Reader·next}
@@ -53,8 +53,8 @@ use Rattle.records.proofs.Reader as T
 use Rattle.records.proofs.Reader.Laws as T′
 use Rattle.records.proofs.Record as R
 use Rattle.records.proofs.Record.Laws as R′
-use Rattle.records.proofs.Got as G
-use Rattle.records.proofs.Got.Laws as G′
+use Rattle.records.proofs.RecordRead as G
+use Rattle.records.proofs.RecordRead.Laws as G′
 use Rattle.records.proofs.record_at as step
 use Rattle.records.proofs.record_at.Symbol as step-def
 use Rattle.records.proofs.record_at.Met as step-thm
@@ -133,7 +133,7 @@ module _ {M : Type 1} (𝓤 : URA M) (H : Heap 𝓤) (A : Atoms 𝓤) (W : Given
     abbrev d′ : Reader
     d′ = record { log = d .log; at = r .next }
 
-    abbrev made : Got
+    abbrev made : RecordRead
     made = record { got = r; rest = d′ }
 
     abbrev machR : Val

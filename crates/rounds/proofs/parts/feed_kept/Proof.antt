@@ -13,7 +13,7 @@ same-length c = search needs
 
 returns : tie.Need-returns
 returns c = let g = c .before .before .before .before .gather in
-    let p = fed-kept (g .result .mark) _ (g .ensures .0 .0) ((c .before .before .before .before .before .before .before .before .before) .args .out .now) (c .if1 .taken) in
+    let p = fed-kept (g .result .fill) _ (g .ensures .0 .0) ((c .before .before .before .before .before .before .before .before .before) .args .out .now) (c .if1 .taken) in
     (g .ensures .0 .1, (p .0, (p .1, (record { room = g .ensures .1 .0; lines = c .if1 .taken }, g .ensures .1 .1, g .ensures .1 .2, omega arith))))
 
 sub-answer : tie.Need-sub-answer
@@ -40,7 +40,7 @@ same-length-3 c = search needs
 returns-2 : tie.Need-returns-2
 returns-2 c = let g = c .before .before .before .before .before .before .before .before .before .before .before .gather in
     let z = c .empty .ensures in
-    let p = fed-whole (g .result .mark) _ (g .ensures .0 .0) (c .empty .result) _ (c .before .before .before .before .before .before .before .if1 .left) (z .1) (z .2) (z .3) (c .before .before .before .answer .ensures .0) in
+    let p = fed-whole (g .result .fill) _ (g .ensures .0 .0) (c .empty .result) _ (c .before .before .before .before .before .before .before .if1 .left) (z .1) (z .2) (z .3) (c .before .before .before .answer .ensures .0) in
     (g .ensures .0 .1, (p .0, (p .1, (z .0, g .ensures .1 .1, g .ensures .1 .2, c .before .before .before .answer .ensures .1))))
 
 pub feed-kept-spec : {M : Type 1} → statement M

@@ -1,7 +1,7 @@
 -- `after_block` meets its contract: the block was judged, and what it told is kept.
 use mathlib.Core.Path.{ap}
 use native.Mathlib.Omega.{arith}
-use Rattle.lines.specs.declared.Mark.{Mark}
+use Rattle.lines.specs.declared.Fill.{Fill}
 use Rattle.seen.proofs.Feeds.{block-seen}
 use borrow.Author.Needs.{needs}
 use Rattle.seen.proofs.feed.after_block.Statement.{statement}
@@ -24,7 +24,7 @@ returns c = let s = c .before .before .before .before .before .before .before .b
     let z = c .empty .ensures in
     let j = c .before .before .before .before .before .judge .ensures in (
       block-seen (s .args .s) (s .args .block .now) (j .0) (c .before .before .before .read-block .ensures) (c .before .before .after .ensures) (z .0),
-      record { sound = j .1; room = z .1; lines = omega (arith, ap (λ (m : Mark). m .lines) (z .0)) },
+      record { sound = j .1; room = z .1; lines = omega (arith, ap (λ (m : Fill). m .lines) (z .0)) },
     )
 
 pub after-block-spec : {M : Type 1} → statement M

@@ -12,7 +12,7 @@ use lib.ListN.{length, set, length-append, length-set}
 use Rattle.laws.specs.Tests.{pick}
 use Rattle.laws.proofs.Sums.{le-or-lt}
 use Rattle.text.specs.Number.{digits}
-use Rattle.writing.specs.Sheet.{Wrote}
+use Rattle.writing.specs.AnswerSheet.{Wrote}
 use Rattle.text.proofs.Numbers.{digits-one, digits-more}
 use Rattle.writing.proofs.Sheets.{push}
 use Rattle.writing.proofs.decimal.put_digits.Statement.{statement}
@@ -76,14 +76,14 @@ lower (suc j) w e h =
     (j, q, rw q (sym d))
 
 -- what holds before the turn for the place where a one is worth w, a power of ten
-abbrev Turn : ℕ → List ℕ → List ℕ → ℕ → ℕ → Type 0
-Turn n old new at w = (j : ℕ) × (w ≡ 10 ^ j) × (length new ≡ length old) × Wrote (downTo n (w * 10)) old new at
+abbrev Lap : ℕ → List ℕ → List ℕ → ℕ → ℕ → Type 0
+Lap n old new at w = (j : ℕ) × (w ≡ 10 ^ j) × (length new ≡ length old) × Wrote (downTo n (w * 10)) old new at
 
 -- it holds before the first, from any place that n does not reach above
-begin : (n : ℕ) (old : List ℕ) (j w : ℕ) → w ≡ 10 ^ j → n < w * 10 → Turn n old old 0 w
+begin : (n : ℕ) (old : List ℕ) (j w : ℕ) → w ≡ 10 ^ j → n < w * 10 → Lap n old old 0 w
 begin n old j w e h = (j, e, refl, rw (to-none n (w * 10) h) (record { count = refl; sheet = refl }))
 
-module _ {n at w : ℕ} {old new : List ℕ} (b : n < 10 ^ 9) (h : length (digits n) ≤ length old) (t : Turn n old new at w) where
+module _ {n at w : ℕ} {old new : List ℕ} (b : n < 10 ^ 9) (h : length (digits n) ≤ length old) (t : Lap n old new at w) where
   space : length (downTo n (w * 10)) < length old
   space =
       let few : length (downTo n (w * 10)) < length (digits n) = rw (t .1) (fewer (t .0) n b) in
@@ -92,7 +92,7 @@ module _ {n at w : ℕ} {old new : List ℕ} (b : n < 10 ^ 9) (h : length (digit
   room : at < length new
   room = omega (arith, space, t .2, t .3 .count)
 
-  turn-on : 1 < w → w ≤ n → Turn n old (set new at (48 + n / w % 10)) (at + 1) (w / 10)
+  turn-on : 1 < w → w ≤ n → Lap n old (set new at (48 + n / w % 10)) (at + 1) (w / 10)
   turn-on o k =
       let q = lower (t .0) w (t .1) o in (
         q .0,
@@ -101,7 +101,7 @@ module _ {n at w : ℕ} {old new : List ℕ} (b : n < 10 ^ 9) (h : length (digit
         rw (q .2, to-on n w b (omega arith) k) (push (48 + n / w % 10) space (t .3)),
       )
 
-  turn-off : 1 < w → n < w → Turn n old new at (w / 10)
+  turn-off : 1 < w → n < w → Lap n old new at (w / 10)
   turn-off o k =
       let q = lower (t .0) w (t .1) o in
       (q .0, q .1, t .2, rw (q .2, to-off n w k) (t .3))
@@ -114,7 +114,7 @@ module _ {n at w : ℕ} {old new : List ℕ} (b : n < 10 ^ 9) (h : length (digit
       rw (to-last n b) (push (48 + n % 10) l (subst (λ (v : ℕ). Wrote (downTo n (v * 10)) old new at) e (t .3)))
 
 abbrev Inv-loop : tie.InvT-loop
-Inv-loop sheet₀ n at₀ worth₀ sheet at worth = Turn n sheet₀ sheet at worth
+Inv-loop sheet₀ n at₀ worth₀ sheet at worth = Lap n sheet₀ sheet at worth
 
 abbrev μ-loop : tie.MeasureT-loop
 μ-loop sheet₀ n at₀ worth₀ sheet at worth = worth

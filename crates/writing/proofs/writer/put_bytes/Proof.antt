@@ -5,7 +5,7 @@ use mathlib.Core.List.{List}
 use Prim.Native.Nat.{ℕ, _-_, _≤_}
 use lib.ListN.{length, take, length-set}
 use lib.Seq.{take-all}
-use Rattle.writing.specs.Sheet.{over}
+use Rattle.writing.specs.AnswerSheet.{over}
 use Rattle.writing.proofs.Sheets.{copy-on}
 use native.Mathlib.Omega.{arith}
 use Rattle.writing.proofs.writer.put_bytes.Statement.{statement}

@@ -1,0 +1,47 @@
+-- `blank_from` meets its contract.
+use Prim.Native.Nat.{_-_}
+use Rattle.answers.specs.Answer.{longest}
+use borrow.Author.Needs.{needs}
+use Rattle.try_rooms.proofs.blank_from.Statement.{statement}
+use Rattle.try_rooms.proofs.blank_from.Tie as tie
+
+abbrev Inv-loop : tie.InvT-loop
+Inv-loop sheet from i₀ i = Unit {0}
+
+abbrev μ-loop : tie.MeasureT-loop
+μ-loop sheet from i₀ i = longest - i
+
+loop-holds : tie.Need-loop-holds Inv-loop μ-loop
+loop-holds c = search needs
+
+element-copy-out-if1 : tie.Need-element-copy-out-if1 Inv-loop μ-loop
+element-copy-out-if1 c = search needs
+
+returns : tie.Need-returns Inv-loop μ-loop
+returns c = search needs
+
+add-i : tie.Need-add-i Inv-loop μ-loop
+add-i c = search needs
+
+loop-less : tie.Need-loop-less Inv-loop μ-loop
+loop-less c = search needs
+
+loop-again : tie.Need-loop-again Inv-loop μ-loop
+loop-again c = search needs
+
+returns-2 : tie.Need-returns-2 Inv-loop μ-loop
+returns-2 c = search needs
+
+pub blank-from-spec : {M : Type 1} → statement M
+blank-from-spec =
+    tie.close
+    (tie.spec
+    Inv-loop
+    μ-loop
+    loop-holds
+    element-copy-out-if1
+    returns
+    add-i
+    loop-less
+    loop-again
+    returns-2)
