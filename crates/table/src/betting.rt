@@ -81,8 +81,8 @@ pub(crate) fn called(t: Table, s: u32) -> Table
     after_act(t, s, d)
 }
 
-// Whether a wager to a lifts the mark by at least the lift.
-fn full_lift(mark: u32, lift: u32, a: u32) -> bool
+// "a is at least mark plus lift".
+fn reaches_lift(mark: u32, lift: u32, a: u32) -> bool
     ensures { λ r. ⌜ r ≡ leb (mark + lift) a ⌝ }
 {
     mark as u64 + lift as u64 <= a as u64
@@ -101,7 +101,7 @@ fn may_wager(t: Table, c: Chair, a: u32) -> bool
 {
     let put = laws::short_of(a, chairs::round_of(c));
     let whole = put == c.stack;
-    let full = full_lift(t.play.mark, t.play.lift, a);
+    let full = reaches_lift(t.play.mark, t.play.lift, a);
     let enough = both(t.play.mark < a, both(put <= c.stack, either(whole, full)));
     both(may_raise(c), enough)
 }

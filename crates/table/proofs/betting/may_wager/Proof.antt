@@ -10,8 +10,8 @@ round-of-requires c κs = search needs
 short-of-requires : tie.Need-short-of-requires
 short-of-requires c κs = search needs
 
-full-lift-requires : tie.Need-full-lift-requires
-full-lift-requires c κs = search needs
+reaches-lift-requires : tie.Need-reaches-lift-requires
+reaches-lift-requires c κs = search needs
 
 either-requires : tie.Need-either-requires
 either-requires c κs = search needs
@@ -30,7 +30,7 @@ both-requires-3 c κs = search needs
 
 returns : tie.Need-returns
 unfolding isWager
-returns c = rw (c .before .may-raise .ensures, c .before .before .both2 .ensures, c .before .before .before .both .ensures, c .before .before .before .before .either .ensures, c .before .before .before .before .before .before .before .full-lift .ensures, c .before .before .before .before .before .before .before .before .before .short-of .ensures, c .before .before .before .before .before .before .before .before .before .before .round-of .ensures) at (c .both3 .ensures)
+returns c = rw (c .before .may-raise .ensures, c .before .before .both2 .ensures, c .before .before .before .both .ensures, c .before .before .before .before .either .ensures, c .before .before .before .before .before .before .before .reaches-lift .ensures, c .before .before .before .before .before .before .before .before .before .short-of .ensures, c .before .before .before .before .before .before .before .before .before .before .round-of .ensures) at (c .both3 .ensures)
 
 pub may-wager-spec : {M : Type 1} → statement M
 may-wager-spec =
@@ -38,7 +38,7 @@ may-wager-spec =
     (tie.spec
     round-of-requires
     short-of-requires
-    full-lift-requires
+    reaches-lift-requires
     either-requires
     both-requires
     both-requires-2
