@@ -34,7 +34,7 @@ fn same_sheet(a: Sheet, b: Sheet) -> bool {
 fn same_play(a: Play, b: Play) -> bool {
     both(
         both(same_flag(a.opened, b.opened), a.puck == b.puck),
-        both(both(a.fill == b.fill, a.lift == b.lift), a.turn == b.turn),
+        both(both(a.mark == b.mark, a.lift == b.lift), a.turn == b.turn),
     )
 }
 
