@@ -1,33 +1,28 @@
 -- Stored entries are read back: the records of taken entries give those entries, with one replaced the list with that one replaced; and a log that is read afresh
 -- is history's run of its entries. Assumes nothing.
 use mathlib.Core.Path.{_≡_, refl, sym, ap, ap₂, _∙_, subst}
-use mathlib.Core.Bool.{Bool, true, false, not}
-use mathlib.Core.List.{List, [], _∷_, _++_, append-assoc, map}
-use Prim.Native.Nat.{ℕ, zero, suc, _+_, _-_, _*_, _≤_, _<_, _^_}
+use mathlib.Core.Bool.{Bool, true, false}
+use mathlib.Core.List.{List, [], _∷_, _++_, append-assoc}
+use Prim.Native.Nat.{ℕ, zero, suc, _+_, _-_, _*_, _≤_, _<_}
 use native.Mathlib.Omega.{arith}
 use native.Mathlib.Nat.{not-suc-le-zero}
 use lib.ListN.{length, length-append}
-use lib.Dec.{leb, ltb, eqb}
-use borrow.Author.Tests.{leb-true, ltb-true, eqb-true, eqb-false, eq-eqb, ne-eqb}
-use Rattle.laws.specs.Tests.{pick, both, either}
-use Rattle.laws.proofs.Tests.{test, both-true}
-use Rattle.laws.proofs.Rules.{allBelow, below-all}
-use Rattle.paper.specs.Paper.{isSheet, between}
-use Rattle.paper.specs.SheetAndEntries.{rowAt, spared, ranged, spare, isSeat, leastIn, inSpan, makesEntry, numbersFit, numbersOf}
+use lib.Dec.{eqb}
+use borrow.Author.Tests.{eqb-true, eqb-false, eq-eqb, ne-eqb}
+use Rattle.laws.specs.Tests.{pick, both}
+use Rattle.paper.specs.Paper.{isSheet}
+use Rattle.paper.specs.SheetAndEntries.{numbersFit, numbersOf}
 use Rattle.paper.specs.declared.Sheet.{Sheet}
 use Rattle.paper.specs.declared.Numbers.{Numbers}
 use Rattle.paper.specs.declared.Entry.{Entry}
-use Rattle.paper.proofs.Codes.{between-in}
-use Rattle.paper.proofs.Sheets.{good-ranged}
-use Rattle.paper.proofs.Rows.{used-tests}
 use Rattle.table.specs.Take.{codeOf, nextOf}
 use Rattle.table.specs.declared.table.Table.{Table}
 use Rattle.table.proofs.Sounds.{passed}
+use Rattle.blocks.proofs.Bounds.{numbers-bounded}
 use Rattle.records.specs.Stored.{recordAt, recordBytes, entryBy, entryIn, putRecord}
 use Rattle.records.proofs.Again.{Fits, entry-back}
 use Rattle.records.proofs.Puts.{put-over}
 use Rattle.fresh.specs.Reading.{replacing, playedOf, playedTo}
-use Rattle.fresh.specs.declared.Played.{Played}
 use Rattle.fresh.proofs.Counts.{next-sheet, played-step, played-next}
 use Rattle.history.specs.History.{run, AllTaken}
 use Rattle.archive.specs.Archive.{recordsOf, replaced}
@@ -39,41 +34,8 @@ run-sheet sheet (e ∷ es) = next-sheet (run sheet es) (length es + 1) e ∙ run
 
 -- ---- a taken entry's numbers fit a record
 
-at-most : (used : Bool) (lo hi x : ℕ) → either (not used) (between lo hi x) ≡ true → spare used x ≡ true → x ≤ hi
-at-most true lo hi x p q = between-in lo hi x p .1
-at-most false lo hi x p q = omega (arith, eqb-true x 0 q)
-
-seat-most : (sheet : Sheet) (used : Bool) (x : ℕ) → either (not used) (isSeat sheet x) ≡ true → spare used x ≡ true → x ≤ sheet .seats
-unfolding isSeat
-seat-most sheet used x p q = at-most used 1 (sheet .seats) x p q
-
-abbrev few : ℕ → Bool
-few k = both (ltb (rowAt k .a .most) 1000000000) (ltb (rowAt k .b .most) 256)
-
-all-few : allBelow 12 few ≡ true
-all-few = refl
-
 numbers-fit : (sheet : Sheet) (x : Numbers) → isSheet sheet ≡ true → numbersFit sheet x ≡ true → Fits x
-numbers-fit sheet x s f =
-    let p = both-true (makesEntry x) (ranged sheet (rowAt (x .kind)) x) f in
-    let m = both-true (ltb (x .kind) 12) (spared (rowAt (x .kind)) x) (p .0) in
-    let row = rowAt (x .kind) in
-    let zero-sab = both-true (spare (row .seat) (x .seat)) (both (spare (row .a .used) (x .a)) (spare (row .b .used) (x .b))) (m .1) in
-    let zero-ab = both-true (spare (row .a .used) (x .a)) (spare (row .b .used) (x .b)) (zero-sab .1) in
-    let seat-in = either (not (row .seat)) (isSeat sheet (x .seat)) in
-    let a-in = either (not (row .a .used)) (inSpan (sheet .deck) (row .a) (x .a)) in
-    let b-in = either (not (row .b .used)) (inSpan (sheet .deck) (row .b) (x .b)) in
-    let in-sab = both-true seat-in (both a-in b-in) (used-tests (row .seat) (row .a .used) (row .b .used) (isSeat sheet (x .seat)) (inSpan (sheet .deck) (row .a) (x .a)) (inSpan (sheet .deck) (row .b) (x .b)) ∙ p .1) in
-    let in-ab = both-true a-in b-in (in-sab .1) in
-    let kind : x .kind < 12 = ltb-true (x .kind) 12 (m .0) in
-    let few-ab = both-true (ltb (row .a .most) 1000000000) (ltb (row .b .most) 256) (below-all 12 few all-few (x .kind) kind) in
-    let most-a : row .a .most < 1000000000 = ltb-true _ _ (few-ab .0) in
-    let most-b : row .b .most < 256 = ltb-true _ _ (few-ab .1) in
-    let seats : sheet .seats ≤ 10 = good-ranged sheet s .seats .1 in
-    let seat : x .seat ≤ sheet .seats = seat-most sheet (row .seat) (x .seat) (in-sab .0) (zero-sab .0) in
-    let a : x .a ≤ row .a .most = at-most (row .a .used) (leastIn (sheet .deck) (row .a)) (row .a .most) (x .a) (in-ab .0) (zero-ab .0) in
-    let b : x .b ≤ row .b .most = at-most (row .b .used) (leastIn (sheet .deck) (row .b)) (row .b .most) (x .b) (in-ab .1) (zero-ab .1) in
-    record { kind = omega arith; seat = omega arith; b = omega arith; a = omega arith }
+numbers-fit sheet x s f = let m = numbers-bounded sheet x s f in record { kind = omega (arith, m .kind); seat = omega (arith, m .seat); b = m .b; a = omega (arith, m .a) }
 
 abbrev pub AllFit : List Entry → Type 0
 AllFit [] = Unit {0}

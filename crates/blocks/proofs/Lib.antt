@@ -4,3 +4,4 @@ pub mod Blocks
 pub mod Packs
 pub mod Entries
 pub mod Fronts
+pub mod Bounds

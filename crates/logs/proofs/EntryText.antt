@@ -2,23 +2,21 @@
 -- kinds, by their table, for any bytes behind the entry. Assumes nothing.
 use mathlib.Core.Path.{_≡_, refl, sym, ap, _∙_}
 use mathlib.Core.List.{List, [], _∷_, _++_, append-assoc}
-use mathlib.Core.Bool.{Bool, true, false, not}
+use mathlib.Core.Bool.{Bool, true, false}
 use Prim.Native.Nat.{ℕ, suc, _≤_, _<_}
 use native.Mathlib.Omega.{arith}
 use lib.ListN.{length, getD, length-append}
-use lib.Dec.{leb, ltb, eqb}
-use borrow.Author.Tests.{leb-true, ltb-true, eqb-true}
-use Rattle.laws.specs.Tests.{pick, both, either}
+use lib.Dec.{leb, eqb}
+use borrow.Author.Tests.{leb-true, eqb-true}
+use Rattle.laws.specs.Tests.{pick, both}
 use Rattle.laws.proofs.Tests.{both-true}
 use Rattle.laws.proofs.Rules.{allBelow, below-all}
-use Rattle.paper.specs.Paper.{isSheet, inRange, between}
-use Rattle.paper.specs.SheetAndEntries.{rowAt, spared, ranged, spare, isSeat, leastIn, inSpan, makesEntry, numbersFit, isCount, kindNames, numbersOf, made}
+use Rattle.paper.specs.Paper.{isSheet, inRange}
+use Rattle.paper.specs.SheetAndEntries.{numbersFit, isCount, kindNames, numbersOf, made}
 use Rattle.paper.specs.declared.Sheet.{Sheet}
 use Rattle.paper.specs.declared.Numbers.{Numbers}
 use Rattle.paper.specs.declared.Entry.{Entry}
 use Rattle.paper.proofs.Codes.{between-in}
-use Rattle.paper.proofs.Sheets.{good-ranged}
-use Rattle.paper.proofs.Rows.{used-tests}
 use Rattle.text.specs.Line.{afterLine, lineNumber, numberLine, valueOf, afterLines}
 use Rattle.blocks.specs.Block.{restOf, placeIn, allLetters, isWord, kindOf, lineKind, blockFrom, blockOf}
 use Rattle.text.specs.Bytes.{eqList}
@@ -30,6 +28,7 @@ use Rattle.blocks.specs.declared.Parsed.the-variants.{Read}
 use Rattle.text.proofs.Bytes.{eq-list}
 use Rattle.blocks.proofs.Blocks.{block-five}
 use Rattle.text.proofs.Lines.{line-count}
+use Rattle.blocks.proofs.Bounds.{numbers-bounded}
 use Rattle.blocks.proofs.Entries.{numbers-back, entry-back, read-is, kind-known}
 use Rattle.text.proofs.RoundTrip.{NoLF, no-append, value-is, after-is, read-line, read-rest}
 use Rattle.text.proofs.ReadBack.{value-back, line-back}
@@ -38,43 +37,11 @@ use Rattle.logs.proofs.SheetText.{letters-no}
 
 -- ---- the numbers of an entry in range have at most nine digits
 
--- a used number is at most what its range has as the greatest, and an unused one is 0
-at-most : (used : Bool) (lo hi x : ℕ) → either (not used) (between lo hi x) ≡ true → spare used x ≡ true → x ≤ hi
-at-most true lo hi x p q = between-in lo hi x p .1
-at-most false lo hi x p q = omega (arith, eqb-true x 0 q)
-
-abbrev few : ℕ → Bool
-few k = both (ltb (rowAt k .a .most) 1000000000) (ltb (rowAt k .b .most) 1000000000)
-
-all-few : allBelow 12 few ≡ true
-all-few = refl
-
-seat-most : (sheet : Sheet) (used : Bool) (x : ℕ) → either (not used) (isSeat sheet x) ≡ true → spare used x ≡ true → x ≤ sheet .seats
-unfolding isSeat
-seat-most sheet used x p q = at-most used 1 (sheet .seats) x p q
-
 pub fits-small : (sheet : Sheet) (n : ℕ) (x : Numbers) → isSheet sheet ≡ true → isCount n ≡ true → numbersFit sheet x ≡ true → SmallEntry n x
 fits-small sheet n x s c f =
-    let p = both-true (makesEntry x) (ranged sheet (rowAt (x .kind)) x) f in
-    let m = both-true (ltb (x .kind) 12) (spared (rowAt (x .kind)) x) (p .0) in
-    let row = rowAt (x .kind) in
-    let zero-sab = both-true (spare (row .seat) (x .seat)) (both (spare (row .a .used) (x .a)) (spare (row .b .used) (x .b))) (m .1) in
-    let zero-ab = both-true (spare (row .a .used) (x .a)) (spare (row .b .used) (x .b)) (zero-sab .1) in
-    let seat-in = either (not (row .seat)) (isSeat sheet (x .seat)) in
-    let a-in = either (not (row .a .used)) (inSpan (sheet .deck) (row .a) (x .a)) in
-    let b-in = either (not (row .b .used)) (inSpan (sheet .deck) (row .b) (x .b)) in
-    let in-sab = both-true seat-in (both a-in b-in) (used-tests (row .seat) (row .a .used) (row .b .used) (isSeat sheet (x .seat)) (inSpan (sheet .deck) (row .a) (x .a)) (inSpan (sheet .deck) (row .b) (x .b)) ∙ p .1) in
-    let in-ab = both-true a-in b-in (in-sab .1) in
-    let kind : x .kind < 12 = ltb-true (x .kind) 12 (m .0) in
-    let few-ab = both-true (ltb (row .a .most) 1000000000) (ltb (row .b .most) 1000000000) (below-all 12 few all-few (x .kind) kind) in
-    let most-a : row .a .most < 1000000000 = ltb-true _ _ (few-ab .0) in
-    let most-b : row .b .most < 1000000000 = ltb-true _ _ (few-ab .1) in
-    let seats : sheet .seats ≤ 10 = good-ranged sheet s .seats .1 in
-    let seat : x .seat ≤ sheet .seats = seat-most sheet (row .seat) (x .seat) (in-sab .0) (zero-sab .0) in
-    let a : x .a ≤ row .a .most = at-most (row .a .used) (leastIn (sheet .deck) (row .a)) (row .a .most) (x .a) (in-ab .0) (zero-ab .0) in
-    let b : x .b ≤ row .b .most = at-most (row .b .used) (leastIn (sheet .deck) (row .b)) (row .b .most) (x .b) (in-ab .1) (zero-ab .1) in
+    let m = numbers-bounded sheet x s f in
     let count : n ≤ 1000000 = between-in 1 1000000 n c .1 in
-    record { kind = kind; count = omega arith; seat = omega arith; a = omega arith; b = omega arith }
+    record { kind = m .kind; count = omega arith; seat = omega (arith, m .seat); a = omega (arith, m .a); b = omega (arith, m .b) }
 
 pub entry-small : (sheet : Sheet) (n : ℕ) (e : Entry) → isEntry sheet n e ≡ true → SmallEntry n (numbersOf e)
 unfolding isEntry inRange
