@@ -1,5 +1,6 @@
 -- THE ROUND TRIP: what was packed reads back: a chair (chair-back), any number of them one behind the other (chairs-back), the clerk (clerk-back); and `pack`
 -- leaves bytes that do. Each is what a machine's numbers and arrays are by their types (Fits). Assumes nothing.
+-- a word's four bytes, read together
 use mathlib.Core.Path.{_≡_, refl, sym, ap, _∙_}
 use mathlib.Core.Bool.{Bool, true, false}
 use mathlib.Core.List.{List, [], _∷_, _++_, map, append-assoc}
@@ -16,7 +17,6 @@ use Rattle.packed.specs.Layout.{isSet, cardsFour, cardsFive, chairWords,
 use Rattle.packed.specs.Fits.{IsWord, ChairFits, HeadFits}
 use Rattle.packed.proofs.Rows.{each-length, two-wrote}
 
--- a word's four bytes, read together
 abbrev sealed : ℕ → ℕ
 sealed w = w % 256 + 256 * (w / 256 % 256 + 256 * (w / 256 / 256 % 256 + 256 * (w / 256 / 256 / 256 % 256)))
 
@@ -107,8 +107,9 @@ clerk-back c rest h hs n =
     ∙ ap (λ (l : List ℕ). clerkOf ws (c .opened) (c .shut) (c .table .play .opened) (c .fill .bad) k l cs) (sym (h .cards))
     ∙ ap (λ (l : List Chair). clerkOf ws (c .opened) (c .shut) (c .table .play .opened) (c .fill .bad) k (c .table .board .cards) l) same
 
-clerk-length : (c : Clerk) → length (c .table .chairs) ≡ 10 → length (headBytes c ++ chairsBytes (c .table .chairs)) ≡ fieldsSize
-clerk-length c n =
+pub bytes-length : (c : Clerk) → length (c .table .chairs) ≡ 10 → length (clerkBytes c) ≡ fieldsSize
+unfolding clerkBytes
+bytes-length c n =
     length-append (headBytes c) (chairsBytes (c .table .chairs))
     ∙ ap (λ (k : ℕ). 82 + k) (each-length chairBytes 28 (λ (x : Chair). refl) (c .table .chairs) ∙ ap (λ (k : ℕ). 28 * k) n)
 
@@ -119,7 +120,7 @@ pub packed-is : (c : Clerk) {old s t new : List ℕ} {a b : ℕ} → Wrote (head
 unfolding clerkBytes
 packed-is c {old} {s} {t} {new} {a} {b} p q n h hs =
     let w : Wrote (headBytes c ++ chairsBytes (c .table .chairs)) old new (a + b) = two-wrote p refl q refl n in
-    let e : length (headBytes c ++ chairsBytes (c .table .chairs)) ≡ fieldsSize = clerk-length c (hs .1) in (
+    let e : length (headBytes c ++ chairsBytes (c .table .chairs)) ≡ fieldsSize = bytes-length c (hs .1) in (
       w .sheet ∙ ap (λ (k : ℕ). headBytes c ++ chairsBytes (c .table .chairs) ++ drop k old) e,
       ap clerkFrom (w .sheet) ∙ clerk-back c (drop (length (headBytes c ++ chairsBytes (c .table .chairs))) old) h (hs .0) (hs .1),
     )

@@ -5,13 +5,12 @@ use mathlib.Core.List.{List, [], _∷_, _++_, append-assoc, append-nil}
 use Prim.Native.Nat.{ℕ, suc, _+_, _-_, _*_, _≤_, _<_}
 use native.Mathlib.Omega.{arith}
 use native.Mathlib.Numerals.{add-one}
-use lib.ListN.{length, getD, take, drop, length-append, length-drop}
+use lib.ListN.{length, getD, take, length-append}
 use lib.Seq.{take-suc, take-all, length-take-le}
 use borrow.Rule.Slice.PartMut.{midOf, putMid}
 use Rattle.laws.specs.Lists.{All}
 use Rattle.writing.specs.AnswerSheet.{Wrote}
 use Rattle.writing.proofs.Sheets.{then}
-use Rattle.text.proofs.Parts.{part-is}
 use Rattle.packed.specs.Layout.{each}
 
 module _ {A : Type 0} where

@@ -1,3 +1,4 @@
 -- The clerk in a maker's bytes.
+
 pub mod Layout
 pub mod Fits

@@ -2,76 +2,55 @@
 use borrow.Author.Needs.{needs}
 use Rattle.packed.proofs.chair_in.Statement.{statement}
 use Rattle.packed.proofs.chair_in.Tie as tie
-use Rattle.packed.proofs.chair_in.Reads as reads
-use Rattle.packed.proofs.chair_in.Lts as lts
-use Rattle.packed.proofs.is_set.Reads as is-set-reads
-use Rattle.packed.proofs.word_at.Reads as word-at-reads
 
--- src/lib.rt:146:18
 word-at-requires : tie.Need-word-at-requires
 word-at-requires c κs = search needs
 
--- src/lib.rt:147:16
 word-at-requires-2 : tie.Need-word-at-requires-2
 word-at-requires-2 c κs = search needs
 
--- src/lib.rt:148:16
 word-at-requires-3 : tie.Need-word-at-requires-3
 word-at-requires-3 c κs = search needs
 
--- src/lib.rt:149:22
 shared-slice-read-is-set : tie.Need-shared-slice-read-is-set
 shared-slice-read-is-set c = search needs
 
--- src/lib.rt:149:15
 is-set-requires : tie.Need-is-set-requires
 is-set-requires c κs = search needs
 
--- src/lib.rt:150:23
 shared-slice-read-is-set-2 : tie.Need-shared-slice-read-is-set-2
 shared-slice-read-is-set-2 c = search needs
 
--- src/lib.rt:150:16
 is-set-requires-2 : tie.Need-is-set-requires-2
 is-set-requires-2 c κs = search needs
 
--- src/lib.rt:151:23
 shared-slice-read-is-set-3 : tie.Need-shared-slice-read-is-set-3
 shared-slice-read-is-set-3 c = search needs
 
--- src/lib.rt:151:16
 is-set-requires-3 : tie.Need-is-set-requires-3
 is-set-requires-3 c κs = search needs
 
--- src/lib.rt:154:16
 shared-slice-read-t9 : tie.Need-shared-slice-read-t9
 shared-slice-read-t9 c = search needs
 
--- src/lib.rt:155:17
 shared-slice-read-t15 : tie.Need-shared-slice-read-t15
 shared-slice-read-t15 c = search needs
 
--- src/lib.rt:155:24
 shared-slice-read-t12 : tie.Need-shared-slice-read-t12
 shared-slice-read-t12 c = search needs
 
--- src/lib.rt:155:31
 shared-slice-read-t20 : tie.Need-shared-slice-read-t20
 shared-slice-read-t20 c = search needs
 
--- src/lib.rt:155:38
 shared-slice-read-t22 : tie.Need-shared-slice-read-t22
 shared-slice-read-t22 c = search needs
 
--- src/lib.rt:158:18
 word-at-requires-4 : tie.Need-word-at-requires-4
 word-at-requires-4 c κs = search needs
 
--- src/lib.rt:159:16
 word-at-requires-5 : tie.Need-word-at-requires-5
 word-at-requires-5 c κs = search needs
 
--- src/lib.rt:141:1
 returns : tie.Need-returns
 returns c = cc
 

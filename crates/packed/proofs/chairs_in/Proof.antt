@@ -2,18 +2,14 @@
 use Rattle.text.proofs.Parts.{part-is}
 use Rattle.packed.specs.Layout.{chairIn, chairsIn}
 use Rattle.packed.proofs.Read.{chairs-turn, chairs-done}
-use lib.ListN.{length, take, drop, length-drop, length-set}
+use lib.ListN.{length, take, drop, length-set}
 use mathlib.Core.Path.{_≡_, refl, ap, _∙_}
 use mathlib.Core.List.{_++_}
-use Prim.Native.Nat.{ℕ, _-_, _*_, _≤_}
+use Prim.Native.Nat.{_-_, _*_, _≤_}
 use native.Mathlib.Omega.{arith}
 use borrow.Author.Needs.{needs}
 use Rattle.packed.proofs.chairs_in.Statement.{statement}
 use Rattle.packed.proofs.chairs_in.Tie as tie
-use Rattle.packed.proofs.chairs_in.Reads as reads
-use Rattle.packed.proofs.chairs_in.Lts as lts
-use Rattle.chairs.proofs.no_chair.Reads as no-chair-reads
-use Rattle.packed.proofs.chair_in.Reads as chair-in-reads
 
 abbrev Inv-loop : tie.InvT-loop
 Inv-loop b cs₀ i₀ cs i = (i ≤ 10) × (length cs ≡ 10) × (take i cs ++ chairsIn (10 - i) (drop (28 * i) b) ≡ chairsIn 10 b)
@@ -21,55 +17,42 @@ Inv-loop b cs₀ i₀ cs i = (i ≤ 10) × (length cs ≡ 10) × (take i cs ++ c
 abbrev μ-loop : tie.MeasureT-loop
 μ-loop b cs₀ i₀ cs i = 10 - i
 
--- src/lib.rt:169:9
 no-chair-requires : tie.Need-no-chair-requires Inv-loop μ-loop
 no-chair-requires c κs = search needs
 
--- src/lib.rt:172:5
 loop-holds : tie.Need-loop-holds Inv-loop μ-loop
 loop-holds c = (omega arith, search needs, refl)
 
--- src/lib.rt:173:29
 mul-chair-in : tie.Need-mul-chair-in Inv-loop μ-loop
 mul-chair-in c = search needs
 
--- src/lib.rt:173:26
 sub-chair-in : tie.Need-sub-chair-in Inv-loop μ-loop
 sub-chair-in c = search needs
 
--- src/lib.rt:173:26
 part-chair-in-start : tie.Need-part-chair-in-start Inv-loop μ-loop
 part-chair-in-start c = search needs
 
--- src/lib.rt:173:26
 part-chair-in-end : tie.Need-part-chair-in-end Inv-loop μ-loop
 part-chair-in-end c = search needs
 
--- src/lib.rt:173:13
 chair-in-requires : tie.Need-chair-in-requires Inv-loop μ-loop
 chair-in-requires c κs = search needs
 
--- src/lib.rt:174:9
 mul-cs : tie.Need-mul-cs Inv-loop μ-loop
 mul-cs c = search needs
 
--- src/lib.rt:174:9
 array-set-from-cs : tie.Need-array-set-from-cs Inv-loop μ-loop
 array-set-from-cs c = search needs
 
--- src/lib.rt:175:9
 add-i : tie.Need-add-i Inv-loop μ-loop
 add-i c = search needs
 
--- src/lib.rt:172:5
 loop-less : tie.Need-loop-less Inv-loop μ-loop
 loop-less c = search needs
 
--- src/lib.rt:172:5
 loop-again : tie.Need-loop-again Inv-loop μ-loop
 loop-again c = (omega arith, simp length-set (c .before .before .before .loop .inv .1), chairs-turn 10 (c .before .before .before .loop .i) ((c .before .before .before .before .before .before) .args .b .now) (c .before .before .before .loop .cs) (chairsIn 10 ((c .before .before .before .before .before .before) .args .b .now)) (omega arith) (omega arith) (c .chair-in .ensures ∙ ap chairIn (part-is (28 * c .before .before .before .loop .i) ((c .before .before .before .before .before .before) .args .b .now))) (c .before .before .before .loop .inv .2))
 
--- src/lib.rt:165:1
 returns : tie.Need-returns Inv-loop μ-loop
 returns c = chairs-done 10 (c .before .loop .i) ((c .before .before .before .before) .args .b .now) (c .before .loop .cs) (chairsIn 10 ((c .before .before .before .before) .args .b .now)) (c .before .loop .inv .1) (omega arith) (c .before .loop .inv .2)
 

@@ -2,44 +2,31 @@
 use borrow.Author.Needs.{needs}
 use Rattle.packed.proofs.fill_in.Statement.{statement}
 use Rattle.packed.proofs.fill_in.Tie as tie
-use Rattle.packed.proofs.fill_in.Reads as reads
-use Rattle.packed.proofs.fill_in.Lts as lts
-use Rattle.packed.proofs.is_set.Reads as is-set-reads
-use Rattle.packed.proofs.word_at.Reads as word-at-reads
 
--- src/lib.rt:296:16
 word-at-requires : tie.Need-word-at-requires
 word-at-requires c κs = search needs
 
--- src/lib.rt:296:16
 cast-t3 : tie.Need-cast-t3
 cast-t3 c = search needs
 
--- src/lib.rt:297:16
 word-at-requires-2 : tie.Need-word-at-requires-2
 word-at-requires-2 c κs = search needs
 
--- src/lib.rt:297:16
 cast-t5 : tie.Need-cast-t5
 cast-t5 c = search needs
 
--- src/lib.rt:298:16
 word-at-requires-3 : tie.Need-word-at-requires-3
 word-at-requires-3 c κs = search needs
 
--- src/lib.rt:298:16
 cast-t7 : tie.Need-cast-t7
 cast-t7 c = search needs
 
--- src/lib.rt:299:21
 shared-slice-read-is-set : tie.Need-shared-slice-read-is-set
 shared-slice-read-is-set c = search needs
 
--- src/lib.rt:299:14
 is-set-requires : tie.Need-is-set-requires
 is-set-requires c κs = search needs
 
--- src/lib.rt:291:1
 returns : tie.Need-returns
 returns c = cc
 

@@ -5,47 +5,34 @@ use mathlib.Core.Path.{_≡_}
 use borrow.Author.Needs.{needs}
 use Rattle.packed.proofs.head_singles.Statement.{statement}
 use Rattle.packed.proofs.head_singles.Tie as tie
-use Rattle.packed.proofs.head_singles.Reads as reads
-use Rattle.packed.proofs.head_singles.Lts as lts
-use Rattle.packed.proofs.flag.Reads as flag-reads
 
--- src/lib.rt:224:9
 flag-requires : tie.Need-flag-requires
 flag-requires c κs = search needs
 
--- src/lib.rt:225:9
 flag-requires-2 : tie.Need-flag-requires-2
 flag-requires-2 c κs = search needs
 
--- src/lib.rt:226:9
 flag-requires-3 : tie.Need-flag-requires-3
 flag-requires-3 c κs = search needs
 
--- src/lib.rt:227:9
 flag-requires-4 : tie.Need-flag-requires-4
 flag-requires-4 c κs = search needs
 
--- src/lib.rt:229:9
 array-read-t11 : tie.Need-array-read-t11
 array-read-t11 c = search needs
 
--- src/lib.rt:230:9
 array-read-t14 : tie.Need-array-read-t14
 array-read-t14 c = search needs
 
--- src/lib.rt:231:9
 array-read-t17 : tie.Need-array-read-t17
 array-read-t17 c = search needs
 
--- src/lib.rt:232:9
 array-read-t20 : tie.Need-array-read-t20
 array-read-t20 c = search needs
 
--- src/lib.rt:233:9
 array-read-t23 : tie.Need-array-read-t23
 array-read-t23 c = search needs
 
--- src/lib.rt:219:1
 returns : tie.Need-returns
 returns c = (cc, let n : length ((c .before .before .before .before) .args .t3) ≡ 5 = search needs in spelled 5 ((c .before .before .before .before) .args .t3) n)
 

@@ -2,23 +2,16 @@
 use borrow.Author.Needs.{needs}
 use Rattle.packed.proofs.head_words.Statement.{statement}
 use Rattle.packed.proofs.head_words.Tie as tie
-use Rattle.packed.proofs.head_words.Reads as reads
-use Rattle.packed.proofs.head_words.Lts as lts
-use Rattle.packed.proofs.word_of.Reads as word-of-reads
 
--- src/lib.rt:212:9
 word-of-requires : tie.Need-word-of-requires
 word-of-requires c κs = search needs
 
--- src/lib.rt:213:9
 word-of-requires-2 : tie.Need-word-of-requires-2
 word-of-requires-2 c κs = search needs
 
--- src/lib.rt:214:9
 word-of-requires-3 : tie.Need-word-of-requires-3
 word-of-requires-3 c κs = search needs
 
--- src/lib.rt:190:1
 returns : tie.Need-returns
 returns c = cc
 

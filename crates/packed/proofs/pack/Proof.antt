@@ -4,36 +4,25 @@ use mathlib.Core.Path.{refl}
 use borrow.Author.Needs.{needs}
 use Rattle.packed.proofs.pack.Statement.{statement}
 use Rattle.packed.proofs.pack.Tie as tie
-use Rattle.packed.proofs.pack.Reads as reads
-use Rattle.packed.proofs.pack.Lts as lts
-use Rattle.packed.proofs.put_chairs.Reads as put-chairs-reads
-use Rattle.packed.proofs.put_head.Reads as put-head-reads
 
--- src/lib.rt:311:9
 put-head-requires : tie.Need-put-head-requires
 put-head-requires c κs = search needs
 
--- src/lib.rt:314:16
 sub-put-chairs : tie.Need-sub-put-chairs
 sub-put-chairs c = search needs
 
--- src/lib.rt:314:16
 part-put-chairs-start : tie.Need-part-put-chairs-start
 part-put-chairs-start c = search needs
 
--- src/lib.rt:314:16
 part-put-chairs-end : tie.Need-part-put-chairs-end
 part-put-chairs-end c = search needs
 
--- src/lib.rt:314:5
 put-chairs-requires : tie.Need-put-chairs-requires
 put-chairs-requires c κs = search needs
 
--- src/lib.rt:306:1
 same-length : tie.Need-same-length
 same-length c = search needs
 
--- src/lib.rt:306:1
 returns : tie.Need-returns
 returns c = packed-is ((c .before .before .before .before .before .before .before .before .before .before .before) .args .c) (c .before .before .before .before .before .before .before .before .put-head .ensures .0) (c .before .before .put-chairs .ensures .0) refl (c .before .before .before .before .before .before .before .before .put-head .ensures .1) (c .before .before .put-chairs .ensures .1)
 

@@ -2,36 +2,25 @@
 use borrow.Author.Needs.{needs}
 use Rattle.packed.proofs.play_in.Statement.{statement}
 use Rattle.packed.proofs.play_in.Tie as tie
-use Rattle.packed.proofs.play_in.Reads as reads
-use Rattle.packed.proofs.play_in.Lts as lts
-use Rattle.packed.proofs.is_set.Reads as is-set-reads
-use Rattle.packed.proofs.word_at.Reads as word-at-reads
 
--- src/lib.rt:273:24
 shared-slice-read-is-set : tie.Need-shared-slice-read-is-set
 shared-slice-read-is-set c = search needs
 
--- src/lib.rt:273:17
 is-set-requires : tie.Need-is-set-requires
 is-set-requires c κs = search needs
 
--- src/lib.rt:274:15
 word-at-requires : tie.Need-word-at-requires
 word-at-requires c κs = search needs
 
--- src/lib.rt:275:15
 word-at-requires-2 : tie.Need-word-at-requires-2
 word-at-requires-2 c κs = search needs
 
--- src/lib.rt:276:15
 word-at-requires-3 : tie.Need-word-at-requires-3
 word-at-requires-3 c κs = search needs
 
--- src/lib.rt:277:15
 word-at-requires-4 : tie.Need-word-at-requires-4
 word-at-requires-4 c κs = search needs
 
--- src/lib.rt:268:1
 returns : tie.Need-returns
 returns c = cc
 

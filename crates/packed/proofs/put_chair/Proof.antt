@@ -4,53 +4,37 @@ use mathlib.Core.Path.{refl}
 use borrow.Author.Needs.{needs}
 use Rattle.packed.proofs.put_chair.Statement.{statement}
 use Rattle.packed.proofs.put_chair.Tie as tie
-use Rattle.packed.proofs.put_chair.Reads as reads
-use Rattle.packed.proofs.put_chair.Lts as lts
-use Rattle.packed.proofs.chair_singles.Reads as chair-singles-reads
-use Rattle.packed.proofs.put_words.Reads as put-words-reads
-use Rattle.writing.proofs.put_bytes.Reads as put-bytes-reads
 
--- src/lib.rt:120:32
 slice-aggregate-put-words : tie.Need-slice-aggregate-put-words
 slice-aggregate-put-words c = search needs
 
--- src/lib.rt:120:9
 put-words-requires : tie.Need-put-words-requires
 put-words-requires c κs = search needs
 
--- src/lib.rt:122:14
 chair-singles-requires : tie.Need-chair-singles-requires
 chair-singles-requires c κs = search needs
 
--- src/lib.rt:123:20
 sub-put-bytes : tie.Need-sub-put-bytes
 sub-put-bytes c = search needs
 
--- src/lib.rt:123:20
 part-put-bytes-start : tie.Need-part-put-bytes-start
 part-put-bytes-start c = search needs
 
--- src/lib.rt:123:20
 part-put-bytes-end : tie.Need-part-put-bytes-end
 part-put-bytes-end c = search needs
 
--- src/lib.rt:123:39
 slice-aggregate-put-bytes : tie.Need-slice-aggregate-put-bytes
 slice-aggregate-put-bytes c = search needs
 
--- src/lib.rt:123:10
 put-bytes-requires : tie.Need-put-bytes-requires
 put-bytes-requires c κs = search needs
 
--- src/lib.rt:123:5
 add-result : tie.Need-add-result
 add-result c = search needs
 
--- src/lib.rt:112:1
 same-length : tie.Need-same-length
 same-length c = search needs
 
--- src/lib.rt:112:1
 returns : tie.Need-returns
 returns c = (two-wrote (c .before .before .before .before .before .before .before .before .before .put-words .ensures .0) refl (c .before .before .put-bytes .ensures) (c .before .before .before .before .before .chair-singles .ensures .0) refl, record { words = c .before .before .before .before .before .before .before .before .before .put-words .ensures .1 .0; cards = c .before .before .before .before .before .chair-singles .ensures .1 })
 

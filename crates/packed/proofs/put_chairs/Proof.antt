@@ -7,14 +7,11 @@ use Rattle.chairs.proofs.Laws.{unread}
 use Rattle.text.proofs.Parts.{part-is}
 use lib.ListN.{length, length-drop}
 use mathlib.Core.Path.{_≡_, refl, ap}
-use Prim.Native.Nat.{ℕ, _-_, _≤_}
+use Prim.Native.Nat.{_-_, _≤_}
 use native.Mathlib.Omega.{arith}
 use borrow.Author.Needs.{needs}
 use Rattle.packed.proofs.put_chairs.Statement.{statement}
 use Rattle.packed.proofs.put_chairs.Tie as tie
-use Rattle.packed.proofs.put_chairs.Reads as reads
-use Rattle.packed.proofs.put_chairs.Lts as lts
-use Rattle.packed.proofs.put_chair.Reads as put-chair-reads
 
 abbrev Inv-loop : tie.InvT-loop
 Inv-loop buffer₀ cs at₀ k₀ buffer at k = (k ≤ 10) × Going chairBytes ChairFits cs buffer₀ buffer k at
@@ -22,55 +19,42 @@ Inv-loop buffer₀ cs at₀ k₀ buffer at k = (k ≤ 10) × Going chairBytes Ch
 abbrev μ-loop : tie.MeasureT-loop
 μ-loop buffer₀ cs at₀ k₀ buffer at k = 10 - k
 
--- src/lib.rt:134:5
 loop-holds : tie.Need-loop-holds Inv-loop μ-loop
 loop-holds c = (omega arith, going-start _ _ _ _)
 
--- src/lib.rt:135:25
 sub-put-chair : tie.Need-sub-put-chair Inv-loop μ-loop
 sub-put-chair c = let n : length ((c .before .before .before) .args .t2) ≡ 10 = search needs in omega (arith, going-at (c .before .loop .inv .1) 28 (λ (x : Chair). refl) (omega arith), c .before .loop .inv .1 .same, (c .before .before .before) .pre)
 
--- src/lib.rt:135:25
 part-put-chair-start : tie.Need-part-put-chair-start Inv-loop μ-loop
 part-put-chair-start c = let n : length ((c .before .before .before) .args .t2) ≡ 10 = search needs in omega (arith, going-at (c .before .loop .inv .1) 28 (λ (x : Chair). refl) (omega arith), c .before .loop .inv .1 .same, (c .before .before .before) .pre)
 
--- src/lib.rt:135:25
 part-put-chair-end : tie.Need-part-put-chair-end Inv-loop μ-loop
 part-put-chair-end c = search needs
 
--- src/lib.rt:135:44
 mul-put-chair : tie.Need-mul-put-chair Inv-loop μ-loop
 mul-put-chair c = search needs
 
--- src/lib.rt:135:44
 array-copy-out-put-chair : tie.Need-array-copy-out-put-chair Inv-loop μ-loop
 array-copy-out-put-chair c = search needs
 
--- src/lib.rt:135:15
 put-chair-requires : tie.Need-put-chair-requires Inv-loop μ-loop
 put-chair-requires c κs = let n : length ((c .before .before .before .before .before) .args .t2) ≡ 10 = search needs in let e = going-at (c .before .before .before .loop .inv .1) 28 (λ (x : Chair). refl) (omega arith) in omega (arith, ap length (part-is (c .before .before .before .loop .at) (c .before .before .before .loop .buffer)), length-drop (c .before .before .before .loop .at) (c .before .before .before .loop .buffer), e, c .before .before .before .loop .inv .1 .same, (c .before .before .before .before .before) .pre)
 
--- src/lib.rt:135:9
 add-at : tie.Need-add-at Inv-loop μ-loop
 add-at c = let n : length ((c .before .before .before .before .before .before .before .before) .args .t2) ≡ 10 = search needs in omega (arith, going-at (c .before .before .before .before .before .before .loop .inv .1) 28 (λ (x : Chair). refl) (omega arith), c .before .before .put-chair .ensures .0 .count, c .before .before .before .before .before .before .loop .inv .1 .same, (c .before .before .before .before .before .before .before .before) .pre)
 
--- src/lib.rt:136:9
 add-k : tie.Need-add-k Inv-loop μ-loop
 add-k c = search needs
 
--- src/lib.rt:134:5
 loop-less : tie.Need-loop-less Inv-loop μ-loop
 loop-less c = search needs
 
--- src/lib.rt:134:5
 loop-again : tie.Need-loop-again Inv-loop μ-loop
 loop-again c = let n : length ((c .before .before .before .before .before .before .before .before) .args .t2) ≡ 10 = search needs in (omega arith, going-turn (c .before .before .before .before .before .before .loop .inv .1) unread (omega arith) (c .before .before .put-chair .ensures .0) (c .before .before .put-chair .ensures .1) refl (search needs))
 
--- src/lib.rt:127:1
 same-length : tie.Need-same-length Inv-loop μ-loop
 same-length c = search needs
 
--- src/lib.rt:127:1
 returns : tie.Need-returns Inv-loop μ-loop
 returns c = let n : length ((c .before .before .before) .args .t2) ≡ 10 = search needs in let d = going-done (c .before .loop .inv .1) (omega arith) in (d .0, (d .1, n))
 

@@ -3,40 +3,28 @@ use Rattle.records.proofs.Words.{word-wrote}
 use borrow.Author.Needs.{needs}
 use Rattle.packed.proofs.put_word.Statement.{statement}
 use Rattle.packed.proofs.put_word.Tie as tie
-use Rattle.packed.proofs.put_word.Reads as reads
-use Rattle.packed.proofs.put_word.Lts as lts
-use Rattle.packed.proofs.low_byte.Reads as low-byte-reads
-use Rattle.writing.proofs.put_bytes.Reads as put-bytes-reads
 
--- src/lib.rt:62:9
 low-byte-requires : tie.Need-low-byte-requires
 low-byte-requires c κs = search needs
 
--- src/lib.rt:63:9
 low-byte-requires-2 : tie.Need-low-byte-requires-2
 low-byte-requires-2 c κs = search needs
 
--- src/lib.rt:64:9
 low-byte-requires-3 : tie.Need-low-byte-requires-3
 low-byte-requires-3 c κs = search needs
 
--- src/lib.rt:65:9
 low-byte-requires-4 : tie.Need-low-byte-requires-4
 low-byte-requires-4 c κs = search needs
 
--- src/lib.rt:67:23
 slice-aggregate-put-bytes : tie.Need-slice-aggregate-put-bytes
 slice-aggregate-put-bytes c = search needs
 
--- src/lib.rt:67:5
 put-bytes-requires : tie.Need-put-bytes-requires
 put-bytes-requires c κs = search needs
 
--- src/lib.rt:56:1
 same-length : tie.Need-same-length
 same-length c = search needs
 
--- src/lib.rt:56:1
 returns : tie.Need-returns
 returns c = (word-wrote ((c .before .before .before .before .before .before .before .before .before .before) .args .w) (c .before .before .before .before .before .before .before .before .low-byte .ensures) (c .before .before .before .before .before .before .before .low-byte2 .ensures) (c .before .before .before .before .before .before .low-byte3 .ensures) (c .before .before .before .before .before .low-byte4 .ensures) (c .before .before .put-bytes .ensures), record { below = search needs })
 

@@ -10,9 +10,6 @@ use native.Mathlib.Omega.{arith}
 use borrow.Author.Needs.{needs}
 use Rattle.packed.proofs.put_words.Statement.{statement}
 use Rattle.packed.proofs.put_words.Tie as tie
-use Rattle.packed.proofs.put_words.Reads as reads
-use Rattle.packed.proofs.put_words.Lts as lts
-use Rattle.packed.proofs.put_word.Reads as put-word-reads
 
 abbrev Inv-loop : tie.InvT-loop
 Inv-loop buffer₀ ws at₀ k₀ buffer at k = (k ≤ length ws) × Going wordBytes IsWord ws buffer₀ buffer k at
@@ -20,55 +17,42 @@ Inv-loop buffer₀ ws at₀ k₀ buffer at k = (k ≤ length ws) × Going wordBy
 abbrev μ-loop : tie.MeasureT-loop
 μ-loop buffer₀ ws at₀ k₀ buffer at k = length ws - k
 
--- src/lib.rt:78:5
 loop-holds : tie.Need-loop-holds Inv-loop μ-loop
 loop-holds c = (omega arith, going-start _ _ _ _)
 
--- src/lib.rt:79:24
 sub-put-word : tie.Need-sub-put-word Inv-loop μ-loop
 sub-put-word c = omega (arith, going-at (c .before .loop .inv .1) 4 (λ (w : ℕ). refl) (omega arith), c .before .loop .inv .1 .same, (c .before .before .before .before) .pre)
 
--- src/lib.rt:79:24
 part-put-word-start : tie.Need-part-put-word-start Inv-loop μ-loop
 part-put-word-start c = omega (arith, going-at (c .before .loop .inv .1) 4 (λ (w : ℕ). refl) (omega arith), c .before .loop .inv .1 .same, (c .before .before .before .before) .pre)
 
--- src/lib.rt:79:24
 part-put-word-end : tie.Need-part-put-word-end Inv-loop μ-loop
 part-put-word-end c = search needs
 
--- src/lib.rt:79:43
 mul-put-word : tie.Need-mul-put-word Inv-loop μ-loop
 mul-put-word c = search needs
 
--- src/lib.rt:79:43
 shared-slice-read-put-word : tie.Need-shared-slice-read-put-word Inv-loop μ-loop
 shared-slice-read-put-word c = search needs
 
--- src/lib.rt:79:15
 put-word-requires : tie.Need-put-word-requires Inv-loop μ-loop
 put-word-requires c κs = let e = going-at (c .before .before .before .loop .inv .1) 4 (λ (w : ℕ). refl) (omega arith) in omega (arith, ap length (part-is (c .before .before .before .loop .at) (c .before .before .before .loop .buffer)), length-drop (c .before .before .before .loop .at) (c .before .before .before .loop .buffer), e, c .before .before .before .loop .inv .1 .same, (c .before .before .before .before .before .before) .pre)
 
--- src/lib.rt:79:9
 add-at : tie.Need-add-at Inv-loop μ-loop
 add-at c = omega (arith, going-at (c .before .before .before .before .before .before .loop .inv .1) 4 (λ (w : ℕ). refl) (omega arith), c .before .before .put-word .ensures .0 .count, c .before .before .before .before .before .before .loop .inv .1 .same, (c .before .before .before .before .before .before .before .before .before) .pre)
 
--- src/lib.rt:80:9
 add-k : tie.Need-add-k Inv-loop μ-loop
 add-k c = search needs
 
--- src/lib.rt:78:5
 loop-less : tie.Need-loop-less Inv-loop μ-loop
 loop-less c = search needs
 
--- src/lib.rt:78:5
 loop-again : tie.Need-loop-again Inv-loop μ-loop
 loop-again c = (omega arith, going-turn (c .before .before .before .before .before .before .loop .inv .1) 0 (omega arith) (c .before .before .put-word .ensures .0) (c .before .before .put-word .ensures .1) refl (search needs))
 
--- src/lib.rt:71:1
 same-length : tie.Need-same-length Inv-loop μ-loop
 same-length c = search needs
 
--- src/lib.rt:71:1
 returns : tie.Need-returns Inv-loop μ-loop
 returns c = let d = going-done (c .before .loop .inv .1) (omega arith) in let e : c .before .loop .at ≡ 4 * length ((c .before .before .before .before) .args .ws .now) = omega (arith, going-at (c .before .loop .inv .1) 4 (λ (w : ℕ). refl) (omega arith)) in (d .0, (d .1, e))
 

@@ -1,0 +1,5 @@
+-- What makers link: what is proved of the calls.
+
+pub mod Codes
+pub mod Calls
+pub mod Maker
