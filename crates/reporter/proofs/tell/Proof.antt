@@ -23,7 +23,7 @@ same-length : tie.Need-same-length
 same-length c = search needs
 
 returns : tie.Need-returns
-returns c = 
+returns c =
     let s = c .before .before .before .before .before .before .before .before .before .before .before .before .args in
     let j = c .before .before .before .before .before .before .before .before .judge .ensures in
     told (s .m) (s .t) (s .block .now) (c .before .before .before .before .before .before .before .before .before .read-block .ensures) (j .0) (j .1) (c .notes-after .ensures)
