@@ -3,7 +3,6 @@ use accounts::Account;
 use accounts::Sums;
 use chairs::Chair;
 use notes::Notes;
-use notes::account_at;
 use page::pen::Pen;
 use page::pen::put;
 use page::pen::say;
@@ -100,59 +99,28 @@ pub fn put_bad_sheet(out: &mut [u8], p: Pen) -> Pen {
     )
 }
 
-// What a sitting that is still there has put in: into the open hand too.
-fn account_now(m: Notes, c: Chair, i: usize) -> Account {
-    let a = account_at(m, i);
-    if c.sitting == c.dealt.sitting {
-        return accounts::with_put(a, c.dealt.total);
-    }
-    a
-}
-
-// The row of who sits at a place, and the sums with it.
-struct Listed {
-    sums: Sums,
-    pen: Pen,
-}
-
-fn put_there(out: &mut [u8], l: Listed, m: Notes, c: Chair, i: usize) -> Listed {
+// The row of who sits at a place.
+fn put_there(out: &mut [u8], p: Pen, m: Notes, c: Chair, i: usize) -> Pen {
     if c.sitting == 0 {
-        return l;
+        return p;
     }
     if 10 <= i {
-        return l;
+        return p;
     }
-    let p = l.pen;
-    let s = l.sums;
-    let a = account_now(m, c, i);
+    let a = notes::account_now(m, c, i);
     let b = put_row(out, p, c.sitting, i as u32 + 1, a, c.stack);
-    let pen = put(out, b, b"<span>still there</span></div>\n");
-    let sums = accounts::with_account(s, a, c.stack);
-    Listed { sums, pen }
+    put(out, b, b"<span>still there</span></div>\n")
 }
 
-fn put_all_there(out: &mut [u8], p: Pen, m: Notes, cs: [Chair; 10]) -> Listed {
-    let gone = m.gone;
-    let mut l = Listed { sums: gone, pen: p };
+fn put_all_there(out: &mut [u8], p: Pen, m: Notes, cs: [Chair; 10]) -> Pen {
+    let mut pen = p;
     let mut i: usize = 0;
     while i < 10 {
         let c = cs[i];
-        l = put_there(out, l, m, c, i);
+        pen = put_there(out, pen, m, c, i);
         i += 1;
     }
-    l
-}
-
-// What lies in the open hand.
-fn lies_in(cs: [Chair; 10]) -> u64 {
-    let mut n: u64 = 0;
-    let mut i: usize = 0;
-    while i < 10 {
-        let c = cs[i];
-        n = accounts::added(n, c.dealt.total as u64);
-        i += 1;
-    }
-    n
+    pen
 }
 
 // The row of all sittings.
@@ -292,10 +260,9 @@ fn put_table_on(out: &mut [u8], p: Pen, m: Notes) -> Pen {
 // The end of the page.
 pub fn put_evening(out: &mut [u8], p: Pen, m: Notes, t: Table) -> Pen {
     let cs = t.chairs;
-    let l = put_all_there(out, p, m, cs);
-    let s = l.sums;
-    let b = l.pen;
-    put_close(out, b, s, m, lies_in(cs))
+    let b = put_all_there(out, p, m, cs);
+    let s = notes::sums_now(m, cs);
+    put_close(out, b, s, m, notes::lies_in(cs))
 }
 
 fn put_close(out: &mut [u8], p: Pen, s: Sums, m: Notes, lies: u64) -> Pen {

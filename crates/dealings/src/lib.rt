@@ -1,6 +1,8 @@
 // A hand as its section needs it: who is dealt in at its opening; at its end its chips, its sittings with what they put in, hold and are paid.
 use chairs::Chair;
 use chairs::Hole;
+use chairs::What;
+use chairs::seats::column;
 use notes::Notes;
 use page::pen::Pen;
 use page::pen::say2;
@@ -10,7 +12,15 @@ use spots::Chips;
 use table::table::Board;
 use table::table::Payout;
 use table::table::Table;
+ghost use mathlib.Core.Path.{_≡_};
+ghost use mathlib.Core.List.{map};
+ghost use lib.Dec.{ltb};
+ghost use lib.ListN.{getD};
+ghost use Prim.Native.Nat.{_≤_};
+ghost use Rattle.laws.specs.Tests.{one};
+ghost use Rattle.laws.specs.Often.{tally};
 ghost use Rattle.table.specs.Take.{Sound};
+ghost use Rattle.dealings.specs.Dealings.{notShown, shownAs, bestOfTwo, bestOfFour, bestWith, lookedAt, bestAt, partWith, partAt, partsFrom, scoreIn, chipsShown};
 
 // The heading, which a link can name.
 pub fn put_opening(out: &mut [u8], p: Pen, hand: u64, n: u32, puck: u32) -> Pen {
@@ -74,7 +84,9 @@ struct Best {
     score: u32,
 }
 
-fn not_shown() -> Best {
+fn not_shown() -> Best
+    ensures { λ r. ⌜ r ≡ notShown ⌝ }
+{
     Best {
         shown: false,
         class: 0,
@@ -83,7 +95,9 @@ fn not_shown() -> Best {
     }
 }
 
-fn shown(deck: u32, h: cards::Hand) -> Best {
+fn shown(deck: u32, h: cards::Hand) -> Best
+    ensures { λ r. ⌜ r ≡ shownAs deck h ⌝ }
+{
     Best {
         shown: true,
         class: h.class,
@@ -92,46 +106,75 @@ fn shown(deck: u32, h: cards::Hand) -> Best {
     }
 }
 
+// The best hand of two hole cards with the board.
+fn best_of_two(deck: u32, d: [u8; 4], k: [u8; 5]) -> Best
+    ensures { λ r. ⌜ r ≡ bestOfTwo deck d k ⌝ }
+{
+    let seven = [d[0], d[1], k[0], k[1], k[2], k[3], k[4]];
+    let h = cards::best_hand(deck, &seven);
+    shown(deck, h)
+}
+
+// The best hand of two of four hole cards with three of the board.
+fn best_of_four(deck: u32, d: [u8; 4], k: [u8; 5]) -> Best
+    ensures { λ r. ⌜ r ≡ bestOfFour deck d k ⌝ }
+{
+    let h = cards::best_omaha(deck, d, &k);
+    shown(deck, h)
+}
+
 // The best hand of a seat's cards with the board.
-fn best_of(deck: u32, game: u32, b: Board, h: Hole) -> Best {
+fn best_of(deck: u32, game: u32, b: Board, h: Hole) -> Best
+    ensures { λ r. ⌜ r ≡ bestWith deck game b h ⌝ }
+{
     let d = h.cards;
     let k = b.cards;
     if game == 4 {
-        return shown(deck, cards::best_omaha(deck, d, &k));
+        return best_of_four(deck, d, k);
     }
-    let seven = [d[0], d[1], k[0], k[1], k[2], k[3], k[4]];
-    shown(deck, cards::best_hand(deck, &seven))
+    best_of_two(deck, d, k)
 }
 
-// A hand is looked at where it is live with all its cards, and more than one is live.
-fn best_at(t: Table, c: Chair, alone: bool) -> Best {
+// Whether a hand is looked at: it is live with all its cards, the board lies, and more than one is live.
+fn looked_at(live: bool, alone: bool, held: u8, game: u32, count: u8) -> bool
+    ensures { λ r. ⌜ r ≡ lookedAt live alone held game count ⌝ }
+{
+    let full = laws::both(held as u32 == game, count == 5);
+    laws::both(laws::both(live, !alone), full)
+}
+
+fn best_at(t: Table, c: Chair, alone: bool) -> Best
+    ensures { λ r. ⌜ r ≡ bestAt t c alone ⌝ }
+{
     let b = t.board;
     let h = c.hole;
-    let full = laws::both(h.count as u32 == t.sheet.game, b.count == 5);
-    if laws::both(laws::both(c.dealt.live, !alone), full) {
+    if looked_at(c.dealt.live, alone, h.count, t.sheet.game, b.count) {
         return best_of(t.sheet.deck, t.sheet.game, b, h);
     }
     not_shown()
 }
 
-// A sitting in the hand.
-fn part_of(m: Notes, c: Chair, i: usize, low: u32, best: Best, paid: u32) -> Part {
-    let before = m.before;
-    let rounds = m.rounds;
-    let how = m.how;
+// A sitting in the hand: its stack before it, what it put in by round, and how its hand ended.
+fn part_of(
+    c: Chair,
+    before: u32,
+    rounds: [u32; 4],
+    how: u8,
+    low: u32,
+    best: Best,
+    paid: u32,
+) -> Part
+    ensures { λ r. ⌜ r ≡ partWith c before rounds how low best paid ⌝ }
+{
     let h = c.hole;
     let cards = h.cards;
     let ranks = best.ranks;
-    let put = notes::rounds_at(rounds, i);
-    if 10 <= i {
-        return no_part();
-    }
     Part {
         sitting: c.dealt.sitting,
-        before: before[i],
-        rounds: put,
+        before,
+        rounds,
         back: laws::short_of(c.dealt.total, low),
-        how: how[i],
+        how,
         here: c.sitting == c.dealt.sitting,
         now: c.sitting,
         held: h.count,
@@ -142,6 +185,39 @@ fn part_of(m: Notes, c: Chair, i: usize, low: u32, best: Best, paid: u32) -> Par
         score: best.score,
         paid,
     }
+}
+
+fn stack_before(before: [u32; 10], i: usize) -> u32
+    ensures { λ r. ⌜ r ≡ getD before i 0 ⌝ }
+{
+    if i < 10 {
+        return before[i];
+    }
+    0
+}
+
+// How the hand of a place ended: 1 folded, 2 dead, 0 neither.
+fn end_of(how: [u8; 10], i: usize) -> u8
+    ensures { λ r. ⌜ r ≡ getD how i 0 ⌝ }
+{
+    if i < 10 {
+        return how[i];
+    }
+    0
+}
+
+// The sitting of a place.
+fn part_at(m: Notes, t: Table, low: u32, alone: bool, c: Chair, i: usize, paid: u32) -> Part
+    ensures { λ r. ⌜ r ≡ partAt m t low alone c i paid ⌝ }
+{
+    let rounds = m.rounds;
+    let before = m.before;
+    let how = m.how;
+    let stack = stack_before(before, i);
+    let put = notes::rounds_at(rounds, i);
+    let end = end_of(how, i);
+    let best = best_at(t, c, alone);
+    part_of(c, stack, put, end, low, best, paid)
 }
 
 fn no_part() -> Part {
@@ -163,22 +239,32 @@ fn no_part() -> Part {
     }
 }
 
-fn parts_of(m: Notes, t: Table, low: u32, alone: bool, paid: [u32; 10]) -> [Part; 10] {
-    let cs = t.chairs;
+// The sittings of the table's chairs.
+fn parts_of(
+    m: Notes,
+    t: Table,
+    cs: [Chair; 10],
+    low: u32,
+    alone: bool,
+    paid: [u32; 10],
+) -> [Part; 10]
+    ensures { λ r. ⌜ r ≡ partsFrom m t low alone paid 0 cs ⌝ }
+{
     let none = no_part();
     let mut parts = [none; 10];
     let mut i: usize = 0;
     while i < 10 {
         let c = cs[i];
-        let best = best_at(t, c, alone);
-        let q = part_of(m, c, i, low, best, paid[i]);
+        let q = part_at(m, t, low, alone, c, i, paid[i]);
         parts[i] = q;
         i += 1;
     }
     parts
 }
 
-fn scores_of(parts: [Part; 10]) -> [u32; 10] {
+fn scores_of(parts: [Part; 10]) -> [u32; 10]
+    ensures { λ r. ⌜ r ≡ map scoreIn parts ⌝ }
+{
     let mut a = [0u32; 10];
     let mut i: usize = 0;
     while i < 10 {
@@ -189,66 +275,41 @@ fn scores_of(parts: [Part; 10]) -> [u32; 10] {
     a
 }
 
-// What was dealt in at a place: a column of the picture, or none.
-struct Columns {
-    sittings: [u32; 10],
-    totals: [u32; 10],
-    live: [u32; 10],
-    here: [u32; 10],
-    count: u32,
+fn one_dealt(sitting: u32) -> u32
+    ensures { λ r. ⌜ (r ≡ one (ltb 0 sitting)) × (r ≤ 1) ⌝ }
+{
+    if 0 < sitting { 1 } else { 0 }
 }
 
-fn column_read(k: Columns, c: Chair, i: usize) -> Columns {
-    let mut d = k;
-    if 10 <= i {
-        return d;
-    }
-    let dealt = laws::one(0 < c.dealt.sitting);
-    let there = laws::both(0 < c.dealt.sitting, c.sitting == c.dealt.sitting);
-    d.sittings[i] = c.dealt.sitting;
-    d.totals[i] = c.dealt.total;
-    d.live[i] = laws::one(c.dealt.live);
-    d.here[i] = laws::one(there);
-    d.count = counted(k.count, dealt);
-    d
-}
-
-fn counted(n: u32, more: u32) -> u32 {
-    laws::least(laws::least(n, 100) + laws::least(more, 1), 10)
-}
-
-fn columns_of(cs: [Chair; 10]) -> Columns {
-    let mut k = Columns {
-        sittings: [0u32; 10],
-        totals: [0u32; 10],
-        live: [0u32; 10],
-        here: [0u32; 10],
-        count: 0,
-    };
+// How many were dealt in: a column of the picture for each.
+fn dealt_in(sittings: [u32; 10]) -> u32
+    ensures { λ r. ⌜ r ≡ tally (ltb 0) sittings ⌝ }
+{
+    let mut n: u32 = 0;
     let mut i: usize = 0;
     while i < 10 {
-        let c = cs[i];
-        k = column_read(k, c, i);
+        n += one_dealt(sittings[i]);
         i += 1;
     }
-    k
+    n
 }
 
 // The chips of the open hand.
 fn chips_of(m: Notes, t: Table) -> Chips
     requires { ⌜ Sound t ⌝ }
+    ensures { λ r. ⌜ r ≡ chipsShown m t ⌝ }
 {
     let stands = table::settle::stands_now(t);
     let ps = stands.pots;
     let cs = t.chairs;
-    let k = columns_of(cs);
-    let totals = k.totals;
-    let sittings = k.sittings;
-    let live = k.live;
-    let here = k.here;
+    let seats = t.sheet.seats;
+    let totals = column(cs, seats, What::Total);
+    let sittings = column(cs, seats, What::Sitting);
+    let live = column(cs, seats, What::Live);
+    let here = column(cs, seats, What::Here);
     Chips {
         hand: m.hands,
-        columns: k.count,
+        columns: dealt_in(sittings),
         totals,
         sittings,
         live: pots::mask_at(live, 1),
@@ -268,7 +329,8 @@ fn hand_of(m: Notes, t: Table, settled: bool, paid: Payout) -> Hand
     let low = spots::reach_of_first(totals, ps, ps.n);
     let each = paid.paid;
     let alone = laws::either(!settled, pots::hand::sole(chips.live));
-    let parts = parts_of(m, t, low, alone, each);
+    let cs = t.chairs;
+    let parts = parts_of(m, t, cs, low, alone, each);
     let scores = scores_of(parts);
     Hand {
         chips,

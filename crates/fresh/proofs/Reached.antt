@@ -1,6 +1,6 @@
 -- The records that a log's reader comes to, one after another, are its entries in their order; so what is read of them is the fresh reading. Assumes nothing.
 use mathlib.Core.Path.{_≡_, refl, sym, ap, _∙_, subst}
-use mathlib.Core.Bool.{Bool, true, false}
+use mathlib.Core.Bool.{true, false}
 use mathlib.Core.Logic.{_⊎_, inl, inr}
 use mathlib.Core.List.{List}
 use Prim.Native.Nat.{ℕ, zero, suc, _+_, _-_, _*_, _≤_, _<_}
@@ -13,7 +13,7 @@ use Rattle.laws.specs.Tests.{pick}
 use Rattle.laws.proofs.Tests.{test}
 use Rattle.paper.specs.declared.Entry.{Entry}
 use Rattle.paper.specs.declared.Sheet.{Sheet}
-use Rattle.records.specs.Stored.{noRecord, recordAt, entryBy, entryIn}
+use Rattle.records.specs.Stored.{recordAt, entryBy, entryIn}
 use Rattle.records.specs.declared.Record.{Record}
 use Rattle.records.proofs.Found.{absent, next-is}
 use Rattle.fresh.specs.Reading.{begunOf, playedOf, playedFrom, playedTo, replacing, entryOr, readOne, placeTo, readTo}

@@ -4,3 +4,4 @@ pub mod Runs
 pub mod On
 pub mod Alone
 pub mod Hears
+pub mod Gathers

@@ -26,7 +26,7 @@ use Rattle.frames.proofs.Onward.{saidBy, hear-onward, onward-append, pieces-par
 use Rattle.couple.specs.declared.Pair.{Pair}
 use Rattle.couple.specs.Couple.{startOf, lastBytes, Given, roomMost, Gave, Good}
 use Rattle.pairs.specs.declared.Fed.{Fed}
-use Rattle.pairs.specs.Pairs.{ran, outputOf, heardOf, FedOn, goesOn, closeBytes}
+use Rattle.pairs.specs.Pairs.{ran, outputOf, heardOf, saidOf, FedOn, goesOn, closeBytes}
 use Rattle.pairs.proofs.Runs.{ran-append, still-gave}
 
 -- ---- one call
@@ -43,28 +43,29 @@ heard-due f g = go (ltb (f .fill .lines) (g .kept .lines))
 pub of-fits : (f : Frame) (g : Gathered) {h : Heard} → h ≡ heardAs f g → f .due ≤ 6 → h .of ≤ 6
 of-fits f g {h} e l = omega (arith, l, ap (λ (x : Heard). x .of) e, heard-due f g)
 
-module _ (only : ℕ) (p : Pair) (f : Frame) (buf part out : List ℕ) (held : Held f) (size : keptMost ≤ length buf) {h : Heard} {buf2 : List ℕ}
+module _ (f : Frame) (buf part : List ℕ) (held : Held f) (size : keptMost ≤ length buf) {h : Heard} {buf2 : List ℕ}
     (e : h ≡ heardAs f (gatherOf (f .fill .lines + 1) (keptIn (f .fill) buf) part))
     (q : buf2 ≡ over (gatherOf (f .fill .lines + 1) (keptIn (f .fill) buf) part .kept .bytes) buf) where
   abbrev g : Gathered
   g = gatherOf (f .fill .lines + 1) (keptIn (f .fill) buf) part
 
-  heard-is : saidBy h buf2 ≡ heardOf f buf part (h .used)
+  pub heard-is : saidBy h buf2 ≡ heardOf f buf part (h .used)
   heard-is =
       ap (saidBy h) q ∙ ap (λ (x : Heard). saidBy x (over (g .kept .bytes) buf)) e
       ∙ hear-onward f buf part (omega (arith, held .room .most, size))
       ∙ ap (λ (x : Heard). heardOf f buf part (x .used)) (sym e)
 
-  pub fed-one : {s : Pair} {w : ℕ} {out2 : List ℕ} → Gave (ran only p (pieceOf (h .what) (h .of) (take (h .count - 0) (drop 0 buf2)))) out out2 s w
-      → FedOn only p f buf part out buf2 out2 (record { pair = s; frame = h .frame; used = h .used; written = w })
-  fed-one {s} {w} {out2} v =
-      let n : h .count - 0 ≡ h .count = omega arith in
-      record {
-        due = ap (λ (x : Framed). x .due) heard-is;
-        kept = ap (λ (x : Framed). x .kept) heard-is;
-        gave = subst (λ (x : Framed). Gave (ran only p (x .pieces)) out out2 s w) heard-is
-            (subst (λ (i : ℕ). Gave (ran only p (pieceOf (h .what) (h .of) (take i buf2))) out out2 s w) n v);
-      }
+pub fed-one : (only : ℕ) (p : Pair) (f : Frame) (buf part out : List ℕ) (h : Heard) (buf2 : List ℕ) → saidOf h buf2 ≡ heardOf f buf part (h .used)
+    → {s : Pair} {w : ℕ} {out2 : List ℕ} → Gave (ran only p (pieceOf (h .what) (h .of) (take (h .count - 0) (drop 0 buf2)))) out out2 s w
+    → FedOn only p f buf part out buf2 out2 (record { pair = s; frame = h .frame; used = h .used; written = w })
+fed-one only p f buf part out h buf2 is {s} {w} {out2} v =
+    let n : h .count - 0 ≡ h .count = omega arith in
+    record {
+      due = ap (λ (x : Framed). x .due) is;
+      kept = ap (λ (x : Framed). x .kept) is;
+      gave = subst (λ (x : Framed). Gave (ran only p (x .pieces)) out out2 s w) is
+          (subst (λ (i : ℕ). Gave (ran only p (pieceOf (h .what) (h .of) (take i buf2))) out out2 s w) n v);
+    }
 
 -- ---- one after another
 

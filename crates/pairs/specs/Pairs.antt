@@ -12,6 +12,7 @@ use Rattle.table.specs.declared.table.Table.{Table}
 use Rattle.lines.specs.Kept.{Kept, keptIn}
 use Rattle.shared.specs.Shared.{judgedAt, settledAt, bytesAt}
 use Rattle.frames.specs.declared.Frame.{Frame}
+use Rattle.frames.specs.declared.Heard.{Heard}
 use Rattle.frames.specs.Frames.{tableDue, Piece, Whole, Cut, OfNone, Missing, pieceOf, endWhat, piecesOf, Framed, onward}
 use Rattle.couple.specs.declared.Pair.{Pair}
 use Rattle.couple.specs.Couple.{isSecond, tableAt, withTable, startOf, houseWith, shownBytes, lastBytes, Given, still, strayDone, refused, poolKey, poolDone, sheetDone, roomMost, Gave}
@@ -63,6 +64,10 @@ outputOf only input = let x = ran only startOf (piecesOf input) in x .bytes ++ l
 -- what the bytes of a part that are used up are cut into
 abbrev pub heardOf : Frame → List ℕ → List ℕ → ℕ → Framed
 heardOf f buf part used = onward (f .due) (keptIn (f .fill) buf) (take used part)
+
+-- what a call of `hear` says and leaves in the buffer, as what bytes lead to
+abbrev pub saidOf : Heard → List ℕ → Framed
+saidOf h buf = record { due = h .frame .due; kept = keptIn (h .frame .fill) buf; pieces = pieceOf (h .what) (h .of) (take (h .count) buf) }
 
 -- the promise of a call
 pub record FedOn (only : ℕ) (p : Pair) (f : Frame) (buf part out buf2 out2 : List ℕ) (r : Fed) : Type 0 where

@@ -13,6 +13,7 @@ use couple::table_at;
 use couple::with_table;
 use frames::CUT;
 use frames::Frame;
+use frames::Heard;
 use frames::NOTHING;
 use frames::OF_NONE;
 use frames::POOL;
@@ -31,7 +32,7 @@ ghost use lib.ListN.{length};
 ghost use Rattle.lines.specs.Kept.{keptMost, keptIn};
 ghost use Rattle.frames.specs.Frames.{Held, lastDue, pieceOf, endWhat};
 ghost use Rattle.couple.specs.Couple.{Good, roomMost, Gave};
-ghost use Rattle.pairs.specs.Pairs.{answered, wholeDone, ran, FedOn, goesOn};
+ghost use Rattle.pairs.specs.Pairs.{answered, wholeDone, ran, saidOf, heardOf, FedOn, goesOn};
 
 // The table that is due answers these lines, by way of a lent sheet.
 fn answer_on(
@@ -137,13 +138,44 @@ pub struct Fed {
     pub written: usize,
 }
 
-// The bytes of a part up to the next LF, or all of them; what that line makes whole is answered.
+// Line after line of a part, up to the first that makes something whole. The pair is not looked at, so lines that only gather don't carry it about.
+fn hear_on(f: Frame, buf: &mut [u8], part: &[u8]) -> Heard
+    requires { ⌜ Held f × (keptMost ≤ length (now buf)) ⌝ }
+    ensures heard { λ r. ⌜ saidOf r (now (buf .exit)) ≡ heardOf f (now (buf .entry)) (now (part .entry)) (r .used) ⌝ }
+    ensures held { λ r. ⌜ Held (r .frame) × (r .used ≤ length (now (part .entry))) × (0 < length (now (part .entry)) → 0 < r .used) × (r .count ≤ keptMost) × (r .of ≤ lastDue) ⌝ }
+{
+    let of = f.due;
+    let mut h = Heard {
+        frame: f,
+        used: 0,
+        what: NOTHING,
+        of,
+        count: 0,
+    };
+    while both(h.what == NOTHING, h.used < part.len()) {
+        let from = h.used;
+        let d = h.frame;
+        let k = hear(d, buf, &part[from..]);
+        let g = k.frame;
+        let next = Heard {
+            frame: g,
+            used: from + k.used,
+            what: k.what,
+            of: k.of,
+            count: k.count,
+        };
+        h = next;
+    }
+    h
+}
+
+// The lines of a part up to the first that makes something whole, or all of it; that is answered.
 pub fn feed(p: Pair, f: Frame, only: u8, buf: &mut [u8], part: &[u8], out: &mut [u8]) -> Fed
     requires { ⌜ Good p × Held f × (only ≤ 2) × (keptMost ≤ length (now buf)) × (roomMost ≤ length (now out)) ⌝ }
     ensures fed { λ r. ⌜ FedOn only p f (now (buf .entry)) (now (part .entry)) (now (out .entry)) (now (buf .exit)) (now (out .exit)) r ⌝ }
     ensures held { λ r. ⌜ Good (r .pair) × Held (r .frame) × (r .used ≤ length (now (part .entry))) × (0 < length (now (part .entry)) → 0 < r .used) × (r .written ≤ length (now (out .entry))) ⌝ }
 {
-    let h = hear(f, buf, part);
+    let h = hear_on(f, buf, part);
     let e = h.count;
     let s = take_piece(p, only, h.what, h.of, &buf[0..e], out);
     let q = s.pair;

@@ -1,38 +1,25 @@
 // The supervisor's page as the log comes: each block is judged by the proved box, and what it did is written. Between two blocks only a few numbers for each seat are kept.
-use accounts::Account;
 use blocks::Block;
+use blocks::Parsed;
 use chairs::seats::chair_at;
 use notes::Notes;
-use notes::account_at;
 use notes::place_of;
-use notes::with_account;
-use notes::with_end;
 use page::pen::Pen;
+use paper::Entry;
 use paper::TAKEN;
 use story::Event;
 use table::table::Payout;
 use table::table::Table;
+ghost use mathlib.Core.Path.{_≡_};
 ghost use Rattle.table.specs.Take.{Sound};
+ghost use Rattle.desk.specs.Desk.{judgedOf};
+ghost use Rattle.reporter.specs.Telling.{notesRead, notesParsed, notesAfter, notesOf};
 
 // The table and the notes after a block, and the pen.
 pub struct Reported {
     pub table: Table,
     pub notes: Notes,
     pub pen: Pen,
-}
-
-// The notes after a block, and the pen.
-struct Noted {
-    notes: Notes,
-    pen: Pen,
-}
-
-// A refused block: the table is as it was.
-fn refuse(out: &mut [u8], p: Pen, m: Notes, e: Event, code: u8) -> Noted {
-    let pen = story::put_refused(out, p, e, code, !m.refusing);
-    let mut notes = m;
-    notes.refusing = true;
-    Noted { notes, pen }
 }
 
 // A block's five numbers.
@@ -97,92 +84,47 @@ fn event_of(b: Block, t: Table, u: Table) -> Event {
     }
 }
 
-// What a sitting has put into a hand that it leaves is among what it has put in.
-fn leaving(a: Account, e: Event) -> Account {
-    if e.inside {
-        return accounts::with_put(a, e.put);
-    }
-    a
-}
-
-// A sitting leaves: its row, and the sums.
-fn leave(out: &mut [u8], p: Pen, m: Notes, e: Event) -> Noted {
-    let i = place_of(e.seat);
-    let a = leaving(account_at(m, i), e);
+// A sitting leaves: its row.
+fn leave(out: &mut [u8], p: Pen, m: Notes, t: Table, e: Event) -> Pen {
+    let cs = t.chairs;
+    let c = chair_at(cs, e.seat);
+    let a = notes::account_now(m, c, place_of(e.seat));
     let q = story::put_event(out, p, e);
     let b = closing::put_row(out, q, e.sitting, e.seat, a, e.stack);
-    let pen = page::pen::put(out, b, b"<span>left</span></div>\n");
-    let sums = m.gone;
-    let gone = accounts::with_account(sums, a, e.stack);
-    let mut notes = m;
-    notes.gone = gone;
-    Noted { notes, pen }
-}
-
-// What an entry does to the notes of its seat.
-fn seat_noted(m: Notes, t: Table, e: Event) -> Notes {
-    let i = place_of(e.seat);
-    let kind = e.kind;
-    match kind {
-        0 => with_account(m, i, accounts::seated(e.left)),
-        4 => with_end(m, i, 1),
-        9 => with_end(m, i, 2),
-        8 => notes::rounds_noted(m, t),
-        _ => m,
-    }
-}
-
-fn take_entry(out: &mut [u8], p: Pen, m: Notes, t: Table, e: Event) -> Noted {
-    if e.kind == 1 {
-        return leave(out, p, m, e);
-    }
-    let notes = seat_noted(m, t, e);
-    let pen = story::put_event(out, p, e);
-    Noted { notes, pen }
+    page::pen::put(out, b, b"<span>left</span></div>\n")
 }
 
 // A hand opens.
-fn open_hand(out: &mut [u8], p: Pen, m: Notes, t: Table, u: Table, e: Event) -> Noted {
-    let cs = t.chairs;
+fn open_hand(out: &mut [u8], p: Pen, m: Notes, t: Table, u: Table, e: Event) -> Pen {
     let hands = accounts::added(m.hands, 1);
     let a = dealings::put_opening(out, p, hands, e.n, e.seat);
-    let pen = dealings::put_all_dealt(out, a, t, u);
-    let notes = notes::opened(m, cs, hands);
-    Noted { notes, pen }
+    dealings::put_all_dealt(out, a, t, u)
 }
 
-// A hand is settled: the end of its section, and the sums.
-fn settle(out: &mut [u8], p: Pen, m: Notes, t: Table, paid: Payout) -> Noted
+// A hand is settled: the end of its section.
+fn settle(out: &mut [u8], p: Pen, m: Notes, t: Table, paid: Payout) -> Pen
     requires { ⌜ Sound t ⌝ }
 {
     let a = notes::rounds_noted(m, t);
-    let pen = dealings::put_settled(out, p, a, t, paid);
-    let cs = t.chairs;
-    let each = paid.paid;
-    let charges = a.charges;
-    let next = accounts::with_charges(charges, paid.fee, paid.drop, paid.unclaimed);
-    let mut notes = notes::accounts_settled(a, cs, each);
-    notes.charges = next;
-    Noted { notes, pen }
+    dealings::put_settled(out, p, a, t, paid)
 }
 
-// A taken entry: the line of it, and what it does to the notes.
-fn take(out: &mut [u8], p: Pen, m: Notes, t: Table, u: Table, e: Event, paid: Payout) -> Noted
+// A taken entry: the line of it.
+fn take(out: &mut [u8], p: Pen, m: Notes, t: Table, u: Table, e: Event, paid: Payout) -> Pen
     requires { ⌜ Sound t ⌝ }
 {
     let a = story::put_folded(out, p, m.refusing);
-    let mut notes = m;
-    notes.refusing = false;
     let kind = e.kind;
     match kind {
-        2 => open_hand(out, a, notes, t, u, e),
-        10 => settle(out, a, notes, t, paid),
-        _ => take_entry(out, a, notes, t, e),
+        1 => leave(out, a, m, t, e),
+        2 => open_hand(out, a, m, t, u, e),
+        10 => settle(out, a, m, t, paid),
+        _ => story::put_event(out, a, e),
     }
 }
 
-// A block that was judged.
-fn note(
+// A block that was judged: its line.
+fn put_block(
     out: &mut [u8],
     p: Pen,
     m: Notes,
@@ -191,32 +133,66 @@ fn note(
     e: Event,
     code: u8,
     paid: Payout,
-) -> Noted
+) -> Pen
     requires { ⌜ Sound t ⌝ }
 {
-    let codes = m.codes;
-    let next = accounts::with_code(codes, code);
-    let mut notes = m;
-    notes.codes = next;
     if code == TAKEN {
-        return take(out, p, notes, t, u, e, paid);
+        return take(out, p, m, t, u, e, paid);
     }
-    refuse(out, p, notes, e, code)
+    story::put_refused(out, p, e, code, !m.refusing)
+}
+
+// The notes after an entry with its code.
+fn notes_read(m: Notes, t: Table, e: Entry, code: u8, paid: Payout) -> Notes
+    ensures { λ r. ⌜ r ≡ notesRead m t e code paid ⌝ }
+{
+    if code == TAKEN {
+        return notes::entries::taken(m, t, e, paid);
+    }
+    notes::entries::refused(m, code)
+}
+
+fn notes_parsed(m: Notes, t: Table, p: Parsed, code: u8, paid: Payout) -> Notes
+    ensures { λ r. ⌜ r ≡ notesParsed m t p code paid ⌝ }
+{
+    match p {
+        Parsed::Read(e) => notes_read(m, t, e, code, paid),
+        Parsed::OutOfRange => notes::entries::refused(m, code),
+    }
+}
+
+// The notes after a block with its code, and what it paid.
+fn notes_after(m: Notes, t: Table, b: Block, code: u8, paid: Payout) -> Notes
+    ensures { λ r. ⌜ r ≡ notesAfter m t b code paid ⌝ }
+{
+    match b {
+        Block::Raw {
+            n,
+            kind,
+            seat,
+            a,
+            b,
+        } => {
+            let p = blocks::entry_of(kind, seat, a, b);
+            notes_parsed(m, t, p, code, paid)
+        }
+        Block::Malformed => notes::entries::refused(m, code),
+        Block::Nothing => notes::entries::refused(m, code),
+    }
 }
 
 // A block: judged, and told.
 pub fn tell(out: &mut [u8], p: Pen, m: Notes, t: Table, block: &[u8]) -> Reported
     requires { ⌜ Sound t ⌝ }
-    ensures { λ r. ⌜ Sound (r .table) ⌝ }
+    ensures { λ r. ⌜ (r .table ≡ judgedOf t (now (block .entry)) .table) × (r .notes ≡ notesOf m t (now (block .entry))) × Sound (r .table) ⌝ }
 {
     let b = blocks::read_block(block);
     let j = desk::judge(t, block);
     let u = j.table;
     let paid = j.payout;
     let e = event_of(b, t, u);
-    let d = note(out, p, m, t, u, e, j.code, paid);
-    let notes = d.notes;
-    let pen = d.pen;
+    let pen = put_block(out, p, m, t, u, e, j.code, paid);
+    let notes = notes_after(m, t, b, j.code, paid);
     Reported {
         table: u,
         notes,

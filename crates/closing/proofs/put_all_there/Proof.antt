@@ -7,10 +7,10 @@ use Rattle.closing.proofs.put_all_there.Statement.{statement}
 use Rattle.closing.proofs.put_all_there.Tie as tie
 
 abbrev Inv-loop : tie.InvT-loop
-Inv-loop out₀ m cs l₀ i₀ out l i = length out ≡ length out₀
+Inv-loop out₀ m cs pen₀ i₀ out pen i = length out ≡ length out₀
 
 abbrev μ-loop : tie.MeasureT-loop
-μ-loop out₀ m cs l₀ i₀ out l i = 10 - i
+μ-loop out₀ m cs pen₀ i₀ out pen i = 10 - i
 
 loop-holds : tie.Need-loop-holds Inv-loop μ-loop
 loop-holds c = search needs

@@ -1,19 +1,24 @@
--- `scores_of` meets its contract.
-use mathlib.Core.Path.{_≡_, refl}
-use Prim.Native.Nat.{_-_, _≤_}
-use lib.ListN.{length}
+-- `scores_of` meets its contract: in front of the place the scores are written, behind it they are still to come.
+use mathlib.Core.Path.{_≡_, refl, sym, ap, _∙_}
+use mathlib.Core.List.{_∷_, _++_, map}
+use Prim.Native.Nat.{ℕ, _+_, _-_, _*_, _≤_}
+use lib.ListN.{length, take, drop, length-set}
+use native.Mathlib.Omega.{arith}
+use Rattle.laws.proofs.Places.{front-turn, front-done}
+use Rattle.dealings.specs.Dealings.{scoreIn}
+use Rattle.dealings.proofs.Laws.{unreadPart}
 use borrow.Author.Needs.{needs}
 use Rattle.dealings.proofs.scores_of.Statement.{statement}
 use Rattle.dealings.proofs.scores_of.Tie as tie
 
 abbrev Inv-loop : tie.InvT-loop
-Inv-loop parts a₀ i₀ a i = length a ≡ 10
+Inv-loop parts a₀ i₀ a i = (i ≤ 10) × (length a ≡ 10) × (take i a ++ map scoreIn (drop i parts) ≡ map scoreIn parts)
 
 abbrev μ-loop : tie.MeasureT-loop
 μ-loop parts a₀ i₀ a i = 10 - i
 
 loop-holds : tie.Need-loop-holds Inv-loop μ-loop
-loop-holds c = search needs
+loop-holds c = (omega arith, refl, refl)
 
 mul-q : tie.Need-mul-q Inv-loop μ-loop
 mul-q c = search needs
@@ -34,10 +39,21 @@ loop-less : tie.Need-loop-less Inv-loop μ-loop
 loop-less c = search needs
 
 loop-again : tie.Need-loop-again Inv-loop μ-loop
-loop-again c = search needs
+loop-again c =
+    let ps = c .before .before .before .args .t1 in
+    let l = c .before .before .loop in
+    let n : length ps ≡ 10 = search needs in (
+      omega arith,
+      simp length-set (l .inv .1),
+      front-turn (map scoreIn) (map scoreIn) unreadPart (l .a) (map scoreIn ps) ps (l .i) _ (omega arith) (omega arith) refl (l .inv .2),
+    )
 
 returns : tie.Need-returns Inv-loop μ-loop
-returns c = search needs
+returns c =
+    let ps = c .before .before .args .t1 in
+    let l = c .before .loop in
+    let n : length ps ≡ 10 = search needs in
+    front-done (map scoreIn) (l .a) (map scoreIn ps) ps (l .i) (omega arith) (omega arith) refl (l .inv .2)
 
 pub scores-of-spec : {M : Type 1} → statement M
 scores-of-spec =

@@ -1,19 +1,24 @@
--- `stacks_of` meets its contract.
+-- `stacks_of` meets its contract: in front of the place the stacks are written, behind it they are still to come.
+use Rattle.notes.specs.Notes.{stackOf}
+use Rattle.chairs.proofs.Laws.{unread}
+use Rattle.laws.proofs.Places.{front-turn, front-done}
 use mathlib.Core.Path.{_≡_, refl}
+use mathlib.Core.List.{_++_, map}
 use Prim.Native.Nat.{_-_, _≤_}
-use lib.ListN.{length}
+use lib.ListN.{length, take, drop, length-set}
+use native.Mathlib.Omega.{arith}
 use borrow.Author.Needs.{needs}
 use Rattle.notes.proofs.stacks_of.Statement.{statement}
 use Rattle.notes.proofs.stacks_of.Tie as tie
 
 abbrev Inv-loop : tie.InvT-loop
-Inv-loop cs a₀ i₀ a i = length a ≡ 10
+Inv-loop cs a₀ i₀ a i = (i ≤ 10) × (length a ≡ 10) × (take i a ++ map stackOf (drop i cs) ≡ map stackOf cs)
 
 abbrev μ-loop : tie.MeasureT-loop
 μ-loop cs a₀ i₀ a i = 10 - i
 
 loop-holds : tie.Need-loop-holds Inv-loop μ-loop
-loop-holds c = search needs
+loop-holds c = (omega arith, refl, refl)
 
 mul-c : tie.Need-mul-c Inv-loop μ-loop
 mul-c c = search needs
@@ -34,10 +39,21 @@ loop-less : tie.Need-loop-less Inv-loop μ-loop
 loop-less c = search needs
 
 loop-again : tie.Need-loop-again Inv-loop μ-loop
-loop-again c = search needs
+loop-again c =
+    let cs = c .before .before .before .args .t1 in
+    let l = c .before .before .loop in
+    let n : length cs ≡ 10 = search needs in (
+      omega arith,
+      simp length-set (l .inv .1),
+      front-turn (map stackOf) (map stackOf) unread (l .a) (map stackOf cs) cs (l .i) _ (omega arith) (omega arith) refl (l .inv .2),
+    )
 
 returns : tie.Need-returns Inv-loop μ-loop
-returns c = search needs
+returns c =
+    let cs = c .before .before .args .t1 in
+    let l = c .before .loop in
+    let n : length cs ≡ 10 = search needs in
+    front-done (map stackOf) (l .a) (map stackOf cs) cs (l .i) (omega arith) (omega arith) refl (l .inv .2)
 
 pub stacks-of-spec : {M : Type 1} → statement M
 stacks-of-spec =

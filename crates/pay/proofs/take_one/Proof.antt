@@ -1,7 +1,7 @@
 -- `pay::take_one` meets its contract: what is kept of a line and what is written stay within their buffers, and what holds at every line is kept. Assumes nothing.
 use Rattle.lines.specs.declared.Fill.{Fill}
 use mathlib.Core.Path.{ap}
-use Rattle.pay.proofs.Rest.{rest-some}
+use Rattle.output.proofs.Rest.{rest-some}
 use native.Mathlib.Omega.{arith}
 use borrow.Author.Needs.{needs}
 use Rattle.pay.proofs.take_one.Statement.{statement}

@@ -1,6 +1,6 @@
 -- `take_one` meets its contract.
 use native.Mathlib.Omega.{arith}
-use Rattle.report.proofs.Rest.{rest-some}
+use Rattle.output.proofs.Rest.{rest-some}
 use borrow.Author.Needs.{needs}
 use Rattle.report.proofs.take_one.Statement.{statement}
 use Rattle.report.proofs.take_one.Tie as tie

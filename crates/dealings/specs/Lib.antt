@@ -1,0 +1,2 @@
+-- A hand as its section of the page needs it.
+pub mod Dealings

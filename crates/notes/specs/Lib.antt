@@ -1,0 +1,2 @@
+-- What the supervisor's page keeps between two blocks.
+pub mod Notes

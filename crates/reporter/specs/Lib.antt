@@ -1,0 +1,2 @@
+-- The notes after each block of a log.
+pub mod Telling
