@@ -1,5 +1,4 @@
 -- The calls over a maker's arrays: a refusal changes nothing, and else the arrays hold what the stream's `start`, `feed` and `close` gave. Assumes nothing.
--- ---- the start
 use Prim.Native.Nat.{ℕ, _-_, _≤_, _<_}
 use mathlib.Core.Path.{_≡_, refl, sym, ap, subst, _∙_}
 use mathlib.Core.List.{List, [], _∷_, _++_}
@@ -17,6 +16,8 @@ use Rattle.stream.specs.Feeding.{stateOf, keptBy, Held, startOf, Gave, heardOf,
 use Rattle.stream.specs.Parts.{calledOf, callOf}
 use Rattle.packed.specs.Layout.{fieldsSize, clerkBytes, clerkFrom}
 use Rattle.embed.specs.Lent.{stateSize, bufferIn, KeptState, startCode, callCode, StartedIn, callIn, usedIn, CalledIn, FedIn, closingIn, ClosedIn}
+
+-- ---- the start
 
 pub start-refused : (state : List ℕ) {r : ℕ} → r ≡ startCode (length state) → (r ≡ 0 → ⊥) → (stateSize ≤ length state → r ≡ 0) → StartedIn state state r
 start-refused state e n room = record {

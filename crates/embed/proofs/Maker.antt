@@ -1,6 +1,5 @@
 -- THE MAKER'S RUN: however a log is cut, what start, feeding every part until it is used up, and the close write is the output of the whole log (maker-output).
 -- For any parts, none and empty ones too. Assumes nothing.
--- what a maker has after some calls is what was served
 use Prim.Native.Nat.{ℕ, zero, suc, _-_, _≤_, _<_}
 use mathlib.Core.Bool.{Bool}
 use mathlib.Core.Path.{_≡_, refl, sym, ap, subst, _∙_}
@@ -24,6 +23,7 @@ use Rattle.packed.proofs.Again.{bytes-length}
 use Rattle.embed.specs.Lent.{stateSize, bufferIn, callIn, usedIn, CalledIn, StartedIn, closingIn, ClosedIn}
 use Rattle.embed.specs.Maker.{FedWhole, used-up, once-more, FedAll, no-part, one-part}
 
+-- what a maker has after some calls is what was served
 record Same (state bs : List ℕ) (x : Served) : Type 0 where
   clerk : clerkFrom state ≡ x .clerk
   buf : bufferIn state ≡ x .buf

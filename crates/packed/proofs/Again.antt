@@ -1,6 +1,5 @@
 -- THE ROUND TRIP: what was packed reads back: a chair (chair-back), any number of them one behind the other (chairs-back), the clerk (clerk-back); and `pack`
 -- leaves bytes that do. Each is what a machine's numbers and arrays are by their types (Fits). Assumes nothing.
--- a word's four bytes, read together
 use mathlib.Core.Path.{_≡_, refl, sym, ap, _∙_}
 use mathlib.Core.Bool.{Bool, true, false}
 use mathlib.Core.List.{List, [], _∷_, _++_, map, append-assoc}
@@ -17,6 +16,7 @@ use Rattle.packed.specs.Layout.{isSet, cardsFour, cardsFive, chairWords,
 use Rattle.packed.specs.Fits.{IsWord, ChairFits, HeadFits}
 use Rattle.packed.proofs.Rows.{each-length, two-wrote}
 
+-- a word's four bytes, read together
 abbrev sealed : ℕ → ℕ
 sealed w = w % 256 + 256 * (w / 256 % 256 + 256 * (w / 256 / 256 % 256 + 256 * (w / 256 / 256 / 256 % 256)))
 

@@ -1,5 +1,4 @@
 -- What a reading loop keeps of the chairs, and an array spelled out: it has as many elements as its type says. Assumes nothing.
--- so many elements from a place on
 use mathlib.Core.Path.{_≡_, sym, ap, _∙_}
 use mathlib.Core.List.{List, [], _∷_, _++_, append-nil}
 use Prim.Native.Nat.{ℕ, zero, suc, _+_, _-_, _*_, _≤_, _<_}
@@ -10,6 +9,7 @@ use Rattle.laws.proofs.Places.{store-front}
 use Rattle.chairs.specs.declared.Chair.{Chair}
 use Rattle.packed.specs.Layout.{chairIn, chairsIn}
 
+-- so many elements from a place on
 abbrev from : ℕ → ℕ → List ℕ → List ℕ
 from i zero k = []
 from i (suc n) k = getD k i 0 ∷ from (suc i) n k

@@ -1,6 +1,5 @@
 -- Issue 35: "the clerk packed into bytes and back .. so that a maker keeps one array". First 18 words, each in four bytes with the low one first, and ten single
 -- bytes; behind them each chair, five words and eight single bytes. A bool is 1 or 0. Assumes nothing.
--- the bytes of each, one behind the other
 use Prim.Native.Nat.{ℕ, zero, suc}
 use mathlib.Core.Bool.{Bool, not}
 use mathlib.Core.List.{List, [], _∷_, _++_}
@@ -17,6 +16,7 @@ use Rattle.table.specs.declared.table.Table.{Table}
 use Rattle.lines.specs.declared.Fill.{Fill}
 use Rattle.stream.specs.declared.Clerk.{Clerk}
 
+-- the bytes of each, one behind the other
 abbrev pub each : {A : Type 0} → (A → List ℕ) → List A → List ℕ
 each f [] = []
 each f (x ∷ xs) = f x ++ each f xs
