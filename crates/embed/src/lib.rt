@@ -91,7 +91,7 @@ fn feed_in(state: &mut [u8], part: &[u8], out: &mut [u8]) -> Did
     let c = unpack(&state[..]);
     let f = stream::feed(c, &mut state[FIELDS..], part, out);
     let d = f.clerk;
-    pack(state, c);
+    pack(state, d);
     Did {
         used: f.used,
         written: f.written,
