@@ -37,7 +37,6 @@ use Rattle.neighbours.specs.Keyed.{isShut}
 use Rattle.neighbours.specs.Hands.{poolSaid, openingIn, openingOf, poolOf, whichOf, playedBy, playedTo, handsIn, handsOf}
 use Rattle.neighbours.proofs.Order.{ofTable, isDue, behind, inOrder, pieces-ordered}
 use Rattle.neighbours.proofs.Tables.{still-open, open-in, poolBy}
-use Rattle.pool.specs.declared.PoolOpened as poolOpening
 use Rattle.text.specs.declared.sheet.SheetRead.the-variants as read-as
 
 -- ---- hands one behind the other
@@ -167,7 +166,7 @@ pool-opens p Bad h = absurd (true≢false h)
 opened-held : (v : ℕ) → openedWith v .code ≡ taken → openedWith v .pool .held ≡ v
 opened-held v e =
     ⊎-elim
-    (λ (a : v ≤ most). ap (λ (o : poolOpening.SheetRead). o .pool .held) (opening-good v a))
+    (λ (a : v ≤ most). rw (opening-good v a))
     (λ (a : most < v). absurd (omega (arith, opening-bad v a, e)))
     (le-or-lt v most)
 
@@ -181,7 +180,7 @@ Books xs =
 books-none : Books []
 unfolding poolAfter houseParts
 books-none =
-    let e : openedWith 0 .pool ≡ record { held = 0 } = ap (λ (o : poolOpening.SheetRead). o .pool) (opening-good 0 (omega arith)) in
+    let e : openedWith 0 .pool ≡ record { held = 0 } = rw (opening-good 0 (omega arith)) in
     (sym e, refl, ap (λ (q : Pool). q .held) e)
 
 books-on : (x : Piece) (xs : List Piece) (v : ℕ) → poolSaid x ≡ v → pick (startOf .shut) [] (playedTo startOf x) ≡ [] → inOrder 1 xs ≡ true → ran 0 startOf (x ∷ xs) .pair .shut ≡ false
