@@ -4,14 +4,14 @@ use answers::Payout;
 use answers::Row;
 use answers::Shown;
 use answers::answer_len;
-use answers::write_answer;
 use blocks::Block;
 use blocks::Parsed;
 use paper::MALFORMED;
-use paper::NO_ROOM;
 use paper::OUT_OF_RANGE;
+use quiet::answer_kept;
+use quiet::shown_with;
+use table::settle::stands_now;
 use table::table::Table;
-use writing::Written;
 ghost use mathlib.Core.Path.{_≡_};
 ghost use Prim.Native.Nat.{ℕ, _+_, _-_, _*_, _≤_, _<_, _^_};
 ghost use mathlib.Core.List.{List, [], _∷_, _++_};
@@ -24,6 +24,7 @@ ghost use Rattle.desk.specs.Desk.{rowsOf, payoutShown, shownOf, judgePar
 ghost use Rattle.desk.specs.Room.{roomOf};
 
 pub mod log;
+pub mod quiet;
 
 fn wide(x: u8) -> u32
     ensures { λ r. ⌜ (r ≡ x) × (r < 256) ⌝ }
@@ -75,19 +76,7 @@ pub fn shown_of(n: u32, code: u8, t: Table, paid: table::table::Payout) -> Shown
     requires { ⌜ Sound t × (n < 10 ^ 9) × SmallPaid paid × Closed t paid ⌝ }
     ensures { λ r. ⌜ (r ≡ shownOf n code t paid) × Small r ⌝ }
 {
-    let stands = table::settle::stands_now(t);
-    let ps = stands.pots;
-    let p = payout_shown(paid);
-    Shown {
-        n: n,
-        code: wide(code),
-        turn: t.play.turn,
-        mark: t.play.mark,
-        pots: ps,
-        back: stands.back,
-        settled: paid.settled,
-        payout: p,
-    }
+    shown_with(n, code, t, stands_now(t), paid)
 }
 
 // Whether there was a block, its number, its code, the table after it, and what it paid.
@@ -191,33 +180,9 @@ pub fn answer_block(table: Table, b: Block, sheet: &mut [u8]) -> Answered
     ensures bytes { λ r. ⌜ now (sheet .exit) ≡ sheetAfter (judgedBytes (judgeBlock table b)) (now (sheet .entry)) ⌝ }
     ensures sound { λ r. ⌜ Sound (r .table) ⌝ }
 {
-    let j = judge_block(table, b);
-    let u = j.table;
-    if !j.block {
-        return Answered {
-            block: false,
-            code: j.code,
-            table: u,
-            written: 0,
-        };
-    }
-    let paid = j.payout;
-    let s = shown_of(j.n, j.code, u, paid);
-    let w = write_answer(sheet, s);
-    let Written::Bytes(k) = w else {
-        return Answered {
-            block: j.block,
-            code: NO_ROOM,
-            table,
-            written: 0,
-        };
-    };
-    Answered {
-        block: j.block,
-        code: j.code,
-        table: u,
-        written: k,
-    }
+    let stands = stands_now(table);
+    let a = answer_kept(table, stands, b, sheet);
+    a.answered
 }
 
 // The answer to the block at the front of a log, at the front of the sheet.

@@ -3,15 +3,16 @@ use answers::LONGEST;
 use blocks::front_rest;
 use blocks::read_front;
 use desk::answer;
-use desk::answer_block;
 use desk::log::read_opening;
 use desk::log::refuse_sheet;
+use desk::quiet::answer_kept;
 use lines::Mark;
 use lines::empty;
 use lines::gather;
 use lines::lines_of;
 use paper::NO_ROOM;
 use paper::STAND_IN;
+use table::settle::stands_now;
 use table::table::Table;
 use table::take::new_table;
 use text::sheet::Opening;
@@ -174,6 +175,7 @@ pub fn in_place(t: Table, part: &[u8], out: &mut [u8]) -> Ran
     ensures sound { λ r. ⌜ Sound (r .table) × (r .used ≤ length (now (part .entry))) × (r .written ≤ length (now (out .entry))) ⌝ }
 {
     let mut table = t;
+    let mut stands = stands_now(t);
     let mut left = part;
     let mut at: usize = 0;
     while 0 < left.len() {
@@ -186,7 +188,8 @@ pub fn in_place(t: Table, part: &[u8], out: &mut [u8]) -> Ran
             };
         }
         let b = f.block;
-        let a = answer_block(table, b, &mut out[at..]);
+        let k = answer_kept(table, stands, b, &mut out[at..]);
+        let a = k.answered;
         if a.code == NO_ROOM {
             return Ran {
                 table,
@@ -196,6 +199,8 @@ pub fn in_place(t: Table, part: &[u8], out: &mut [u8]) -> Ran
         }
         let u = a.table;
         table = u;
+        let kept = k.stands;
+        stands = kept;
         at += a.written;
         let next = front_rest(left, f.used);
         left = &next[0..];
