@@ -1,33 +1,37 @@
 -- Laws of loops over the chairs that write a hand's sittings and count the dealt in; the chips of a hand from their parts. Assumes nothing.
 use Prim.Native.Nat.{ℕ, suc, _+_, _≤_, _<_}
-use mathlib.Core.Bool.{Bool, false}
+use mathlib.Core.Bool.{Bool, false, not}
 use mathlib.Core.Path.{_≡_, refl, sym, ap, ap₂, _∙_}
 use mathlib.Core.List.{List, [], _∷_, _++_, map}
 use native.Mathlib.Numerals.{add-one}
 use lib.ListN.{length, getD, take, drop, set}
 use lib.Seq.{drop-cons}
 use lib.Dec.{ltb}
-use Rattle.laws.specs.Tests.{one}
+use Rattle.laws.specs.Tests.{one, either}
 use Rattle.laws.specs.Often.{tally}
 use Rattle.laws.proofs.Places.{front-turn, front-done}
 use Rattle.chairs.specs.declared.Chair.{Chair}
 use Rattle.chairs.proofs.Laws.{unread}
 use Rattle.table.specs.declared.table.Table.{Table}
+use Rattle.table.specs.declared.table.Payout.{Payout}
 use Rattle.notes.specs.declared.Notes.{Notes}
 use Rattle.pots.specs.declared.Pots.{Pots}
 use Rattle.pots.specs.declared.Pot.{Pot}
 use Rattle.section.specs.declared.Part.{Part}
+use Rattle.section.specs.declared.Hand.{Hand as SectionHand}
 use Rattle.pots.specs.Heights.{maskAt}
 use Rattle.pots.specs.Runs.{padded}
+use Rattle.pots.specs.Settle.{sole}
 use Rattle.chairs.specs.Chairs.{columnOf}
 use Rattle.chairs.specs.declared.What.the-variants.{Total, Sitting, Live, Here}
 use Rattle.table.specs.Settle.{potsNow, backNow}
+use Rattle.spots.specs.Spots.{reachOfFirst}
 use Rattle.spots.specs.declared.Chips.{Chips}
 use Rattle.cards.specs.Hands.{rankingOf}
 use Rattle.cards.specs.Order.{bestOf}
 use Rattle.cards.specs.declared.Hand.{Hand}
 use Rattle.dealings.specs.declared.Best.{Best}
-use Rattle.dealings.specs.Dealings.{shownAs, bestOfTwo, partAt, partsFrom, chipsShown}
+use Rattle.dealings.specs.Dealings.{shownAs, bestOfTwo, partAt, partsFrom, scoreIn, chipsShown, handShown}
 
 -- the checker's part past the last
 abbrev pub unreadPart : Part
@@ -67,3 +71,13 @@ pub two-made : {h : Hand} {r : Best} (deck : ℕ) (d k : List ℕ)
     → h ≡ bestOf (rankingOf deck) (getD d 0 0 ∷ getD d 1 0 ∷ getD k 0 0 ∷ getD k 1 0 ∷ getD k 2 0 ∷ getD k 3 0 ∷ getD k 4 0 ∷ []) → r ≡ shownAs deck h → r ≡ bestOfTwo deck d k
 unfolding bestOfTwo
 two-made deck d k e q = q ∙ ap (λ (x : Hand). shownAs deck x) e
+
+abbrev handBy : Chips → List Part → List ℕ → Bool → Payout → SectionHand
+handBy chips parts scores settled paid = record { chips = chips; parts = parts; scores = scores; settled = settled; fee = paid .fee; drop = paid .drop; unclaimed = paid .unclaimed }
+
+-- a hand from what was found of it
+pub hand-made : {chips : Chips} {low : ℕ} {one-live alone : Bool} {parts : List Part} {scores : List ℕ} (m : Notes) (t : Table) (settled : Bool) (paid : Payout)
+    → chips ≡ chipsShown m t → low ≡ reachOfFirst (chips .totals) (chips .pots) (chips .pots .n) → one-live ≡ sole 10 (chips .live) → alone ≡ either (not settled) one-live
+    → parts ≡ partsFrom m t low alone (paid .paid) 0 (t .chairs) → scores ≡ map scoreIn parts → handBy chips parts scores settled paid ≡ handShown m t settled paid
+unfolding handShown
+hand-made m t settled paid e1 e2 e3 e4 e5 e6 = rw (e6, e5, e4, e3, e2, e1) refl

@@ -5,7 +5,7 @@ use mathlib.Core.Bool.{Bool, true, false, not}
 use mathlib.Core.List.{List, [], _∷_, map}
 use lib.Dec.{ltb, eqb}
 use lib.ListN.{getD, length, replicate}
-use Rattle.laws.specs.Tests.{both, pick}
+use Rattle.laws.specs.Tests.{both, either, pick}
 use Rattle.laws.specs.Often.{tally}
 use Rattle.cards.specs.Hands.{rankingOf}
 use Rattle.cards.specs.Order.{bestAmong, bestOf, strengthBy}
@@ -13,6 +13,7 @@ use Rattle.cards.specs.Omaha.{fromBoth}
 use Rattle.cards.specs.declared.Hand.{Hand}
 use Rattle.pots.specs.Heights.{maskAt}
 use Rattle.pots.specs.Runs.{padded}
+use Rattle.pots.specs.Settle.{sole}
 use Rattle.chairs.specs.Chairs.{columnOf}
 use Rattle.chairs.specs.declared.Chair.{Chair}
 use Rattle.chairs.specs.declared.Hole.{Hole}
@@ -20,10 +21,13 @@ use Rattle.chairs.specs.declared.What.the-variants.{Total, Sitting, Live, Here}
 use Rattle.table.specs.Settle.{potsNow, backNow}
 use Rattle.table.specs.declared.table.Table.{Table}
 use Rattle.table.specs.declared.table.Board.{Board}
+use Rattle.table.specs.declared.table.Payout.{Payout}
 use Rattle.notes.specs.Notes.{roundsAt}
 use Rattle.notes.specs.declared.Notes.{Notes}
+use Rattle.spots.specs.Spots.{reachOfFirst}
 use Rattle.spots.specs.declared.Chips.{Chips}
 use Rattle.section.specs.declared.Part.{Part}
+use Rattle.section.specs.declared.Hand.{Hand as SectionHand}
 use Rattle.dealings.specs.declared.Best.{Best}
 
 -- a hand that is not looked at
@@ -95,4 +99,21 @@ chipsShown m t = record {
   here = maskAt (map (columnOf Here) (t .chairs)) 1;
   pots = record { n = length (potsNow t); list = padded 9 (potsNow t) };
   back = backNow t;
+}
+
+-- the sittings of the hand: what lies above all its pots goes back; no cards are looked at before the settle, nor where one hand alone is live
+abbrev pub partsShown : Notes → Table → Bool → Payout → Chips → List Part
+partsShown m t settled paid chips =
+    partsFrom m t (reachOfFirst (chips .totals) (chips .pots) (chips .pots .n)) (either (not settled) (sole 10 (chips .live))) (paid .paid) 0 (t .chairs)
+
+-- the hand with its chips, its sittings, and what the payout says
+unfoldable pub handShown : Notes → Table → Bool → Payout → SectionHand
+handShown m t settled paid = record {
+  chips = chipsShown m t;
+  parts = partsShown m t settled paid (chipsShown m t);
+  scores = map scoreIn (partsShown m t settled paid (chipsShown m t));
+  settled = settled;
+  fee = paid .fee;
+  drop = paid .drop;
+  unclaimed = paid .unclaimed;
 }

@@ -20,7 +20,7 @@ ghost use Prim.Native.Nat.{_≤_};
 ghost use Rattle.laws.specs.Tests.{one};
 ghost use Rattle.laws.specs.Often.{tally};
 ghost use Rattle.table.specs.Take.{Sound};
-ghost use Rattle.dealings.specs.Dealings.{notShown, shownAs, bestOfTwo, bestOfFour, bestWith, lookedAt, bestAt, partWith, partAt, partsFrom, scoreIn, chipsShown};
+ghost use Rattle.dealings.specs.Dealings.{notShown, shownAs, bestOfTwo, bestOfFour, bestWith, lookedAt, bestAt, partWith, partAt, partsFrom, scoreIn, chipsShown, handShown};
 
 // The heading, which a link can name.
 pub fn put_opening(out: &mut [u8], p: Pen, hand: u64, n: u32, puck: u32) -> Pen {
@@ -322,6 +322,7 @@ fn chips_of(m: Notes, t: Table) -> Chips
 // The hand, settled or not.
 fn hand_of(m: Notes, t: Table, settled: bool, paid: Payout) -> Hand
     requires { ⌜ Sound t ⌝ }
+    ensures { λ r. ⌜ r ≡ handShown m t settled paid ⌝ }
 {
     let chips = chips_of(m, t);
     let ps = chips.pots;
