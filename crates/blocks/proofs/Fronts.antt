@@ -1,20 +1,19 @@
 -- A line that is read at one go is the log's first line, and five of them are the block at its front. Assumes nothing.
--- bytes whose line is all of them have no LF
 use mathlib.Core.Path.{_≡_, refl, sym, ap, subst, _∙_}
 use mathlib.Core.List.{List, [], _∷_, _++_, append-assoc}
 use mathlib.Core.Bool.{Bool, true, false}
 use mathlib.Core.Logic.{⊎-elim}
-use Prim.Native.Nat.{ℕ, suc, _+_, _-_, _≤_, _<_}
+use Prim.Native.Nat.{ℕ, suc, _+_, _-_, _*_, _≤_, _<_}
 use native.Mathlib.Numerals.{add-one}
 use native.Mathlib.Omega.{arith}
 use lib.ListN.{length, getD, take, drop, length-append, length-drop, take-append-drop}
-use lib.Seq.{drop-cons, length-take-le}
+use lib.Seq.{drop-cons, length-take-le, getD-drop}
 use lib.Dec.{eqb, ltb}
 use borrow.Author.Tests.{lt-ltb, eqb-false}
 use Rattle.laws.specs.Tests.{pick}
 use Rattle.text.specs.Bytes.{allWithin, packOf}
-use Rattle.text.specs.Number.{numberOf}
-use Rattle.text.specs.Line.{lineLen, afterLine, hasKey, valueOf, lineNumber, afterLines}
+use Rattle.text.specs.Number.{numberOf, valueFrom}
+use Rattle.text.specs.Line.{lineLen, afterLine, startsWith, hasKey, valueOf, lineNumber, afterLines}
 use Rattle.blocks.specs.Block.{allLetters, kindNames, placeIn, kindOf, lineKind, restOf, blockOf}
 use Rattle.blocks.specs.Front.{blockEnded, frontOf, AtOneGo}
 use Rattle.text.specs.declared.Number.{Number}
@@ -26,13 +25,15 @@ use Rattle.blocks.specs.declared.front.Line.{Line}
 use Rattle.blocks.specs.declared.front.Front.{Front}
 use Rattle.laws.proofs.Sums.{le-or-lt}
 use Rattle.text.proofs.Parts.{part-is}
-use Rattle.blocks.proofs.Packs.{bytes-same}
+use Rattle.text.proofs.Lines.{key-here}
+use Rattle.blocks.proofs.Packs.{first-split}
 use Rattle.blocks.proofs.Blocks.{place-within, kind-letters, block-five}
 use Rattle.text.proofs.Bytes.{run-on}
-use Rattle.text.proofs.Numbers.{value-on, run-one}
+use Rattle.text.proofs.Numbers.{value-on, run-one, run-more}
 use Rattle.text.proofs.RoundTrip.{NoLF, no-append, no-within, no-number, line-is, value-is}
 use Rattle.text.proofs.ReadBack.{key-is}
 
+-- bytes whose line is all of them have no LF
 pub no-lf : (l : List ℕ) → lineLen l ≡ length l → NoLF l
 no-lf [] e = tt
 no-lf (b ∷ l) e = go (eqb b 10) refl e (no-lf l)
@@ -41,12 +42,14 @@ no-lf (b ∷ l) e = go (eqb b 10) refl e (no-lf l)
     go true q w r = absurd (omega arith)
     go false q w r = (eqb-false b 10 q, r (omega arith))
 
--- a log whose first bytes, packed, are those of `key=` has the key
+-- a log whose first bytes, packed, are those of `key=` has the key; so has one with the key's bytes and `=` behind them
 pub key-first : (key first log : List ℕ) {w : ℕ} → ((x : List ℕ) → hasKey key (first ++ x) ≡ true) → allWithin 0 255 first ≡ true → length first ≤ length log
     → (w ≡ packOf (take (length first) log)) × (allWithin 0 255 (take (length first) log) ≡ true) → w ≡ packOf first → hasKey key log ≡ true
-key-first key first log h b l p e =
-    let same : take (length first) log ≡ first = bytes-same (take (length first) log) first (length-take-le (length first) log l) (p .1) b (sym (p .0) ∙ e) in
-    ap (hasKey key) (sym (take-append-drop (length first) log) ∙ ap (λ (r : List ℕ). r ++ drop (length first) log) same) ∙ h (drop (length first) log)
+key-first key first log h b l p e = ap (hasKey key) (first-split first log l b p e) ∙ h (drop (length first) log)
+
+pub key-then : (key log : List ℕ) {w : ℕ} → ((x : List ℕ) → startsWith key (key ++ x) ≡ true) → allWithin 0 255 key ≡ true → length key ≤ length log
+    → (w ≡ packOf (take (length key) log)) × (allWithin 0 255 (take (length key) log) ≡ true) → w ≡ packOf key → getD log (length key) 0 ≡ 61 → hasKey key log ≡ true
+key-then key log h b l p e z = key-here key log (ap (startsWith key) (first-split key log l b p e) ∙ h (drop (length key) log)) z
 
 -- ---- `key=`, then e bytes with no LF, then an LF
 
@@ -83,10 +86,62 @@ module _ (key log part : List ℕ) (e : ℕ) (f : lineLen key ≡ length key) (w
       let n = no-number (take e part) v q in
       (seen-within, λ o. (ap numberOf (value-seen (n .0) (omega (arith, n .1, count))) ∙ q, after-seen (n .0), omega (arith, line-seen (n .0))))
 
--- one digit is a number
-pub digit-number : (l : List ℕ) {d : ℕ} → 1 ≤ length l → 48 ≤ getD l 0 0 → getD l 0 0 ≤ 57 → d ≡ getD l 0 0 - 48 → numberOf (take 1 l) ≡ Value d
-digit-number l {d} h p q e =
-    run-one l 1 (omega arith) h (run-on 48 57 l 0 h p q refl) (e ∙ sym (value-on l 0 h ∙ omega arith)) (omega arith) (omega arith)
+-- ---- one digit, two digits
+
+-- a number and its LF at the front of a part
+abbrev NumberAt : List ℕ → Run → Type 0
+NumberAt part r = (r .count ≤ 9) × (0 < r .count → (numberOf (take (r .count) part) ≡ Value (r .value)) × (getD part (r .count) 0 ≡ 10))
+
+-- what `digit` promises of a byte
+abbrev DigitOf : ℕ → ℕ → Type 0
+DigitOf b a = a ≤ 9 → (48 ≤ b) × (b ≤ 57) × (a ≡ b - 48)
+
+one-number : (l : List ℕ) {a : ℕ} → 1 ≤ length l → DigitOf (getD l 0 0) a → a ≤ 9 → numberOf (take 1 l) ≡ Value a
+one-number l h f s =
+    let d = f s in
+    run-one l 1 (omega arith) h (run-on 48 57 l 0 h (d .0) (d .1) refl) (d .2 ∙ sym (value-on l 0 h ∙ omega arith)) (omega arith) (omega arith)
+
+two-number : (l : List ℕ) {a b : ℕ} → 2 ≤ length l → DigitOf (getD l 0 0) a → DigitOf (getD l 1 0) b → a ≤ 9 → 0 < a → b ≤ 9 → numberOf (take 2 l) ≡ Value (a * 10 + b)
+two-number l h f g s o t =
+    let d = f s in
+    let e = g t in
+    let v : valueFrom 0 (take 1 l) ≡ getD l 0 0 - 48 = value-on l 0 (omega arith) ∙ omega arith in
+    run-more l 2 (omega arith) h (run-on 48 57 l 1 (omega arith) (e .0) (e .1) (run-on 48 57 l 0 (omega arith) (d .0) (d .1) refl))
+    (omega (arith, value-on l 1 (omega arith), v, d .2, e .2)) (omega arith) (λ z. omega (arith, d .2, z))
+
+module _ (log : List ℕ) (from : ℕ) (h : from + 10 ≤ length log) (r : Run) where
+  room-behind : 10 ≤ length (drop from log)
+  room-behind = omega (arith, length-drop from log)
+
+  byte-behind : (i j : ℕ) → from + i ≡ j → getD (drop from log) i 0 ≡ getD log j 0
+  byte-behind i j e = getD-drop from log i 0 ∙ ap (λ (k : ℕ). getD log k 0) e
+
+  pub one-behind : {a : ℕ} → getD log (from + 1) 0 ≡ 10 → DigitOf (getD log from 0) a
+      → (r .count ≤ 1) × (0 < r .count → (r .count ≡ 1) × (a ≤ 9) × (r .value ≡ a)) → NumberAt (drop from log) r
+  one-behind {a} z f p = (
+    omega (arith, p .0),
+    λ o.
+        let q = p .1 o in
+        let n = one-number (drop from log) {a = a} (omega (arith, room-behind)) (rw (byte-behind 0 from (omega arith)) f) (q .1) in (
+          ap (λ (i : ℕ). numberOf (take i (drop from log))) (q .0) ∙ n ∙ ap (λ (v : ℕ). Value v) (sym (q .2)),
+          ap (λ (i : ℕ). getD (drop from log) i 0) (q .0) ∙ byte-behind 1 (from + 1) refl ∙ z,
+        ),
+  )
+
+  pub two-behind : {a b : ℕ} → getD log (from + 2) 0 ≡ 10 → DigitOf (getD log from 0) a → DigitOf (getD log (from + 1) 0) b
+      → (r .count ≤ 2) × (0 < r .count → (r .count ≡ 2) × (a ≤ 9) × (0 < a) × (b ≤ 9) × (r .value ≡ a * 10 + b)) → NumberAt (drop from log) r
+  two-behind {a} {b} z f g p = (
+    omega (arith, p .0),
+    λ o.
+        let q = p .1 o in
+        let n = two-number (drop from log) {a = a} {b = b} (omega (arith, room-behind)) (rw (byte-behind 0 from (omega arith)) f) (rw (byte-behind 1 (from + 1) refl) g) (q .1) (q .2) (q .3) in (
+          ap (λ (i : ℕ). numberOf (take i (drop from log))) (q .0) ∙ n ∙ ap (λ (v : ℕ). Value v) (sym (q .4)),
+          ap (λ (i : ℕ). getD (drop from log) i 0) (q .0) ∙ byte-behind 2 (from + 2) refl ∙ z,
+        ),
+  )
+
+  pub more-behind : NumberAt (take (length log - from) (drop from log)) r → NumberAt (drop from log) r
+  more-behind p = subst (λ (x : List ℕ). NumberAt x r) (part-is from log) p
 
 -- the word, as it is lent to be looked up
 pub word-part : (part : List ℕ) (e : ℕ) → e ≤ length part → e ≤ 8 → allLetters (take e part) ≡ true
@@ -122,8 +177,7 @@ line-made x log from most d r m s f = ⊎-elim
 
 pub number-read : (key log part : List ℕ) (d : Run) {r : Line} → lineLen key ≡ length key → length key ≤ 8 → hasKey key log ≡ true
     → part ≡ drop (length key + 1) log → 10 ≤ length part
-    → (d .count ≤ 9) × (0 < d .count → (numberOf (take (d .count) part) ≡ Value (d .value)) × (getD part (d .count) 0 ≡ 10))
-    → Made (length key + 1) d r → AtOneGo (lineNumber key log) log r × (r .next ≤ length key + 1 + 9 + 1)
+    → NumberAt part d → Made (length key + 1) d r → AtOneGo (lineNumber key log) log r × (r .next ≤ length key + 1 + 9 + 1)
 number-read key log part d {r} f w k p h s m =
     line-made (lineNumber key log) log (length key + 1) 9 d r m (s .0)
     (λ o. number-seen key log part (d .count) f w k p (omega arith) (s .1 o .1) (s .1 o .0))

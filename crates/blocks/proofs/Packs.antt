@@ -1,14 +1,13 @@
 -- Bytes packed into numbers: letters, or as many bytes, that pack to the same number are the same, so comparing numbers finds a key and the place in the
 -- table of kinds. Assumes nothing.
--- k bytes make a number below 256 ^ k; at most eight of them one that fits 64 bits
 use mathlib.Core.Path.{_≡_, refl, sym, ap, _∙_}
-use mathlib.Core.List.{List, [], _∷_}
+use mathlib.Core.List.{List, [], _∷_, _++_}
 use mathlib.Core.Bool.{Bool, true, false}
 use mathlib.Core.Logic.{⊎-elim}
 use Prim.Native.Nat.{ℕ, zero, suc, _+_, _-_, _*_, _≤_, _<_, _^_}
 use native.Mathlib.Nat.{pow-le-pow-right}
 use native.Mathlib.Omega.{arith}
-use lib.ListN.{length, getD, take, drop}
+use lib.ListN.{length, getD, take, drop, take-append-drop}
 use lib.Seq.{drop-cons, length-take-le}
 use lib.Bits.{bitXor}
 use lib.Dec.{eqb, ltb, lit<}
@@ -23,6 +22,7 @@ use Rattle.text.specs.Bytes.{allWithin, packOf, eqList}
 use Rattle.blocks.specs.Block.{kindNames, allLetters, placeIn}
 use Rattle.text.proofs.Bytes.{eq-list}
 
+-- k bytes make a number below 256 ^ k; at most eight of them one that fits 64 bits
 pub pack-step : (v d k : ℕ) → v < 256 ^ k → d ≤ 255 → v * 256 + d < 256 ^ suc k
 pack-step v d k h q = omega arith
 
@@ -134,6 +134,33 @@ bytesAt i (suc k) l = getD l i 0 ∷ bytesAt (suc i) k l
 pub bytes-at : (i k : ℕ) (l : List ℕ) → i + k ≤ length l → take k (drop i l) ≡ bytesAt i k l
 bytes-at i zero l h = refl
 bytes-at i (suc k) l h = rw (drop-cons l i 0 (omega arith)) (ap (λ (r : List ℕ). getD l i 0 ∷ r) (bytes-at (suc i) k l (omega arith)))
+
+module _ (l : List ℕ) {w : ℕ} (p : w ≡ packOf (take 4 l)) where
+  pub pack-five : 5 ≤ length l → getD l 4 0 * 4294967296 + w ≡ packOf (take 5 l)
+  pack-five h = omega (arith, ap packOf (bytes-at 0 4 l (omega arith)), ap packOf (bytes-at 0 5 l h))
+
+  pub pack-six : 6 ≤ length l → (getD l 5 0 * 256 + getD l 4 0) * 4294967296 + w ≡ packOf (take 6 l)
+  pack-six h = omega (arith, ap packOf (bytes-at 0 4 l (omega arith)), ap packOf (bytes-at 0 6 l h))
+
+-- bytes that are the first of a list, with what follows them
+pub first-split : (first l : List ℕ) {w : ℕ} → length first ≤ length l → allWithin 0 255 first ≡ true
+    → (w ≡ packOf (take (length first) l)) × (allWithin 0 255 (take (length first) l) ≡ true) → w ≡ packOf first → l ≡ first ++ drop (length first) l
+first-split first l h b p e =
+    let same : take (length first) l ≡ first = bytes-same (take (length first) l) first (length-take-le (length first) l h) (p .1) b (sym (p .0) ∙ e) in
+    sym (take-append-drop (length first) l) ∙ ap (λ (r : List ℕ). r ++ drop (length first) l) same
+
+-- `sit` and its LF
+pub sit-line : (l : List ℕ) {w : ℕ} → 4 ≤ length l → (w ≡ packOf (take 4 l)) × (allWithin 0 255 (take 4 l) ≡ true) → w ≡ 175401331
+    → (take 3 l ≡ 115 ∷ 105 ∷ 116 ∷ []) × (getD l 3 0 ≡ 10)
+sit-line l h p e =
+    let s = first-split (115 ∷ 105 ∷ 116 ∷ 10 ∷ []) l h refl p e in
+    (ap (take 3) s, ap (λ (x : List ℕ). getD x 3 0) s)
+
+-- a word whose last letter is compared by itself
+pub last-known : (k letter most : ℕ) {last w r : ℕ} → (r < 12 → (last ≡ letter) × (r ≡ k))
+    → (last ≡ letter → (w ≡ packOf (getD kindNames k [])) × (length (getD kindNames k []) ≡ most)) → r < 12
+    → (w ≡ packOf (getD kindNames r [])) × (length (getD kindNames r []) ≡ most)
+last-known k letter most f g h = let p = f h in rw (p .1) (g (p .0))
 
 -- ---- a digit by one test
 

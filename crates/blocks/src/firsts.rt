@@ -13,36 +13,9 @@ pub fn two(s: &[u8]) -> u32
     wide(s[1]) * 256 + wide(s[0])
 }
 
-pub fn three(s: &[u8]) -> u32
-    requires { ⌜ 3 ≤ length (now s) ⌝ }
-    ensures { λ r. ⌜ (r ≡ packOf (take 3 (now (s .entry)))) × (allWithin 0 255 (take 3 (now (s .entry))) ≡ true) ⌝ }
-{
-    (wide(s[2]) * 256 + wide(s[1])) * 256 + wide(s[0])
-}
-
 pub fn four(s: &[u8]) -> u32
     requires { ⌜ 4 ≤ length (now s) ⌝ }
     ensures { λ r. ⌜ (r ≡ packOf (take 4 (now (s .entry)))) × (allWithin 0 255 (take 4 (now (s .entry))) ≡ true) ⌝ }
 {
     ((wide(s[3]) * 256 + wide(s[2])) * 256 + wide(s[1])) * 256 + wide(s[0])
-}
-
-fn long(n: u32) -> u64
-    ensures { λ r. ⌜ r ≡ n ⌝ }
-{
-    n as u64
-}
-
-pub fn five(s: &[u8]) -> u64
-    requires { ⌜ 5 ≤ length (now s) ⌝ }
-    ensures { λ r. ⌜ (r ≡ packOf (take 5 (now (s .entry)))) × (allWithin 0 255 (take 5 (now (s .entry))) ≡ true) ⌝ }
-{
-    long(wide(s[4])) * 4294967296 + long(four(s))
-}
-
-pub fn six(s: &[u8]) -> u64
-    requires { ⌜ 6 ≤ length (now s) ⌝ }
-    ensures { λ r. ⌜ (r ≡ packOf (take 6 (now (s .entry)))) × (allWithin 0 255 (take 6 (now (s .entry))) ≡ true) ⌝ }
-{
-    long(two(&s[4..])) * 4294967296 + long(four(s))
 }

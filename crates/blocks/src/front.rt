@@ -1,13 +1,12 @@
 // The block at the front of a log, with its length: five well-formed lines are read at one go, with no look for a line's end first, and other bytes by
 // the reader.
 use crate::Block;
-use crate::firsts::five;
-use crate::firsts::three;
+use crate::firsts::four;
 use crate::firsts::two;
 use crate::reader::read_block;
 use crate::reader::rest;
 use crate::runs::Run;
-use crate::runs::digit_ended;
+use crate::runs::number_behind;
 use crate::runs::number_ended;
 use crate::words::word_ended;
 use text::line::after_lines;
@@ -67,8 +66,10 @@ fn do_line(log: &[u8]) -> Line
     ensures line { λ r. ⌜ AtOneGo (lineKind (now (log .entry))) (now (log .entry)) r ⌝ }
     ensures short { λ r. ⌜ r .next ≤ 12 ⌝ }
 {
-    if three(log) == 0x3d6f64 {
-        return line_from(3, word_ended(&log[3..]));
+    if two(log) == 0x6f64 {
+        if log[2] == 61 {
+            return line_from(3, word_ended(&log[3..]));
+        }
     }
     UNREAD
 }
@@ -78,8 +79,10 @@ fn seat_line(log: &[u8]) -> Line
     ensures line { λ r. ⌜ AtOneGo (lineNumber (115 ∷ 101 ∷ 97 ∷ 116 ∷ []) (now (log .entry))) (now (log .entry)) r ⌝ }
     ensures short { λ r. ⌜ r .next ≤ 15 ⌝ }
 {
-    if five(log) == 0x3d74616573 {
-        return line_from(5, digit_ended(&log[5..]));
+    if four(log) == 0x74616573 {
+        if log[4] == 61 {
+            return line_from(5, number_behind(log, 5));
+        }
     }
     UNREAD
 }
@@ -90,7 +93,7 @@ fn a_line(log: &[u8]) -> Line
     ensures short { λ r. ⌜ r .next ≤ 12 ⌝ }
 {
     if two(log) == 0x3d61 {
-        return line_from(2, digit_ended(&log[2..]));
+        return line_from(2, number_behind(log, 2));
     }
     UNREAD
 }
@@ -101,7 +104,7 @@ fn b_line(log: &[u8]) -> Line
     ensures short { λ r. ⌜ r .next ≤ 12 ⌝ }
 {
     if two(log) == 0x3d62 {
-        return line_from(2, digit_ended(&log[2..]));
+        return line_from(2, number_behind(log, 2));
     }
     UNREAD
 }

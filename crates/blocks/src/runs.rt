@@ -2,8 +2,8 @@
 use text::decimal::wide;
 ghost use mathlib.Core.Path.{_≡_};
 ghost use mathlib.Core.Bool.{true};
-ghost use Prim.Native.Nat.{_-_, _≤_, _<_};
-ghost use lib.ListN.{length, getD, take};
+ghost use Prim.Native.Nat.{_+_, _-_, _*_, _≤_, _<_};
+ghost use lib.ListN.{length, getD, take, drop};
 ghost use Rattle.text.specs.Number.{numberOf, allDigits, valueFrom};
 ghost use Rattle.text.specs.declared.Number.the-variants.{Value};
 
@@ -58,17 +58,44 @@ pub fn number_ended(part: &[u8]) -> Run
     NO_RUN
 }
 
-// The same, where one digit is what most lines have.
-pub fn digit_ended(part: &[u8]) -> Run
-    requires { ⌜ 10 ≤ length (now part) ⌝ }
-    ensures { λ r. ⌜ (r .count ≤ 9) × (0 < r .count → (numberOf (take (r .count) (now (part .entry))) ≡ Value (r .value)) × (getD (now (part .entry)) (r .count) 0 ≡ 10)) ⌝ }
+// One digit, and two of which the first is no zero; none where they are no digits.
+fn one_digit(a: u32) -> Run
+    ensures { λ r. ⌜ (r .count ≤ 1) × (0 < r .count → (r .count ≡ 1) × (a ≤ 9) × (r .value ≡ a)) ⌝ }
 {
-    if part[1] == 10 {
-        let d = digit(part[0]);
-        if 9 < d {
-            return NO_RUN;
-        }
-        return Run { count: 1, value: d };
+    if 9 < a {
+        return NO_RUN;
     }
-    number_ended(part)
+    Run { count: 1, value: a }
+}
+
+fn two_digits(a: u32, b: u32) -> Run
+    ensures { λ r. ⌜ (r .count ≤ 2) × (0 < r .count → (r .count ≡ 2) × (a ≤ 9) × (0 < a) × (b ≤ 9) × (r .value ≡ a * 10 + b)) ⌝ }
+{
+    if 9 < a {
+        return NO_RUN;
+    }
+    if a == 0 {
+        return NO_RUN;
+    }
+    if 9 < b {
+        return NO_RUN;
+    }
+    Run {
+        count: 2,
+        value: a * 10 + b,
+    }
+}
+
+// A number and its LF from `from` on, with one or two digits at one go: most lines have no more.
+pub fn number_behind(log: &[u8], from: usize) -> Run
+    requires { ⌜ from + 10 ≤ length (now log) ⌝ }
+    ensures { λ r. ⌜ (r .count ≤ 9) × (0 < r .count → (numberOf (take (r .count) (drop from (now (log .entry)))) ≡ Value (r .value)) × (getD (drop from (now (log .entry))) (r .count) 0 ≡ 10)) ⌝ }
+{
+    if log[from + 1] == 10 {
+        return one_digit(digit(log[from]));
+    }
+    if log[from + 2] == 10 {
+        return two_digits(digit(log[from]), digit(log[from + 1]));
+    }
+    number_ended(&log[from..])
 }

@@ -1,7 +1,7 @@
 -- `b_line` meets its contract.
 use Rattle.blocks.proofs.Fronts.{key-first, unread, number-read}
-use Rattle.text.proofs.Parts.{part-is}
 use Rattle.text.specs.Line.{lineNumber}
+use lib.ListN.{drop, length-drop}
 use mathlib.Core.List.{[], _∷_}
 use mathlib.Core.Path.{refl}
 use native.Mathlib.Omega.{arith}
@@ -12,39 +12,21 @@ use Rattle.blocks.proofs.front.b_line.Tie as tie
 two-requires : tie.Need-two-requires
 two-requires c κs = search needs
 
-sub-digit-ended : tie.Need-sub-digit-ended
-sub-digit-ended c = search needs
-
-part-digit-ended-start : tie.Need-part-digit-ended-start
-part-digit-ended-start c = search needs
-
-part-digit-ended-end : tie.Need-part-digit-ended-end
-part-digit-ended-end c = search needs
-
-digit-ended-requires : tie.Need-digit-ended-requires
-digit-ended-requires c κs = search needs
+number-behind-requires : tie.Need-number-behind-requires
+number-behind-requires c κs = search needs
 
 line-from-requires : tie.Need-line-from-requires
 line-from-requires c κs = search needs
 
 returns : tie.Need-returns
 returns c =
-    let l = (c .before .before .before .before .before .before) .args .log .now in
-    let k = key-first (98 ∷ []) (98 ∷ 61 ∷ []) l (λ x. refl) refl (omega (arith, (c .before .before .before .before .before .before) .pre)) (c .before .before .before .before .two .ensures) (c .before .before .before .if1 .taken) in
-    number-read (98 ∷ []) l _ (c .before .digit-ended .result) refl (omega arith) k (part-is 2 l) (search needs) (c .before .digit-ended .ensures) (c .line-from .ensures)
+    let l = (c .before .before .before .before .before) .args .log .now in
+    let k = key-first (98 ∷ []) (98 ∷ 61 ∷ []) l (λ x. refl) refl (omega (arith, (c .before .before .before .before .before) .pre)) (c .before .before .before .two .ensures) (c .before .before .if1 .taken) in
+    number-read (98 ∷ []) l (drop 2 l) (c .before .number-behind .result) refl (omega arith) k refl (omega (arith, length-drop 2 l, (c .before .before .before .before .before) .pre)) (c .before .number-behind .ensures) (c .line-from .ensures)
 
 returns-2 : tie.Need-returns-2
 returns-2 c = let l = (c .before .before .before) .args .log .now in (unread (lineNumber (98 ∷ []) l) l, omega arith)
 
 pub b-line-spec : {M : Type 1} → statement M
 b-line-spec =
-    tie.close
-    (tie.spec
-    two-requires
-    sub-digit-ended
-    part-digit-ended-start
-    part-digit-ended-end
-    digit-ended-requires
-    line-from-requires
-    returns
-    returns-2)
+    tie.close (tie.spec two-requires number-behind-requires line-from-requires returns returns-2)

@@ -1,7 +1,7 @@
 -- `seat_line` meets its contract.
-use Rattle.blocks.proofs.Fronts.{key-first, unread, number-read}
-use Rattle.text.proofs.Parts.{part-is}
+use Rattle.blocks.proofs.Fronts.{key-then, unread, number-read}
 use Rattle.text.specs.Line.{lineNumber}
+use lib.ListN.{drop, length-drop}
 use Prim.Native.Nat.{ℕ}
 use mathlib.Core.List.{List, [], _∷_}
 use mathlib.Core.Path.{refl}
@@ -10,43 +10,39 @@ use borrow.Author.Needs.{needs}
 use Rattle.blocks.proofs.front.seat_line.Statement.{statement}
 use Rattle.blocks.proofs.front.seat_line.Tie as tie
 
-five-requires : tie.Need-five-requires
-five-requires c κs = search needs
+four-requires : tie.Need-four-requires
+four-requires c κs = search needs
 
-sub-digit-ended : tie.Need-sub-digit-ended
-sub-digit-ended c = search needs
+shared-slice-read-if2 : tie.Need-shared-slice-read-if2
+shared-slice-read-if2 c = search needs
 
-part-digit-ended-start : tie.Need-part-digit-ended-start
-part-digit-ended-start c = search needs
-
-part-digit-ended-end : tie.Need-part-digit-ended-end
-part-digit-ended-end c = search needs
-
-digit-ended-requires : tie.Need-digit-ended-requires
-digit-ended-requires c κs = search needs
+number-behind-requires : tie.Need-number-behind-requires
+number-behind-requires c κs = search needs
 
 line-from-requires : tie.Need-line-from-requires
 line-from-requires c κs = search needs
 
 returns : tie.Need-returns
 returns c =
-    let l = (c .before .before .before .before .before .before) .args .log .now in
+    let l = (c .before .before .before .before .before .before .before) .args .log .now in
     let key : List ℕ = 115 ∷ 101 ∷ 97 ∷ 116 ∷ [] in
-    let k = key-first key (115 ∷ 101 ∷ 97 ∷ 116 ∷ 61 ∷ []) l (λ x. refl) refl (omega (arith, (c .before .before .before .before .before .before) .pre)) (c .before .before .before .before .five .ensures) (c .before .before .before .if1 .taken) in
-    number-read key l _ (c .before .digit-ended .result) refl (omega arith) k (part-is 5 l) (search needs) (c .before .digit-ended .ensures) (c .line-from .ensures)
+    let k = key-then key l (λ x. refl) refl (omega (arith, (c .before .before .before .before .before .before .before) .pre)) (c .before .before .before .before .before .four .ensures) (c .before .before .before .before .if1 .taken) (c .before .before .if2 .taken) in
+    number-read key l (drop 5 l) (c .before .number-behind .result) refl (omega arith) k refl (omega (arith, length-drop 5 l, (c .before .before .before .before .before .before .before) .pre)) (c .before .number-behind .ensures) (c .line-from .ensures)
 
 returns-2 : tie.Need-returns-2
-returns-2 c = let l = (c .before .before .before) .args .log .now in (unread (lineNumber (115 ∷ 101 ∷ 97 ∷ 116 ∷ []) l) l, omega arith)
+returns-2 c = let l = (c .before .before .before .before .before) .args .log .now in (unread (lineNumber (115 ∷ 101 ∷ 97 ∷ 116 ∷ []) l) l, omega arith)
+
+returns-3 : tie.Need-returns-3
+returns-3 c = let l = (c .before .before .before) .args .log .now in (unread (lineNumber (115 ∷ 101 ∷ 97 ∷ 116 ∷ []) l) l, omega arith)
 
 pub seat-line-spec : {M : Type 1} → statement M
 seat-line-spec =
     tie.close
     (tie.spec
-    five-requires
-    sub-digit-ended
-    part-digit-ended-start
-    part-digit-ended-end
-    digit-ended-requires
+    four-requires
+    shared-slice-read-if2
+    number-behind-requires
     line-from-requires
     returns
-    returns-2)
+    returns-2
+    returns-3)
