@@ -1,108 +1,29 @@
 // The block at the front of a log, with its length: five well-formed lines are read at one go, with no look for a line's end first, and other bytes by
 // the reader.
 use crate::Block;
-use crate::kind::kind_place;
-use crate::kind::letter_run;
+use crate::firsts::four;
+use crate::firsts::two;
 use crate::reader::read_block;
 use crate::reader::rest;
-use text::decimal::wide;
+use crate::runs::Run;
+use crate::runs::number_behind;
+use crate::runs::number_ended;
+use crate::words::word_ended;
 use text::line::after_lines;
 use text::line::line_end;
-use text::line::starts_with;
 ghost use mathlib.Core.Path.{_≡_};
-ghost use mathlib.Core.Bool.{true};
-ghost use Prim.Native.Nat.{_≤_, _<_};
-ghost use lib.Dec.{eqb, ltb};
-ghost use lib.ListN.{length, getD, take};
-ghost use Rattle.laws.specs.Tests.{both};
-ghost use Rattle.text.specs.Line.{lineLen, hasKey, lineNumber};
-ghost use Rattle.text.specs.Number.{numberOf, allDigits, valueFrom};
-ghost use Rattle.blocks.specs.Block.{allLetters, lineKind, restOf};
+ghost use mathlib.Core.List.{[], _∷_};
+ghost use Prim.Native.Nat.{_+_, _≤_, _<_};
+ghost use lib.ListN.{length};
+ghost use Rattle.text.specs.Line.{lineNumber};
+ghost use Rattle.blocks.specs.Block.{lineKind, restOf};
 ghost use Rattle.blocks.specs.Front.{frontOf, AtOneGo};
-ghost use Rattle.text.specs.declared.Number.the-variants.{Value};
 
 // The block, how many bytes it uses up, and whether its fifth LF has come.
 pub struct Front {
     pub block: Block,
     pub used: usize,
     pub whole: bool,
-}
-
-// Digits at the front of bytes: how many, and their value.
-pub struct Run {
-    pub count: usize,
-    pub value: u32,
-}
-
-// The digits at the front of `part`, at most nine of them.
-fn digit_run(part: &[u8]) -> Run
-    ensures { λ r. ⌜ (r .count ≤ 9) × (r .count ≤ length (now (part .entry))) × (allDigits (take (r .count) (now (part .entry))) ≡ true) × (r .value ≡ valueFrom 0 (take (r .count) (now (part .entry)))) ⌝ }
-{
-    let mut v: u32 = 0;
-    let mut i: usize = 0;
-    while i < 9 {
-        if part.len() <= i {
-            return Run { count: i, value: v };
-        }
-        let b = part[i];
-        if b < 48 {
-            return Run { count: i, value: v };
-        }
-        if 57 < b {
-            return Run { count: i, value: v };
-        }
-        v = v * 10 + wide(b - 48);
-        i += 1;
-    }
-    Run { count: i, value: v }
-}
-
-// Whether the byte b stands at i.
-fn byte_is(s: &[u8], i: usize, b: u8) -> bool
-    ensures { λ r. ⌜ r ≡ both (ltb i (length (now (s .entry)))) (eqb (getD (now (s .entry)) i 0) b) ⌝ }
-{
-    if i < s.len() {
-        return s[i] == b;
-    }
-    false
-}
-
-// Whether the log begins with `key=`.
-fn has_key(log: &[u8], key: &[u8]) -> bool
-    ensures { λ r. ⌜ r ≡ hasKey (now (key .entry)) (now (log .entry)) ⌝ }
-{
-    if starts_with(log, key) {
-        return byte_is(log, key.len(), 61);
-    }
-    false
-}
-
-// A number and its LF at the front of `part`: its digits; none where there is no such number.
-fn number_ended(part: &[u8]) -> Run
-    ensures { λ r. ⌜ (0 < r .count → (r .count < length (now (part .entry))) × (numberOf (take (r .count) (now (part .entry))) ≡ Value (r .value)) × (getD (now (part .entry)) (r .count) 0 ≡ 10)) ⌝ }
-{
-    let d = digit_run(part);
-    let e = d.count;
-    if byte_is(part, e, 10) {
-        if e <= 1 {
-            return d;
-        }
-        if part[0] != 48 {
-            return d;
-        }
-    }
-    Run { count: 0, value: 0 }
-}
-
-// How many letters a word and its LF at the front of `part` have; 0 where there is no such word.
-fn word_ended(part: &[u8]) -> usize
-    ensures { λ r. ⌜ (0 < r → (r < length (now (part .entry))) × (r ≤ 8) × (allLetters (take r (now (part .entry))) ≡ true) × (getD (now (part .entry)) r 0 ≡ 10)) ⌝ }
-{
-    let e = letter_run(part);
-    if byte_is(part, e, 10) {
-        return e;
-    }
-    0
 }
 
 // A line's value, and where the next line starts; 0 where the line was not read.
@@ -113,38 +34,77 @@ pub struct Line {
 
 const UNREAD: Line = Line { value: 0, next: 0 };
 
-// The number line with this key, of a few bytes with no LF among them.
-fn number_line(log: &[u8], key: &[u8]) -> Line
-    requires { ⌜ (lineLen (now key) ≡ length (now key)) × (length (now key) ≤ 8) ⌝ }
-    ensures { λ r. ⌜ AtOneGo (lineNumber (now (key .entry)) (now (log .entry))) (now (log .entry)) r ⌝ }
+// The line whose value is these bytes and starts at `from`, with its LF behind them; unread where there are none.
+fn line_from(from: usize, d: Run) -> Line
+    requires { ⌜ (from ≤ 5) × (d .count ≤ 9) ⌝ }
+    ensures { λ r. ⌜ (0 < d .count → r ≡ record { value = d .value; next = from + d .count + 1 }) × (d .count ≡ 0 → r .next ≡ 0) ⌝ }
 {
-    if has_key(log, key) {
-        let from = key.len() + 1;
-        let d = number_ended(&log[from..]);
-        let e = d.count;
-        if 0 < e {
-            return Line {
-                value: d.value,
-                next: from + e + 1,
-            };
+    let e = d.count;
+    if 0 < e {
+        return Line {
+            value: d.value,
+            next: from + e + 1,
+        };
+    }
+    UNREAD
+}
+
+// The line of each key, at the front of a log that has room for any such line.
+fn n_line(log: &[u8]) -> Line
+    requires { ⌜ 12 ≤ length (now log) ⌝ }
+    ensures line { λ r. ⌜ AtOneGo (lineNumber (110 ∷ []) (now (log .entry))) (now (log .entry)) r ⌝ }
+    ensures short { λ r. ⌜ r .next ≤ 12 ⌝ }
+{
+    if two(log) == 0x3d6e {
+        return line_from(2, number_ended(&log[2..]));
+    }
+    UNREAD
+}
+
+fn do_line(log: &[u8]) -> Line
+    requires { ⌜ 12 ≤ length (now log) ⌝ }
+    ensures line { λ r. ⌜ AtOneGo (lineKind (now (log .entry))) (now (log .entry)) r ⌝ }
+    ensures short { λ r. ⌜ r .next ≤ 12 ⌝ }
+{
+    if two(log) == 0x6f64 {
+        if log[2] == 61 {
+            return line_from(3, word_ended(&log[3..]));
         }
     }
     UNREAD
 }
 
-// The line of the kind.
-fn kind_line(log: &[u8]) -> Line
-    ensures { λ r. ⌜ AtOneGo (lineKind (now (log .entry))) (now (log .entry)) r ⌝ }
+fn seat_line(log: &[u8]) -> Line
+    requires { ⌜ 15 ≤ length (now log) ⌝ }
+    ensures line { λ r. ⌜ AtOneGo (lineNumber (115 ∷ 101 ∷ 97 ∷ 116 ∷ []) (now (log .entry))) (now (log .entry)) r ⌝ }
+    ensures short { λ r. ⌜ r .next ≤ 15 ⌝ }
 {
-    if has_key(log, b"do") {
-        let part = &log[3..];
-        let e = word_ended(part);
-        if 0 < e {
-            return Line {
-                value: kind_place(&part[0..e]) as u32,
-                next: e + 4,
-            };
+    if four(log) == 0x74616573 {
+        if log[4] == 61 {
+            return line_from(5, number_behind(log, 5));
         }
+    }
+    UNREAD
+}
+
+fn a_line(log: &[u8]) -> Line
+    requires { ⌜ 12 ≤ length (now log) ⌝ }
+    ensures line { λ r. ⌜ AtOneGo (lineNumber (97 ∷ []) (now (log .entry))) (now (log .entry)) r ⌝ }
+    ensures short { λ r. ⌜ r .next ≤ 12 ⌝ }
+{
+    if two(log) == 0x3d61 {
+        return line_from(2, number_behind(log, 2));
+    }
+    UNREAD
+}
+
+fn b_line(log: &[u8]) -> Line
+    requires { ⌜ 12 ≤ length (now log) ⌝ }
+    ensures line { λ r. ⌜ AtOneGo (lineNumber (98 ∷ []) (now (log .entry))) (now (log .entry)) r ⌝ }
+    ensures short { λ r. ⌜ r .next ≤ 12 ⌝ }
+{
+    if two(log) == 0x3d62 {
+        return line_from(2, number_behind(log, 2));
     }
     UNREAD
 }
@@ -159,34 +119,40 @@ fn none() -> Front
     }
 }
 
+// Five well-formed lines have at most 63 bytes: `n`, `a` and `b` 12 each, `do` 12 and `seat` 15.
+const FULL: usize = 64;
+
 // Five well-formed lines; `used` is 0 where they are not.
 fn at_one_go(log: &[u8]) -> Front
     ensures { λ r. ⌜ (0 < r .used → r ≡ frontOf (now (log .entry))) ⌝ }
 {
-    let n = number_line(log, b"n");
+    if log.len() < FULL {
+        return none();
+    }
+    let n = n_line(log);
     let i = n.next;
     if i == 0 {
         return none();
     }
     let second = &log[i..];
-    let kind = kind_line(second);
+    let kind = do_line(second);
     let j = kind.next;
     if j == 0 {
         return none();
     }
     let third = &second[j..];
-    let seat = number_line(third, b"seat");
+    let seat = seat_line(third);
     let k = seat.next;
     if k == 0 {
         return none();
     }
     let fourth = &third[k..];
-    let a = number_line(fourth, b"a");
+    let a = a_line(fourth);
     let l = a.next;
     if l == 0 {
         return none();
     }
-    let b = number_line(&fourth[l..], b"b");
+    let b = b_line(&fourth[l..]);
     let m = b.next;
     if m == 0 {
         return none();

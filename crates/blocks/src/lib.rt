@@ -1,9 +1,12 @@
 // The entries of document 01, as they are read: a block of five lines at the front of a log, and the entry that it is.
 use paper::Entry;
 
+mod firsts;
 mod front;
 mod kind;
 mod reader;
+mod runs;
+mod words;
 
 pub use front::Front;
 pub use front::front_rest;

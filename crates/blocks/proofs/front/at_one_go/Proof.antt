@@ -1,23 +1,25 @@
 -- `at_one_go` meets its contract: five lines, each read of what the one before left.
-use native.Mathlib.Omega.{arith}
-use mathlib.Core.Path.{refl}
+use Rattle.blocks.proofs.Fronts.{fifth-room, five-seen}
 use Rattle.text.proofs.Parts.{part-is}
-use Rattle.blocks.proofs.Fronts.{five-within, five-seen}
+use native.Mathlib.Omega.{arith}
 use borrow.Author.Needs.{needs}
 use Rattle.blocks.proofs.front.at_one_go.Statement.{statement}
 use Rattle.blocks.proofs.front.at_one_go.Tie as tie
-
-slice-aggregate-number-line : tie.Need-slice-aggregate-number-line
-slice-aggregate-number-line c = search needs
-
-number-line-requires : tie.Need-number-line-requires
-number-line-requires c κs = (refl, omega arith)
 
 none-requires : tie.Need-none-requires
 none-requires c κs = search needs
 
 returns : tie.Need-returns
 returns c = λ o. absurd (omega (arith, c .none .ensures))
+
+n-line-requires : tie.Need-n-line-requires
+n-line-requires c κs = search needs
+
+none-requires-2 : tie.Need-none-requires-2
+none-requires-2 c κs = search needs
+
+returns-2 : tie.Need-returns-2
+returns-2 c = λ o. absurd (omega (arith, c .none2 .ensures))
 
 sub-second : tie.Need-sub-second
 sub-second c = search needs
@@ -28,14 +30,14 @@ part-second-start c = search needs
 part-second-end : tie.Need-part-second-end
 part-second-end c = search needs
 
-kind-line-requires : tie.Need-kind-line-requires
-kind-line-requires c κs = search needs
+do-line-requires : tie.Need-do-line-requires
+do-line-requires c κs = search needs
 
-none-requires-2 : tie.Need-none-requires-2
-none-requires-2 c κs = search needs
+none-requires-3 : tie.Need-none-requires-3
+none-requires-3 c κs = search needs
 
-returns-2 : tie.Need-returns-2
-returns-2 c = λ o. absurd (omega (arith, c .none2 .ensures))
+returns-3 : tie.Need-returns-3
+returns-3 c = λ o. absurd (omega (arith, c .none3 .ensures))
 
 sub-third : tie.Need-sub-third
 sub-third c = search needs
@@ -46,17 +48,14 @@ part-third-start c = search needs
 part-third-end : tie.Need-part-third-end
 part-third-end c = search needs
 
-slice-aggregate-number-line-2 : tie.Need-slice-aggregate-number-line-2
-slice-aggregate-number-line-2 c = search needs
+seat-line-requires : tie.Need-seat-line-requires
+seat-line-requires c κs = search needs
 
-number-line-requires-2 : tie.Need-number-line-requires-2
-number-line-requires-2 c κs = (refl, omega arith)
+none-requires-4 : tie.Need-none-requires-4
+none-requires-4 c κs = search needs
 
-none-requires-3 : tie.Need-none-requires-3
-none-requires-3 c κs = search needs
-
-returns-3 : tie.Need-returns-3
-returns-3 c = λ o. absurd (omega (arith, c .none3 .ensures))
+returns-4 : tie.Need-returns-4
+returns-4 c = λ o. absurd (omega (arith, c .none4 .ensures))
 
 sub-fourth : tie.Need-sub-fourth
 sub-fourth c = search needs
@@ -67,32 +66,8 @@ part-fourth-start c = search needs
 part-fourth-end : tie.Need-part-fourth-end
 part-fourth-end c = search needs
 
-slice-aggregate-number-line-3 : tie.Need-slice-aggregate-number-line-3
-slice-aggregate-number-line-3 c = search needs
-
-number-line-requires-3 : tie.Need-number-line-requires-3
-number-line-requires-3 c κs = (refl, omega arith)
-
-none-requires-4 : tie.Need-none-requires-4
-none-requires-4 c κs = search needs
-
-returns-4 : tie.Need-returns-4
-returns-4 c = λ o. absurd (omega (arith, c .none4 .ensures))
-
-sub-number-line : tie.Need-sub-number-line
-sub-number-line c = search needs
-
-part-number-line-start : tie.Need-part-number-line-start
-part-number-line-start c = search needs
-
-part-number-line-end : tie.Need-part-number-line-end
-part-number-line-end c = search needs
-
-slice-aggregate-number-line-4 : tie.Need-slice-aggregate-number-line-4
-slice-aggregate-number-line-4 c = search needs
-
-number-line-requires-4 : tie.Need-number-line-requires-4
-number-line-requires-4 c κs = (refl, omega arith)
+a-line-requires : tie.Need-a-line-requires
+a-line-requires c κs = search needs
 
 none-requires-5 : tie.Need-none-requires-5
 none-requires-5 c κs = search needs
@@ -100,64 +75,79 @@ none-requires-5 c κs = search needs
 returns-5 : tie.Need-returns-5
 returns-5 c = λ o. absurd (omega (arith, c .none5 .ensures))
 
-add-t23 : tie.Need-add-t23
-add-t23 c = omega (arith, five-within (c .before .before .before .before .before .before .before .before .before .before .before .before .before .before .before .before .before .before .before .args .log .now) (c .before .before .before .before .before .before .before .before .before .before .before .before .before .before .before .before .number-line .ensures .0) (part-is (c .before .before .before .before .before .before .before .before .before .before .before .before .before .before .before .before .number-line .result .next) (c .before .before .before .before .before .before .before .before .before .before .before .before .before .before .before .before .before .before .before .args .log .now)) (c .before .before .before .before .before .before .before .before .before .before .before .before .before .kind-line .ensures .0) (part-is (c .before .before .before .before .before .before .before .before .before .before .before .before .before .kind-line .result .next) _) (c .before .before .before .before .before .before .before .before .before .number-line2 .ensures .0) (part-is (c .before .before .before .before .before .before .before .before .before .number-line2 .result .next) _) (c .before .before .before .before .before .number-line3 .ensures .0) (part-is (c .before .before .before .before .before .number-line3 .result .next) _) (c .before .number-line4 .ensures .0))
+sub-b-line : tie.Need-sub-b-line
+sub-b-line c = search needs
 
-add-t39 : tie.Need-add-t39
-add-t39 c = omega (arith, five-within (c .before .before .before .before .before .before .before .before .before .before .before .before .before .before .before .before .before .before .before .args .log .now) (c .before .before .before .before .before .before .before .before .before .before .before .before .before .before .before .before .number-line .ensures .0) (part-is (c .before .before .before .before .before .before .before .before .before .before .before .before .before .before .before .before .number-line .result .next) (c .before .before .before .before .before .before .before .before .before .before .before .before .before .before .before .before .before .before .before .args .log .now)) (c .before .before .before .before .before .before .before .before .before .before .before .before .before .kind-line .ensures .0) (part-is (c .before .before .before .before .before .before .before .before .before .before .before .before .before .kind-line .result .next) _) (c .before .before .before .before .before .before .before .before .before .number-line2 .ensures .0) (part-is (c .before .before .before .before .before .before .before .before .before .number-line2 .result .next) _) (c .before .before .before .before .before .number-line3 .ensures .0) (part-is (c .before .before .before .before .before .number-line3 .result .next) _) (c .before .number-line4 .ensures .0))
+part-b-line-start : tie.Need-part-b-line-start
+part-b-line-start c = search needs
 
-add-t40 : tie.Need-add-t40
-add-t40 c = omega (arith, five-within (c .before .before .before .before .before .before .before .before .before .before .before .before .before .before .before .before .before .before .before .args .log .now) (c .before .before .before .before .before .before .before .before .before .before .before .before .before .before .before .before .number-line .ensures .0) (part-is (c .before .before .before .before .before .before .before .before .before .before .before .before .before .before .before .before .number-line .result .next) (c .before .before .before .before .before .before .before .before .before .before .before .before .before .before .before .before .before .before .before .args .log .now)) (c .before .before .before .before .before .before .before .before .before .before .before .before .before .kind-line .ensures .0) (part-is (c .before .before .before .before .before .before .before .before .before .before .before .before .before .kind-line .result .next) _) (c .before .before .before .before .before .before .before .before .before .number-line2 .ensures .0) (part-is (c .before .before .before .before .before .before .before .before .before .number-line2 .result .next) _) (c .before .before .before .before .before .number-line3 .ensures .0) (part-is (c .before .before .before .before .before .number-line3 .result .next) _) (c .before .number-line4 .ensures .0))
+part-b-line-end : tie.Need-part-b-line-end
+part-b-line-end c = search needs
 
-add-t41 : tie.Need-add-t41
-add-t41 c = omega (arith, five-within (c .before .before .before .before .before .before .before .before .before .before .before .before .before .before .before .before .before .before .before .args .log .now) (c .before .before .before .before .before .before .before .before .before .before .before .before .before .before .before .before .number-line .ensures .0) (part-is (c .before .before .before .before .before .before .before .before .before .before .before .before .before .before .before .before .number-line .result .next) (c .before .before .before .before .before .before .before .before .before .before .before .before .before .before .before .before .before .before .before .args .log .now)) (c .before .before .before .before .before .before .before .before .before .before .before .before .before .kind-line .ensures .0) (part-is (c .before .before .before .before .before .before .before .before .before .before .before .before .before .kind-line .result .next) _) (c .before .before .before .before .before .before .before .before .before .number-line2 .ensures .0) (part-is (c .before .before .before .before .before .before .before .before .before .number-line2 .result .next) _) (c .before .before .before .before .before .number-line3 .ensures .0) (part-is (c .before .before .before .before .before .number-line3 .result .next) _) (c .before .number-line4 .ensures .0))
+b-line-requires : tie.Need-b-line-requires
+b-line-requires c κs = fifth-room ((c .before .before .before .before .before .before .before .before .before .before .before .before .before .before) .args .log .now) (c .before .before .before .before .before .before .before .before .before .before .before .n-line .result .next) (c .before .before .before .before .before .before .before .before .do-line .result .next) (c .before .before .before .before .before .seat-line .result .next) (c .before .before .a-line .result .next) (omega (arith, c .before .before .before .before .before .before .before .before .before .before .before .before .if1 .left)) (c .before .before .before .before .before .before .before .before .before .before .before .n-line .ensures .1) (c .before .before .before .before .before .before .before .before .do-line .ensures .1) (c .before .before .before .before .before .seat-line .ensures .1) (c .before .before .a-line .ensures .1)
+
+none-requires-6 : tie.Need-none-requires-6
+none-requires-6 c κs = search needs
 
 returns-6 : tie.Need-returns-6
-returns-6 c =
-    λ o. five-seen (c .before .before .before .before .before .before .before .before .before .before .before .before .before .before .before .before .before .before .before .args .log .now)
-    (c .before .before .before .before .before .before .before .before .before .before .before .before .before .before .before .before .number-line .ensures) (omega (arith, c .before .before .before .before .before .before .before .before .before .before .before .before .before .before .before .if1 .left))
-    (part-is (c .before .before .before .before .before .before .before .before .before .before .before .before .before .before .before .before .number-line .result .next) (c .before .before .before .before .before .before .before .before .before .before .before .before .before .before .before .before .before .before .before .args .log .now)) (c .before .before .before .before .before .before .before .before .before .before .before .before .before .kind-line .ensures) (omega (arith, c .before .before .before .before .before .before .before .before .before .before .before .before .if2 .left))
-    (part-is (c .before .before .before .before .before .before .before .before .before .before .before .before .before .kind-line .result .next) _) (c .before .before .before .before .before .before .before .before .before .number-line2 .ensures) (omega (arith, c .before .before .before .before .before .before .before .before .if3 .left))
-    (part-is (c .before .before .before .before .before .before .before .before .before .number-line2 .result .next) _) (c .before .before .before .before .before .number-line3 .ensures) (omega (arith, c .before .before .before .before .if4 .left))
-    (part-is (c .before .before .before .before .before .number-line3 .result .next) _) (c .before .number-line4 .ensures) (omega (arith, c .if5 .left))
+returns-6 c = λ o. absurd (omega (arith, c .none6 .ensures))
+
+add-t15 : tie.Need-add-t15
+add-t15 c = search needs
+
+add-t27 : tie.Need-add-t27
+add-t27 c = search needs
+
+add-t28 : tie.Need-add-t28
+add-t28 c = search needs
+
+add-t29 : tie.Need-add-t29
+add-t29 c = search needs
+
+returns-7 : tie.Need-returns-7
+returns-7 c = λ o. five-seen ((c .before .before .before .before .before .before .before .before .before .before .before .before .before .before .before .before) .args .log .now)
+    (c .before .before .before .before .before .before .before .before .before .before .before .before .before .n-line .ensures .0) (omega (arith, c .before .before .before .before .before .before .before .before .before .before .before .before .if2 .left))
+    (part-is (c .before .before .before .before .before .before .before .before .before .before .before .before .before .n-line .result .next) ((c .before .before .before .before .before .before .before .before .before .before .before .before .before .before .before .before) .args .log .now)) (c .before .before .before .before .before .before .before .before .before .before .do-line .ensures .0) (omega (arith, c .before .before .before .before .before .before .before .before .before .if3 .left))
+    (part-is (c .before .before .before .before .before .before .before .before .before .before .do-line .result .next) _) (c .before .before .before .before .before .before .before .seat-line .ensures .0) (omega (arith, c .before .before .before .before .before .before .if4 .left))
+    (part-is (c .before .before .before .before .before .before .before .seat-line .result .next) _) (c .before .before .before .before .a-line .ensures .0) (omega (arith, c .before .before .before .if5 .left))
+    (part-is (c .before .before .before .before .a-line .result .next) _) (c .before .b-line .ensures .0) (omega (arith, c .if6 .left))
 
 pub at-one-go-spec : {M : Type 1} → statement M
 at-one-go-spec =
     tie.close
     (tie.spec
-    slice-aggregate-number-line
-    number-line-requires
     none-requires
     returns
+    n-line-requires
+    none-requires-2
+    returns-2
     sub-second
     part-second-start
     part-second-end
-    kind-line-requires
-    none-requires-2
-    returns-2
+    do-line-requires
+    none-requires-3
+    returns-3
     sub-third
     part-third-start
     part-third-end
-    slice-aggregate-number-line-2
-    number-line-requires-2
-    none-requires-3
-    returns-3
+    seat-line-requires
+    none-requires-4
+    returns-4
     sub-fourth
     part-fourth-start
     part-fourth-end
-    slice-aggregate-number-line-3
-    number-line-requires-3
-    none-requires-4
-    returns-4
-    sub-number-line
-    part-number-line-start
-    part-number-line-end
-    slice-aggregate-number-line-4
-    number-line-requires-4
+    a-line-requires
     none-requires-5
     returns-5
-    add-t23
-    add-t39
-    add-t40
-    add-t41
-    returns-6)
+    sub-b-line
+    part-b-line-start
+    part-b-line-end
+    b-line-requires
+    none-requires-6
+    returns-6
+    add-t15
+    add-t27
+    add-t28
+    add-t29
+    returns-7)
