@@ -24,11 +24,14 @@ pub fn put_digits(sheet: &mut [u8], n: u32) -> usize
     k + put_four(&mut sheet[k..], n % 10000)
 }
 
-// The digits of a number of at most five.
+// The digits of a number of at most five; one first, since there most numbers below 100,000 end.
 fn put_five(sheet: &mut [u8], n: u32) -> usize
     requires { ⌜ (n < 100000) × (length (digits n) ≤ length (now sheet)) ⌝ }
     ensures { λ r. ⌜ Wrote (digits n) (now (sheet .entry)) (now (sheet .exit)) r ⌝ }
 {
+    if n < 10 {
+        return put_one(sheet, n);
+    }
     if n < 1000 {
         return put_three(sheet, n);
     }
