@@ -2,3 +2,4 @@
 
 pub mod Sheets
 pub mod Nine
+pub mod Pairs

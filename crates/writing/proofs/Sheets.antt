@@ -53,6 +53,10 @@ push {xs} {l} {s} {a} b h p = record {
 pub push-first : (l : List ℕ) (b : ℕ) → 0 < length l → Wrote (b ∷ []) l (set l 0 b) 1
 push-first l b h = record { count = refl; sheet = set-split l 0 b h }
 
+-- the same bytes, said in another way
+pub same-bytes : {xs ys l s : List ℕ} {a : ℕ} → ys ≡ xs → Wrote xs l s a → Wrote ys l s a
+same-bytes e w = rw e w
+
 -- ---- with and without room
 
 pub no-room : (bs l : List ℕ) → length l < length bs → (NoRoom ≡ writtenOf bs l) × (l ≡ sheetAfter bs l)

@@ -3,11 +3,14 @@ use crate::Written;
 use crate::decimal::digit_count;
 use crate::decimal::put_digits;
 use crate::decimal::put_nine;
+use crate::decimal::put_one;
+use crate::decimal::put_pair;
 ghost use mathlib.Core.Path.{_≡_};
-ghost use mathlib.Core.List.{[], _∷_};
+ghost use mathlib.Core.List.{[], _∷_, _++_};
 ghost use Prim.Native.Nat.{_≤_, _<_, _^_};
 ghost use lib.ListN.{length};
 ghost use Rattle.text.specs.Line.{numberLine};
+ghost use Rattle.text.specs.Number.{digits};
 ghost use Rattle.writing.specs.AnswerSheet.{Wrote, sheetAfter, writtenOf};
 ghost use Rattle.writing.specs.Nine.{nineLine};
 
@@ -40,7 +43,37 @@ pub fn write_number_line(sheet: &mut [u8], key: &[u8], n: u32) -> usize
 {
     let a = put_bytes(sheet, key);
     let b = a + put_byte(&mut sheet[a..], 61);
-    let c = b + put_digits(&mut sheet[b..], n);
+    b + put_end(&mut sheet[b..], n)
+}
+
+// The end of a line: the digits of n and the LF. One digit or two, as most numbers of an answer have, go without a call and to places that are known beforehand.
+fn put_end(sheet: &mut [u8], n: u32) -> usize
+    requires { ⌜ (n < 10 ^ 9) × (length (digits n) < length (now sheet)) ⌝ }
+    ensures { λ r. ⌜ Wrote (digits n ++ (10 ∷ [])) (now (sheet .entry)) (now (sheet .exit)) r ⌝ }
+{
+    if n < 10 {
+        return end_one(sheet, n);
+    }
+    if n < 100 {
+        return end_pair(sheet, n);
+    }
+    let c = put_digits(sheet, n);
+    c + put_byte(&mut sheet[c..], 10)
+}
+
+fn end_one(sheet: &mut [u8], n: u32) -> usize
+    requires { ⌜ (n < 10) × (2 ≤ length (now sheet)) ⌝ }
+    ensures { λ r. ⌜ Wrote (digits n ++ (10 ∷ [])) (now (sheet .entry)) (now (sheet .exit)) r ⌝ }
+{
+    let c = put_one(sheet, n);
+    c + put_byte(&mut sheet[c..], 10)
+}
+
+fn end_pair(sheet: &mut [u8], n: u32) -> usize
+    requires { ⌜ ((10 ≤ n) × (n < 100)) × (3 ≤ length (now sheet)) ⌝ }
+    ensures { λ r. ⌜ Wrote (digits n ++ (10 ∷ [])) (now (sheet .entry)) (now (sheet .exit)) r ⌝ }
+{
+    let c = put_pair(sheet, n);
     c + put_byte(&mut sheet[c..], 10)
 }
 

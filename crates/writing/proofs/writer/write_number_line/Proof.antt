@@ -1,9 +1,12 @@
 -- `write_number_line` meets its contract: each writer writes behind the ones before it.
-use borrow.Author.Needs.{needs}
-use Rattle.text.specs.Line.{numberLine}
-use Rattle.text.proofs.Lines.{line-count}
-use Rattle.writing.proofs.Sheets.{then}
+use lib.ListN.{length-append}
+use mathlib.Core.List.{[], _∷_, _++_, append-assoc}
 use native.Mathlib.Omega.{arith}
+use Rattle.writing.proofs.Sheets.{then, same-bytes}
+use Rattle.text.proofs.Lines.{line-count}
+use Rattle.text.specs.Number.{digits}
+use Rattle.text.specs.Line.{numberLine}
+use borrow.Author.Needs.{needs}
 use Rattle.writing.proofs.writer.write_number_line.Statement.{statement}
 use Rattle.writing.proofs.writer.write_number_line.Tie as tie
 
@@ -25,47 +28,27 @@ put-byte-requires c κs = let s = c .before .before .before .before .before .bef
 add-b : tie.Need-add-b
 add-b c = search needs
 
-sub-put-digits : tie.Need-sub-put-digits
-sub-put-digits c = let s = c .before .before .before .before .before .before .before .before .before .before in omega (arith, line-count (s .args .key .now) (s .args .n))
+sub-put-end : tie.Need-sub-put-end
+sub-put-end c = let s = c .before .before .before .before .before .before .before .before .before .before in omega (arith, line-count (s .args .key .now) (s .args .n))
 
-part-put-digits-start : tie.Need-part-put-digits-start
-part-put-digits-start c = let s = c .before .before .before .before .before .before .before .before .before .before in omega (arith, line-count (s .args .key .now) (s .args .n))
+part-put-end-start : tie.Need-part-put-end-start
+part-put-end-start c = let s = c .before .before .before .before .before .before .before .before .before .before in omega (arith, line-count (s .args .key .now) (s .args .n))
 
-part-put-digits-end : tie.Need-part-put-digits-end
-part-put-digits-end c = search needs
+part-put-end-end : tie.Need-part-put-end-end
+part-put-end-end c = search needs
 
-put-digits-requires : tie.Need-put-digits-requires
-put-digits-requires c κs = let s = c .before .before .before .before .before .before .before .before .before .before .before in omega (arith, line-count (s .args .key .now) (s .args .n))
-
-add-c : tie.Need-add-c
-add-c c = let s = c .before .before .before .before .before .before .before .before .before .before .before .before .before .before in omega (arith, line-count (s .args .key .now) (s .args .n))
-
-sub-put-byte-2 : tie.Need-sub-put-byte-2
-sub-put-byte-2 c = let s = c .before .before .before .before .before .before .before .before .before .before .before .before .before .before in omega (arith, line-count (s .args .key .now) (s .args .n))
-
-part-put-byte-start-2 : tie.Need-part-put-byte-start-2
-part-put-byte-start-2 c = let s = c .before .before .before .before .before .before .before .before .before .before .before .before .before .before in omega (arith, line-count (s .args .key .now) (s .args .n))
-
-part-put-byte-end-2 : tie.Need-part-put-byte-end-2
-part-put-byte-end-2 c = search needs
-
-put-byte-requires-2 : tie.Need-put-byte-requires-2
-put-byte-requires-2 c κs = let s = c .before .before .before .before .before .before .before .before .before .before .before .before .before .before .before in omega (arith, line-count (s .args .key .now) (s .args .n))
+put-end-requires : tie.Need-put-end-requires
+put-end-requires c κs = let s = c .before .before .before .before .before .before .before .before .before .before .before in (s .pre .0, omega (arith, line-count (s .args .key .now) (s .args .n)))
 
 add-result : tie.Need-add-result
-add-result c = let s = c .before .before .before .before .before .before .before .before .before .before .before .before .before .before .before .before .before .before in omega (arith, line-count (s .args .key .now) (s .args .n))
+add-result c = let s = c .before .before .before .before .before .before .before .before .before .before .before .before .before .before in omega (arith, line-count (s .args .key .now) (s .args .n), c .before .before .put-end .ensures .count, length-append (digits (s .args .n)) (10 ∷ []))
 
 same-length : tie.Need-same-length
 same-length c = search needs
 
 returns : tie.Need-returns
 unfolding numberLine
-returns c =
-    let four = c .before .before in
-    let three = four .before .before .before .before in
-    let two = three .before .before .before .before in
-    let one = two .before .before .before .before in
-    then (then (then (one .put-bytes .ensures) (two .put-byte .ensures)) (three .put-digits .ensures)) (four .put-byte2 .ensures)
+returns c = let s = c .before .before .before .before .before .before .before .before .before .before .before .before .before .before in let key = s .args .key .now in same-bytes (append-assoc (key ++ (61 ∷ [])) (digits (s .args .n)) (10 ∷ [])) (then (then (c .before .before .before .before .before .before .before .before .before .before .put-bytes .ensures) (c .before .before .before .before .before .before .put-byte .ensures)) (c .before .before .put-end .ensures))
 
 pub write-number-line-spec : {M : Type 1} → statement M
 write-number-line-spec =
@@ -77,15 +60,10 @@ write-number-line-spec =
     part-put-byte-end
     put-byte-requires
     add-b
-    sub-put-digits
-    part-put-digits-start
-    part-put-digits-end
-    put-digits-requires
-    add-c
-    sub-put-byte-2
-    part-put-byte-start-2
-    part-put-byte-end-2
-    put-byte-requires-2
+    sub-put-end
+    part-put-end-start
+    part-put-end-end
+    put-end-requires
     add-result
     same-length
     returns)
