@@ -9,7 +9,7 @@ ghost use Prim.Native.Nat.{ℕ, _+_, _≤_, _<_};
 ghost use lib.ListN.{getD};
 ghost use mathlib.Core.List.{map};
 ghost use Rattle.pots.specs.Heights.{maskAt};
-ghost use Rattle.chairs.specs.declared.Who.the-variants.{Live, LiveWithChips};
+ghost use Rattle.chairs.specs.declared.Who.the-variants.{Live, LiveWithChips, Holding};
 ghost use Rattle.chairs.specs.declared.What.the-variants.{Total, Live as OfLive};
 ghost use Rattle.chairs.specs.Chairs.{wantOf, sweepOf, columnOf, noChair, chairAt, putAt, countOf, chipsOf, firstOf, clockwise, closeAll, Seats};
 
@@ -53,6 +53,30 @@ pub fn lives(cs: [Chair; 10], seats: u32) -> LiveCount
         i += 1;
     }
     LiveCount { hands, stacks }
+}
+
+// How many hands one card was entered for, and how many another.
+pub struct HolderCount {
+    pub first: u32,
+    pub second: u32,
+}
+
+// Both counts in one pass, since hole cards come by two.
+pub fn holders(cs: [Chair; 10], seats: u32, a: u32, b: u32) -> HolderCount
+    requires { ⌜ Seats seats cs ⌝ }
+    ensures { λ r. ⌜ (r .first ≡ countOf (wantOf (Holding a)) cs) × (r .second ≡ countOf (wantOf (Holding b)) cs) ⌝ }
+{
+    let last = seats as usize;
+    let mut first: u32 = 0;
+    let mut second: u32 = 0;
+    let mut i: usize = 0;
+    while i < last {
+        let c = cs[i];
+        first += laws::one(crate::holds(c, a));
+        second += laws::one(crate::holds(c, b));
+        i += 1;
+    }
+    HolderCount { first, second }
 }
 
 // The chair of a seat; a chair that nobody ever had for a seat that is not there.

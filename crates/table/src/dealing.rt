@@ -1,8 +1,8 @@
 // The cards: hole and board, a card already in this hand, and the board cards that open a round.
 use crate::betting;
 use crate::table;
+use crate::table::Board;
 use crate::table::Table;
-use chairs::Who;
 use laws::either;
 use paper::CARD_TWICE;
 use paper::WRONG_MOMENT;
@@ -11,6 +11,9 @@ use paper::or_else;
 use paper::when;
 ghost use mathlib.Core.Path.{_≡_};
 ghost use Prim.Native.Nat.{_≤_, _<_};
+ghost use lib.ListN.{take};
+ghost use Rattle.chairs.specs.Chairs.{hasCard};
+ghost use Rattle.laws.specs.Tests.{either as eitherOf};
 ghost use Rattle.table.specs.Dealing.{inThisHand, holeCode, heldTo, boardCode, boardedTo};
 ghost use Rattle.table.specs.Standing.{Standing, Seated};
 
@@ -24,7 +27,7 @@ pub(crate) fn hole_code(t: Table, s: u32, a: u32, b: u32) -> u8
     let out = !c.dealt.live;
     let full = c.hole.count as u32 == t.sheet.game;
     let same = a == b;
-    let old = either(used(t, a), used(t, b));
+    let old = used(t, a, b);
     or_else(
         when(off, WRONG_MOMENT),
         or_else(
@@ -51,7 +54,7 @@ pub(crate) fn board_code(t: Table, k: u32) -> u8
     let owed = !betting::nobody_owes(t);
     let few = betting::lives(t) < 2;
     let full = 5 <= t.board.count;
-    let old = used(t, k);
+    let old = used(t, k, k);
     or_else(
         when(either(off, either(owed, either(few, full))), WRONG_MOMENT),
         when(old, CARD_TWICE),
@@ -67,14 +70,23 @@ pub(crate) fn boarded(t: Table, k: u32) -> Table
     if 3 <= n { betting::new_round(u) } else { u }
 }
 
-// Whether a card lies on the board or was entered for a hand.
-fn used(t: Table, card: u32) -> bool
+// Whether a card lies on the board.
+fn lies(b: Board, card: u32) -> bool
+    ensures { λ r. ⌜ r ≡ hasCard card (take (b .count) (b .cards)) ⌝ }
+{
+    let bs = b.cards;
+    chairs::has_card(&bs, b.count, card)
+}
+
+// Whether one of two cards lies on the board or was entered for a hand.
+fn used(t: Table, a: u32, b: u32) -> bool
     requires { ⌜ Standing t ⌝ }
-    ensures { λ r. ⌜ r ≡ inThisHand t card ⌝ }
+    ensures { λ r. ⌜ r ≡ eitherOf (inThisHand t a) (inThisHand t b) ⌝ }
 {
     let cs = t.chairs;
-    let bs = t.board.cards;
-    let lies = chairs::has_card(&bs, t.board.count, card);
-    let held = chairs::seats::count(cs, t.sheet.seats, Who::Holding(card)) != 0;
-    laws::either(lies, held)
+    let bd = t.board;
+    let k = chairs::seats::holders(cs, t.sheet.seats, a, b);
+    let first = either(lies(bd, a), k.first != 0);
+    let second = either(lies(bd, b), k.second != 0);
+    either(first, second)
 }

@@ -4,9 +4,6 @@ use borrow.Author.Needs.{needs}
 use Rattle.table.proofs.betting.turn_code.Statement.{statement}
 use Rattle.table.proofs.betting.turn_code.Tie as tie
 
-seat-of-requires : tie.Need-seat-of-requires
-seat-of-requires c κs = search needs
-
 nobody-owes-requires : tie.Need-nobody-owes-requires
 nobody-owes-requires c κs = search needs
 
@@ -27,13 +24,12 @@ or-else-requires-2 c κs = search needs
 
 returns : tie.Need-returns
 unfolding turnCode
-returns c = rw (c .before .or-else .ensures, c .before .before .when3 .ensures, c .before .before .before .when2 .ensures, c .before .before .before .before .when .ensures, c .before .before .before .before .before .before .before .nobody-owes .ensures, c .before .before .before .before .before .before .before .before .seat-of .ensures) at (c .or-else2 .ensures)
+returns c = rw (c .before .or-else .ensures, c .before .before .when3 .ensures, c .before .before .before .when2 .ensures, c .before .before .before .before .when .ensures, c .before .before .before .before .before .before .before .nobody-owes .ensures, c .before .before .before .before .before .before .before .before .pre .1) at (c .or-else2 .ensures)
 
 pub turn-code-spec : {M : Type 1} → statement M
 turn-code-spec =
     tie.close
     (tie.spec
-    seat-of-requires
     nobody-owes-requires
     when-requires
     when-requires-2

@@ -1,5 +1,6 @@
 -- `board_code` meets its contract.
-use Rattle.table.specs.Dealing.{boardCode}
+use Rattle.table.specs.Dealing.{boardCode, inThisHand}
+use Rattle.table.proofs.Laws.{either-same}
 use borrow.Author.Needs.{needs}
 use Rattle.table.proofs.dealing.board_code.Statement.{statement}
 use Rattle.table.proofs.dealing.board_code.Tie as tie
@@ -33,7 +34,7 @@ or-else-requires c κs = search needs
 
 returns : tie.Need-returns
 unfolding boardCode
-returns c = rw (c .before .when2 .ensures, c .before .before .when .ensures, c .before .before .before .either3 .ensures, c .before .before .before .before .either2 .ensures, c .before .before .before .before .before .either .ensures, c .before .before .before .before .before .before .used .ensures, c .before .before .before .before .before .before .before .before .lives .ensures, c .before .before .before .before .before .before .before .before .before .nobody-owes .ensures) at (c .or-else .ensures)
+returns c = rw (c .before .when2 .ensures, c .before .before .when .ensures, c .before .before .before .either3 .ensures, c .before .before .before .before .either2 .ensures, c .before .before .before .before .before .either .ensures, either-same _ (inThisHand (c .before .before .before .before .before .before .before .before .before .before .before .args .t) (c .before .before .before .before .before .before .before .before .before .before .before .args .k)) (c .before .before .before .before .before .before .used .ensures), c .before .before .before .before .before .before .before .before .lives .ensures, c .before .before .before .before .before .before .before .before .before .nobody-owes .ensures) at (c .or-else .ensures)
 
 pub board-code-spec : {M : Type 1} → statement M
 board-code-spec =

@@ -13,23 +13,17 @@ cast-full c = search needs
 used-requires : tie.Need-used-requires
 used-requires c κs = search needs
 
-used-requires-2 : tie.Need-used-requires-2
-used-requires-2 c κs = search needs
+when-requires : tie.Need-when-requires
+when-requires c κs = search needs
 
 either-requires : tie.Need-either-requires
 either-requires c κs = search needs
 
-when-requires : tie.Need-when-requires
-when-requires c κs = search needs
-
-either-requires-2 : tie.Need-either-requires-2
-either-requires-2 c κs = search needs
-
 when-requires-2 : tie.Need-when-requires-2
 when-requires-2 c κs = search needs
 
-either-requires-3 : tie.Need-either-requires-3
-either-requires-3 c κs = search needs
+either-requires-2 : tie.Need-either-requires-2
+either-requires-2 c κs = search needs
 
 when-requires-3 : tie.Need-when-requires-3
 when-requires-3 c κs = search needs
@@ -42,7 +36,7 @@ or-else-requires-2 c κs = search needs
 
 returns : tie.Need-returns
 unfolding holeCode
-returns c = rw (c .before .or-else .ensures, c .before .before .when3 .ensures, c .before .before .before .either3 .ensures, c .before .before .before .before .when2 .ensures, c .before .before .before .before .before .either2 .ensures, c .before .before .before .before .before .before .when .ensures, c .before .before .before .before .before .before .before .either .ensures, c .before .before .before .before .before .before .before .before .used2 .ensures, c .before .before .before .before .before .before .before .before .before .used .ensures, c .before .before .before .before .before .before .before .before .before .before .before .before .before .before .seat-of .ensures) at (c .or-else2 .ensures)
+returns c = rw (c .before .or-else .ensures, c .before .before .when3 .ensures, c .before .before .before .either2 .ensures, c .before .before .before .before .when2 .ensures, c .before .before .before .before .before .either .ensures, c .before .before .before .before .before .before .when .ensures, c .before .before .before .before .before .before .before .used .ensures, c .before .before .before .before .before .before .before .before .before .before .before .before .seat-of .ensures) at (c .or-else2 .ensures)
 
 pub hole-code-spec : {M : Type 1} → statement M
 hole-code-spec =
@@ -51,12 +45,10 @@ hole-code-spec =
     seat-of-requires
     cast-full
     used-requires
-    used-requires-2
-    either-requires
     when-requires
-    either-requires-2
+    either-requires
     when-requires-2
-    either-requires-3
+    either-requires-2
     when-requires-3
     or-else-requires
     or-else-requires-2
