@@ -14,7 +14,6 @@ use Rattle.laws.proofs.Tests.{test}
 use Rattle.blocks.specs.Entry.{entryAt, parsedOf}
 use Rattle.blocks.specs.declared.Block.{Block}
 use Rattle.blocks.specs.declared.Block.the-variants.{Raw, Malformed, Nothing}
-use Rattle.blocks.specs.declared.Parsed.{Parsed}
 use Rattle.blocks.specs.declared.Parsed.the-variants.{Read, OutOfRange}
 use Rattle.paper.specs.SheetAndEntries.{made, makesEntry}
 use Rattle.paper.specs.declared.Entry.{Entry}
@@ -22,17 +21,15 @@ use Rattle.chairs.specs.Chairs.{columnOf, chairAt, putAt, noChair, sweepOf, sea
 use Rattle.chairs.specs.declared.Chair.{Chair}
 use Rattle.chairs.specs.declared.Sweep.the-variants.{Round}
 use Rattle.chairs.specs.declared.What.{What}
-use Rattle.chairs.specs.declared.What.the-variants as what
 use Rattle.pots.specs.Heights.{maskAt, backOf}
 use Rattle.pots.specs.Runs.{potsOf, padded}
-use Rattle.pots.specs.declared.Pot.{Pot}
 use Rattle.pots.specs.declared.Stands.{Stands}
 use Rattle.table.specs.State.{seatOf, withCard, withTaken}
 use Rattle.table.specs.Sittings.{satTo, leftTo}
 use Rattle.table.specs.Dealing.{heldTo, boardedTo}
 use Rattle.table.specs.Betting.{afterAct, checkedTo, newRound}
 use Rattle.table.specs.Settle.{totalsOf, livesOf, potsNow, backNow}
-use Rattle.table.specs.Take.{Sound, codeOf, appliedTo, nextOf}
+use Rattle.table.specs.Take.{codeOf, appliedTo, nextOf}
 use Rattle.table.specs.declared.table.Table.{Table}
 use Rattle.writing.specs.AnswerSheet.{writtenOf, sheetAfter}
 use Rattle.writing.specs.declared.Written.{Written}
@@ -43,6 +40,7 @@ use Rattle.desk.specs.declared.Judged.{Judged}
 use Rattle.desk.specs.Desk.{shownOf, judgeParsed, judgeBlock, judgedBytes}
 use Rattle.desk.specs.Quiet.{ShowsPots, quietKind, quietBlock, keepsPots}
 use Rattle.desk.proofs.Laws.{block-same, writes-none, keeps-all}
+use Rattle.chairs.specs.declared.What.the-variants as what
 
 -- what was put in and what is live is the same at both
 abbrev Alike : List Chair → List Chair → Type 0

@@ -2,35 +2,25 @@
 use borrow.Author.Needs.{needs}
 use Rattle.desk.proofs.quiet.quiet_block.Statement.{statement}
 use Rattle.desk.proofs.quiet.quiet_block.Tie as tie
-use Rattle.desk.proofs.quiet.quiet_block.Reads as reads
-use Rattle.desk.proofs.quiet.quiet_block.Lts as lts
-use Rattle.desk.proofs.quiet.quiet_kind.Reads as quiet-kind-reads
 
--- src/quiet.rt:38:13
 enum-known-b : tie.Need-enum-known-b
 enum-known-b c = search needs
 
--- src/quiet.rt:42:14
 quiet-kind-requires : tie.Need-quiet-kind-requires
 quiet-kind-requires c κs = search needs
 
--- src/quiet.rt:43:29
 enum-told : tie.Need-enum-told
 enum-told c = search needs
 
--- src/quiet.rt:44:27
 enum-told-2 : tie.Need-enum-told-2
 enum-told-2 c = search needs
 
--- src/quiet.rt:32:1
 returns : tie.Need-returns
 returns c = rw (c .before .before .b .given .1) (c .quiet-kind .ensures)
 
--- src/quiet.rt:32:1
 returns-2 : tie.Need-returns-2
 returns-2 c = search needs
 
--- src/quiet.rt:32:1
 returns-3 : tie.Need-returns-3
 returns-3 c = search needs
 

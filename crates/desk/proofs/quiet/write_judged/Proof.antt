@@ -4,28 +4,19 @@ use Rattle.desk.proofs.SamePots.{none-written, shown-written}
 use borrow.Author.Needs.{needs}
 use Rattle.desk.proofs.quiet.write_judged.Statement.{statement}
 use Rattle.desk.proofs.quiet.write_judged.Tie as tie
-use Rattle.desk.proofs.quiet.write_judged.Reads as reads
-use Rattle.desk.proofs.quiet.write_judged.Lts as lts
-use Rattle.answers.proofs.write_answer.Reads as write-answer-reads
-use Rattle.desk.proofs.quiet.shown_with.Reads as shown-with-reads
 
--- src/quiet.rt:109:9
 returns : tie.Need-returns
 returns c = none-written ((c .before .before .before) .args .j) ((c .before .before .before) .args .sheet .now) (not-true _ (c .if1 .taken))
 
--- src/quiet.rt:113:9
 shown-with-requires : tie.Need-shown-with-requires
 shown-with-requires c κs = search needs
 
--- src/quiet.rt:114:5
 write-answer-requires : tie.Need-write-answer-requires
 write-answer-requires c κs = search needs
 
--- src/quiet.rt:103:1
 same-length : tie.Need-same-length
 same-length c = search needs
 
--- src/quiet.rt:103:1
 returns-2 : tie.Need-returns-2
 returns-2 c = shown-written ((c .before .before .before .before .before .before .before .before .before .before) .args .j) ((c .before .before .before .before .before .before .before .before .before .before) .args .sheet .now) (not-false _ (c .before .before .before .before .before .before .before .if1 .left)) (c .before .before .before .before .shown-with .ensures .0) (c .before .before .write-answer .ensures .0) (c .before .before .write-answer .ensures .1)
 
