@@ -184,7 +184,7 @@ parsed-same : (t : Table) (n : ℕ) (p : Parsed) → (judgeParsed t n p .code �
 parsed-same t n OutOfRange h = refl
 parsed-same t n (Read e) h = refused-same t n e h
 
-block-same : (t : Table) (b : Block) → (judgeBlock t b .code ≡ 0 → ⊥) → judgeBlock t b .table ≡ t
+pub block-same : (t : Table) (b : Block) → (judgeBlock t b .code ≡ 0 → ⊥) → judgeBlock t b .table ≡ t
 block-same t (Raw n k s a b) h = parsed-same t n (parsedOf k s a b) h
 block-same t Malformed h = refl
 block-same t Nothing h = refl

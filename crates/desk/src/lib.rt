@@ -10,6 +10,8 @@ use blocks::Parsed;
 use paper::MALFORMED;
 use paper::NO_ROOM;
 use paper::OUT_OF_RANGE;
+use quiet::shown_with;
+use table::settle::stands_now;
 use table::table::Table;
 use writing::Written;
 ghost use mathlib.Core.Path.{_≡_};
@@ -24,6 +26,7 @@ ghost use Rattle.desk.specs.Desk.{rowsOf, payoutShown, shownOf, judgePar
 ghost use Rattle.desk.specs.Room.{roomOf};
 
 pub mod log;
+pub mod quiet;
 
 fn wide(x: u8) -> u32
     ensures { λ r. ⌜ (r ≡ x) × (r < 256) ⌝ }
@@ -75,19 +78,7 @@ pub fn shown_of(n: u32, code: u8, t: Table, paid: table::table::Payout) -> Shown
     requires { ⌜ Sound t × (n < 10 ^ 9) × SmallPaid paid × Closed t paid ⌝ }
     ensures { λ r. ⌜ (r ≡ shownOf n code t paid) × SmallShown r ⌝ }
 {
-    let stands = table::settle::stands_now(t);
-    let ps = stands.pots;
-    let p = payout_shown(paid);
-    Shown {
-        n: n,
-        code: wide(code),
-        turn: t.play.turn,
-        mark: t.play.mark,
-        pots: ps,
-        back: stands.back,
-        settled: paid.settled,
-        payout: p,
-    }
+    shown_with(n, code, t, stands_now(t), paid)
 }
 
 // Whether there was a block, its number, its code, the table after it, and what it paid.

@@ -44,7 +44,7 @@ ended-some part e = omega (arith, after-lines-no-longer 4 part, ltb-true (lineLe
 pub front-some : (t : Table) (part : List ℕ) (room : ℕ) → answersFront t part room ≡ true → 0 < length part
 front-some t part room e = ended-some part (both-true (blockEnded part) (leb (length (blockBytes t part)) room) e .0)
 
-empty-front : (t : Table) (part : List ℕ) (room : ℕ) → length part ≤ 0 → answersFront t part room ≡ false
+pub empty-front : (t : Table) (part : List ℕ) (room : ℕ) → length part ≤ 0 → answersFront t part room ≡ false
 empty-front t part room h = ⊎-elim (λ e. absurd (omega (arith, front-some t part room e))) (λ e. e) (test (answersFront t part room))
 
 pub from-none : (k : ℕ) (t : Table) (part : List ℕ) (room : ℕ) → answersFront t part room ≡ false → inPlaceFrom k t part room ≡ stopped t part
@@ -171,7 +171,7 @@ run-start t part out h = record {
 }
 
 -- the contract
-abbrev Ends : Table → List ℕ → List ℕ → Table → ℕ → List ℕ → ℕ → Type 0
+abbrev pub Ends : Table → List ℕ → List ℕ → Table → ℕ → List ℕ → ℕ → Type 0
 Ends t part out table used now at =
     (_≡_ {A = RanInPlace} (record { table = table; used = used; written = at }) (ranOf (inPlaceOf t part (length out)) part))
     × ((now ≡ over (inPlaceOf t part (length out) .bytes) out) × (Sound table × (used ≤ length part) × (at ≤ length out)))

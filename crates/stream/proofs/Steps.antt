@@ -1,18 +1,16 @@
 -- Whole lines, the sheet or a block, and the close: what the calls say and write is what is given. For the proofs of the functions.
-use Rattle.desk.specs.Log.{openedOf}
+use Rattle.desk.specs.Log.{openedOf, eleven, fitting, tableIn}
 use mathlib.Core.Path.{_≡_, refl, sym, ap, subst, _∙_}
 use mathlib.Core.List.{List, [], _∷_}
 use mathlib.Core.Bool.{Bool, true, false, true≢false}
-use mathlib.Core.Logic.{⊎-elim}
-use Prim.Native.Nat.{ℕ, _-_, _≤_, _<_}
+use Prim.Native.Nat.{ℕ, _-_, _≤_}
 use native.Mathlib.Omega.{arith}
 use lib.ListN.{length, take, drop, length-take}
-use lib.Dec.{leb, eqb}
+use lib.Dec.{eqb}
 use borrow.Author.Tests.{eq-eqb, ne-eqb}
 use Rattle.laws.specs.Tests.{pick}
-use Rattle.laws.proofs.Tests.{test}
 use Rattle.paper.specs.declared.Sheet.{Sheet}
-use Rattle.writing.specs.AnswerSheet.{Wrote, over, fits, sheetAfter}
+use Rattle.writing.specs.AnswerSheet.{Wrote, fits, sheetAfter}
 use Rattle.text.specs.declared.sheet.SheetRead.{SheetRead}
 use Rattle.text.specs.declared.sheet.SheetRead.the-variants.{Read, Bad}
 use Rattle.writing.specs.declared.Written.the-variants.{Bytes, NoRoom}
@@ -23,8 +21,6 @@ use Rattle.table.specs.declared.table.Table.{Table}
 use Rattle.table.specs.Take.{Sound, freshTable}
 use Rattle.desk.specs.declared.Answered.{Answered}
 use Rattle.desk.specs.Desk.{judgedOf, blockBytes, answeredFrom, answeredOf}
-use Rattle.desk.specs.Log.{eleven, fitting, tableIn}
-use Rattle.desk.proofs.Laws.{judged-most}
 use Rattle.desk.proofs.Whole.{answered-parts, fitting-within}
 use Rattle.stream.specs.declared.Clerk.{Clerk}
 use Rattle.stream.specs.Onward.{State, Unread, Open, Shut, Given, codeIn, answerOf, openOf, linesDone, closing, anyShort}
@@ -149,21 +145,17 @@ module _ (c : Clerk) (buf out : List ℕ) where
       (subst (λ (b : Bool). Closes out 0 false (pick b (record { state = Open (c .table); kept = nothing; codes = []; bytes = [] }) (answerOf (length out) (c .table) (take (c .fill .count) buf))))
       (sym (eq-eqb (length (take (c .fill .count) buf)) 0 (size h ∙ g))) (record { count = refl; sheet = refl }, (refl, omega arith)))
 
-  pub close-block : {a : Answered} {new : List ℕ} {b : Bool} → c .fill .count ≤ length buf → c .shut ≡ false → c .opened ≡ true → (c .fill .count ≡ 0 → ⊥)
-      → a ≡ answeredOf (c .table) (take (c .fill .count - 0) (drop 0 buf)) out → new ≡ sheetAfter (blockBytes (c .table) (take (c .fill .count - 0) (drop 0 buf))) out
-      → b ≡ eqb (a .code) 12 → Closes new (a .written) b closing-is
-  close-block {a} {new} {b} h e f g p q d =
+  pub close-block : {d : Clerk} {new : List ℕ} {w : ℕ} {b : Bool} → c .fill .count ≤ length buf → c .shut ≡ false → c .opened ≡ true → (c .fill .count ≡ 0 → ⊥)
+      → Gave (c .table) (linesDone (length out) (stateAt true (c .table)) (take (c .fill .count - 0) (drop 0 buf))) out new d w b → w ≤ length out → Closes new w b closing-is
+  close-block {d} {new} {w} {b} h e f g p m =
       let n : c .fill .count - 0 ≡ c .fill .count = omega arith in
       let log : List ℕ = take (c .fill .count) buf in
-      let p' : a ≡ answeredOf (c .table) log out = p ∙ ap (λ (i : ℕ). answeredOf (c .table) (take i buf) out) n in
-      let q' : new ≡ sheetAfter (blockBytes (c .table) log) out = q ∙ ap (λ (i : ℕ). sheetAfter (blockBytes (c .table) (take i buf)) out) n in
-      let w : Wrote (fitting (blockBytes (c .table) log) (length out)) out new (a .written) = rw (p', q') (answered-parts (c .table) log out .1) in
-      let told : b ≡ anyShort (codeIn (c .table) log (length out) ∷ []) =
-      d ∙ ap (λ (x : Answered). eqb (x .code) 12) p' ∙ ap (λ (i : ℕ). eqb i 12) (answered-code (c .table) log out) ∙ sym (short-one (c .table) log (length out)) in
+      let q : Gave (c .table) (answerOf (length out) (c .table) log) out new d w b =
+      subst (λ (i : ℕ). Gave (c .table) (answerOf (length out) (c .table) (take i buf)) out new d w b) n p in
       closed-by (Open (c .table)) (open-is e f)
-      (subst (λ (z : Bool). Closes new (a .written) b (pick z (record { state = Open (c .table); kept = nothing; codes = []; bytes = [] }) (answerOf (length out) (c .table) log)))
+      (subst (λ (z : Bool). Closes new w b (pick z (record { state = Open (c .table); kept = nothing; codes = []; bytes = [] }) (answerOf (length out) (c .table) log)))
       (sym (ne-eqb (length log) 0 (λ z. g (sym (size h) ∙ z))))
-      (w, (told, omega (arith, w .count, fitting-within (blockBytes (c .table) log) (length out)))))
+      (q .wrote, (q .short, m)))
 
   pub close-bad : {new : List ℕ} {r : ℕ} → c .shut ≡ false → c .opened ≡ false → Wrote (fitting eleven (length out)) out new r → Closes new r false closing-is
   close-bad e f w =

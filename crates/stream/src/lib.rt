@@ -2,25 +2,34 @@
 use answers::LONGEST;
 use blocks::front_rest;
 use blocks::read_front;
-use desk::answer;
-use desk::answer_block;
+use blocks::rest;
+use desk::judge_block;
 use desk::log::read_lone_sheet;
 use desk::log::refuse_sheet;
+use desk::quiet::keeps_pots;
+use desk::quiet::no_stands;
+use desk::quiet::stands_after;
+use desk::quiet::write_judged;
+use laws::both;
 use lines::Fill;
 use lines::empty;
 use lines::gather;
 use lines::lines_of;
-use paper::NO_ROOM;
 use paper::STAND_IN;
 use table::table::Table;
 use table::take::new_table;
+use text::line::after_lines;
+use text::line::line_end;
 use text::sheet::SheetRead;
+use writing::Written;
 ghost use mathlib.Core.Path.{_≡_};
 ghost use mathlib.Core.Bool.{true, false};
 ghost use Prim.Native.Nat.{ℕ, _+_, _-_, _*_, _≤_, _<_};
 ghost use lib.ListN.{length};
+ghost use lib.Dec.{eqb};
+ghost use Rattle.blocks.specs.Front.{blockEnded};
 ghost use Rattle.writing.specs.AnswerSheet.{over, Wrote};
-ghost use Rattle.lines.specs.Kept.{gatherOf, keptIn, Room, keptMost};
+ghost use Rattle.lines.specs.Kept.{gatherOf, keptIn, nothing, fillOf, Room, keptMost};
 ghost use Rattle.table.specs.Take.{Sound};
 ghost use Rattle.stream.specs.Onward.{linesOf, linesDone, closing, anyShort};
 ghost use Rattle.stream.specs.InPlace.{inPlaceOf, ranOf, awaitsBlock};
@@ -50,25 +59,110 @@ pub struct ClerkAfter {
     pub short: bool,
 }
 
-// A block that the table answers.
-fn whole_block(t: Table, block: &[u8], out: &mut [u8]) -> ClerkAfter
-    requires { ⌜ Sound t ⌝ }
-    ensures gave { λ r. ⌜ Gave t (linesDone (length (now (out .entry))) (stateAt true t) (now (block .entry))) (now (out .entry)) (now (out .exit)) (r .clerk) (r .written) (r .short) ⌝ }
-    ensures held { λ r. ⌜ Held (r .clerk) × (r .written ≤ length (now (out .entry))) ⌝ }
+// What was answered where it lies: the table after it, the bytes used up and the bytes written.
+pub struct RanInPlace {
+    pub table: Table,
+    pub used: usize,
+    pub written: usize,
+}
+
+// The table, how much of the part is used up, by what is left of it, and how many bytes are written.
+fn ran_to(table: Table, part: &[u8], left: &[u8], written: usize) -> RanInPlace
+    requires { ⌜ length (now left) ≤ length (now part) ⌝ }
+    ensures { λ r. ⌜ r ≡ record { table = table; used = length (now (part .entry)) - length (now (left .entry)); written = written } ⌝ }
 {
-    let a = answer(t, block, out);
-    let u = a.table;
+    RanInPlace {
+        table,
+        used: part.len() - left.len(),
+        written,
+    }
+}
+
+// The whole blocks at the front of a part, each answered where it lies, up to one whose answer has no room. What follows a block is handed on as the rest of
+// the part. Pots go with the table from block to block, once they are known. Every block of a log is answered here and nowhere else, so that the compiler
+// lays the desk into this loop.
+pub fn in_place(t: Table, part: &[u8], out: &mut [u8]) -> RanInPlace
+    requires { ⌜ Sound t ⌝ }
+    ensures ran { λ r. ⌜ r ≡ ranOf (inPlaceOf t (now (part .entry)) (length (now (out .entry)))) (now (part .entry)) ⌝ }
+    ensures bytes { λ r. ⌜ now (out .exit) ≡ over (inPlaceOf t (now (part .entry)) (length (now (out .entry))) .bytes) (now (out .entry)) ⌝ }
+    ensures sound { λ r. ⌜ Sound (r .table) × (r .used ≤ length (now (part .entry))) × (r .written ≤ length (now (out .entry))) ⌝ }
+{
+    let mut table = t;
+    let mut known = false;
+    let mut stands = no_stands();
+    let mut left = part;
+    let mut at: usize = 0;
+    while 0 < left.len() {
+        let f = read_front(left);
+        if !f.whole {
+            return ran_to(table, part, left, at);
+        }
+        let b = f.block;
+        let j = judge_block(table, b);
+        let after = stands_after(stands, both(known, keeps_pots(b, j.code)), j.table);
+        let w = write_judged(j, after, &mut out[at..]);
+        let Written::Bytes(k) = w else {
+            return ran_to(table, part, left, at)
+        };
+        let u = j.table;
+        table = u;
+        stands = after;
+        known = true;
+        at += k;
+        let next = front_rest(left, f.used);
+        left = &next[0..];
+    }
+    ran_to(table, part, left, at)
+}
+
+// Whether the fifth line of a block is ended.
+fn ended(block: &[u8]) -> bool
+    ensures { λ r. ⌜ r ≡ blockEnded (now (block .entry)) ⌝ }
+{
+    let fifth = after_lines(block, 4);
+    line_end(fifth) < fifth.len()
+}
+
+// The clerk at a table, with nothing kept.
+fn clerk_after(table: Table, written: usize, short: bool) -> ClerkAfter
+    ensures { λ r. ⌜ r ≡ record { clerk = record { opened = true; shut = false; table = table; fill = fillOf nothing }; written = written; short = short } ⌝ }
+{
     let z = empty();
     ClerkAfter {
         clerk: Clerk {
             opened: true,
             shut: false,
-            table: u,
+            table,
             fill: z,
         },
-        written: a.written,
-        short: a.code == NO_ROOM,
+        written,
+        short,
     }
+}
+
+// One whole block in place: where none of its bytes were used up its answer had no room (code 12).
+fn told(a: RanInPlace) -> ClerkAfter
+    ensures { λ r. ⌜ r ≡ record { clerk = record { opened = true; shut = false; table = a .table; fill = fillOf nothing }; written = a .written; short = eqb (a .used) 0 } ⌝ }
+{
+    let u = a.table;
+    clerk_after(u, a.written, a.used == 0)
+}
+
+// A block that the table answers. One that is not whole is malformed, as five empty lines are.
+fn whole_block(t: Table, block: &[u8], out: &mut [u8]) -> ClerkAfter
+    requires { ⌜ Sound t ⌝ }
+    ensures gave { λ r. ⌜ Gave t (linesDone (length (now (out .entry))) (stateAt true t) (now (block .entry))) (now (out .entry)) (now (out .exit)) (r .clerk) (r .written) (r .short) ⌝ }
+    ensures held { λ r. ⌜ Held (r .clerk) × (r .written ≤ length (now (out .entry))) ⌝ }
+{
+    if block.len() == 0 {
+        return clerk_after(t, 0, false);
+    }
+    if ended(block) {
+        let left = rest(block);
+        let e = block.len() - left.len();
+        return told(in_place(t, &block[0..e], out));
+    }
+    told(in_place(t, b"\n\n\n\n\n", out))
 }
 
 // The sheet: it opens the table, or is bad.
@@ -147,63 +241,6 @@ fn feed_kept(opened: bool, t: Table, m: Fill, buf: &mut [u8], part: &[u8], out: 
         used: g.used,
         written: s.written,
         short: s.short,
-    }
-}
-
-// What was answered where it lies: the table after it, the bytes used up and the bytes written.
-pub struct RanInPlace {
-    pub table: Table,
-    pub used: usize,
-    pub written: usize,
-}
-
-// How much of a part is used up, by what is left of it.
-fn used_up(part: &[u8], left: &[u8]) -> usize
-    requires { ⌜ length (now left) ≤ length (now part) ⌝ }
-    ensures { λ r. ⌜ r ≡ length (now (part .entry)) - length (now (left .entry)) ⌝ }
-{
-    part.len() - left.len()
-}
-
-// The whole blocks at the front of a part, each answered where it lies, up to one whose answer has no room. What follows a block is handed on as the rest of
-// the part.
-pub fn in_place(t: Table, part: &[u8], out: &mut [u8]) -> RanInPlace
-    requires { ⌜ Sound t ⌝ }
-    ensures ran { λ r. ⌜ r ≡ ranOf (inPlaceOf t (now (part .entry)) (length (now (out .entry)))) (now (part .entry)) ⌝ }
-    ensures bytes { λ r. ⌜ now (out .exit) ≡ over (inPlaceOf t (now (part .entry)) (length (now (out .entry))) .bytes) (now (out .entry)) ⌝ }
-    ensures sound { λ r. ⌜ Sound (r .table) × (r .used ≤ length (now (part .entry))) × (r .written ≤ length (now (out .entry))) ⌝ }
-{
-    let mut table = t;
-    let mut left = part;
-    let mut at: usize = 0;
-    while 0 < left.len() {
-        let f = read_front(left);
-        if !f.whole {
-            return RanInPlace {
-                table,
-                used: used_up(part, left),
-                written: at,
-            };
-        }
-        let b = f.block;
-        let a = answer_block(table, b, &mut out[at..]);
-        if a.code == NO_ROOM {
-            return RanInPlace {
-                table,
-                used: used_up(part, left),
-                written: at,
-            };
-        }
-        let u = a.table;
-        table = u;
-        at += a.written;
-        let next = front_rest(left, f.used);
-        left = &next[0..];
-    }
-    RanInPlace {
-        table,
-        used: used_up(part, left),
-        written: at,
     }
 }
 
@@ -350,10 +387,10 @@ pub fn close(c: Clerk, buf: &[u8], out: &mut [u8]) -> Closed
             };
         }
         let t = c.table;
-        let a = answer(t, &buf[0..e], out);
+        let a = whole_block(t, &buf[0..e], out);
         return Closed {
             written: a.written,
-            short: a.code == NO_ROOM,
+            short: a.short,
         };
     }
     Closed {
