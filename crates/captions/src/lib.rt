@@ -3,10 +3,10 @@ use columns::height;
 use columns::in_mask;
 use columns::tallest;
 use page::pen::Pen;
+use page::pen::fill;
 use page::pen::put;
 use page::pen::put_text_at;
 use page::pen::say;
-use page::pen::say2;
 use spots::Chips;
 use spots::apart;
 use spots::column_x;
@@ -22,23 +22,11 @@ use spots::y_at;
 // The picture's size and its hatching, whose name has the hand's number, since a page has many pictures.
 pub fn put_opening(out: &mut [u8], p: Pen, hand: u64, columns: u32) -> Pen {
     let wide = more(right_of(columns), 2900);
-    let a = say2(
+    let b = fill(
         out,
         p,
-        b"<svg xmlns=\"http://www.w3.org/2000/svg\" role=\"img\" width=\"",
-        wide / 10,
-        b"\" height=\"460\" viewBox=\"0 0 ",
-        wide,
-        b" 4600\">\n<title>The chips of hand ",
-    );
-    let b = say2(
-        out,
-        a,
-        b"",
-        hand,
-        b"</title>\n<defs><pattern id=\"hatch-",
-        hand,
-        b"\" width=\"80\" height=\"80\" patternUnits=\"userSpaceOnUse\" patternTransform=\"rotate(45)\">",
+        b"<svg xmlns=\"http://www.w3.org/2000/svg\" role=\"img\" width=\"|\" height=\"460\" viewBox=\"0 0 | 4600\">\n<title>The chips of hand |</title>\n<defs><pattern id=\"hatch-|\" width=\"80\" height=\"80\" patternUnits=\"userSpaceOnUse\" patternTransform=\"rotate(45)\">",
+        &[wide / 10, wide, hand, hand],
     );
     put(
         out,
@@ -67,27 +55,12 @@ pub fn put_foot(out: &mut [u8], p: Pen, c: Chips, i: usize, j: u32) -> Pen {
     let x = more(column_x(j), 260);
     let total = totals[i] as u64;
     let sitting = sittings[i] as u64;
-    let a = put_counted(
+    let d = fill(
         out,
         p,
-        b"<text font-weight=\"bold\"",
-        x,
-        3660,
-        b"seat ",
-        i as u64 + 1,
-        b"</text>\n",
+        b"<text font-weight=\"bold\" x=\"|\" y=\"3660\">seat |</text>\n<text x=\"|\" y=\"3810\">sitting |</text>\n<text x=\"|\" y=\"3960\">| in</text>\n",
+        &[x, i as u64 + 1, x, sitting, x, total],
     );
-    let b = put_counted(
-        out,
-        a,
-        b"<text",
-        x,
-        3810,
-        b"sitting ",
-        sitting,
-        b"</text>\n",
-    );
-    let d = put_counted(out, b, b"<text", x, 3960, b"", total, b" in</text>\n");
     put_state(out, d, in_mask(c.live, i), in_mask(c.here, i), x)
 }
 
@@ -97,33 +70,14 @@ fn put_state(out: &mut [u8], p: Pen, live: bool, here: bool, x: u64) -> Pen {
     put_word(out, a, !here, x, 4110, b"out, left")
 }
 
-// A number between two words.
-fn put_counted(
-    out: &mut [u8],
-    p: Pen,
-    what: &[u8],
-    x: u64,
-    y: u64,
-    before: &[u8],
-    n: u64,
-    after: &[u8],
-) -> Pen {
-    let a = put_text_at(out, p, what, x, y);
-    say(out, a, before, n, after)
-}
-
 // The line from a band to its label.
 fn put_leader(out: &mut [u8], p: Pen, x: u64, from: u64, to: u64) -> Pen {
-    let a = say2(
+    fill(
         out,
         p,
-        b"<path fill=\"none\" stroke=\"#000\" stroke-width=\"8\" d=\"M",
-        x,
-        b" ",
-        from,
-        b" L",
-    );
-    say2(out, a, b"", more(x, 240), b" ", to, b"\"/>\n")
+        b"<path fill=\"none\" stroke=\"#000\" stroke-width=\"8\" d=\"M| | L| |\"/>\n",
+        &[x, from, more(x, 240), to],
+    )
 }
 
 // A seat of a mask, behind a blank.
@@ -163,27 +117,21 @@ fn put_label(out: &mut [u8], p: Pen, c: Chips, k: usize, labels: u64) -> Pen {
 
 // A pot's number and its chips.
 fn put_pot(out: &mut [u8], p: Pen, x: u64, y: u64, pot: u64, chips: u64) -> Pen {
-    let a = put_text_at(
+    fill(
         out,
         p,
-        b"<text text-anchor=\"start\" font-weight=\"bold\"",
-        x,
-        y,
-    );
-    say2(out, a, b"pot ", pot, b": ", chips, b"</text>\n")
+        b"<text text-anchor=\"start\" font-weight=\"bold\" x=\"|\" y=\"|\">pot |: |</text>\n",
+        &[x, y, pot, chips],
+    )
 }
 
 // The heights of a pot and its contenders.
 fn put_contest(out: &mut [u8], p: Pen, x: u64, y: u64, low: u32, high: u32, who: u16) -> Pen {
-    let a = put_text_at(out, p, b"<text text-anchor=\"start\"", x, y);
-    let b = say2(
+    let b = fill(
         out,
-        a,
-        b"heights ",
-        low as u64 + 1,
-        b" to ",
-        high as u64,
-        b", seats",
+        p,
+        b"<text text-anchor=\"start\" x=\"|\" y=\"|\">heights | to |, seats",
+        &[x, y, low as u64 + 1, high as u64],
     );
     let c = put_seats(out, b, who);
     put(out, c, b"</text>\n")
@@ -202,25 +150,18 @@ fn put_back(out: &mut [u8], p: Pen, c: Chips, k: usize, labels: u64) -> Pen {
     let x = right_of(c.columns);
     let y = label_y(k as u64, labels);
     let a = put_leader(out, p, x, apart(mid), y);
-    let b = put_counted(
+    fill(
         out,
         a,
-        b"<text text-anchor=\"start\" font-weight=\"bold\"",
-        more(x, 280),
-        y,
-        b"back: ",
-        wide(c.back),
-        b"</text>\n",
-    );
-    put_counted(
-        out,
-        b,
-        b"<text text-anchor=\"start\"",
-        more(x, 280),
-        more(y, 140),
-        b"above height ",
-        wide(low),
-        b" nobody contests</text>\n",
+        b"<text text-anchor=\"start\" font-weight=\"bold\" x=\"|\" y=\"|\">back: |</text>\n<text text-anchor=\"start\" x=\"|\" y=\"|\">above height | nobody contests</text>\n",
+        &[
+            more(x, 280),
+            y,
+            wide(c.back),
+            more(x, 280),
+            more(y, 140),
+            wide(low),
+        ],
     )
 }
 
@@ -254,17 +195,12 @@ fn put_legend(out: &mut [u8], p: Pen, hand: u64) -> Pen {
         p,
         b"<rect fill=\"#456b94\" stroke=\"#000\" stroke-width=\"8\" x=\"200\" y=\"4330\" width=\"160\" height=\"130\"/>\n<text text-anchor=\"start\" x=\"420\" y=\"4440\">contends</text>\n",
     );
-    let c = say(
+    let d = say(
         out,
         a,
         b"<rect fill=\"url(#hatch-",
         hand,
-        b")\" stroke=\"#000\" stroke-width=\"8\" x=\"1250\" y=\"4330\" width=\"160\" height=\"130\"/>\n",
-    );
-    let d = put(
-        out,
-        c,
-        b"<text text-anchor=\"start\" x=\"1470\" y=\"4440\">out of the hand: stays in the pots</text>\n<rect fill=\"#fff\" stroke=\"#000\" stroke-width=\"12\" stroke-dasharray=\"40 30\"",
+        b")\" stroke=\"#000\" stroke-width=\"8\" x=\"1250\" y=\"4330\" width=\"160\" height=\"130\"/>\n<text text-anchor=\"start\" x=\"1470\" y=\"4440\">out of the hand: stays in the pots</text>\n<rect fill=\"#fff\" stroke=\"#000\" stroke-width=\"12\" stroke-dasharray=\"40 30\"",
     );
     put(
         out,

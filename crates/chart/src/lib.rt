@@ -6,12 +6,12 @@ use columns::reach;
 use columns::slab;
 use columns::tallest;
 use page::pen::Pen;
+use page::pen::fill;
 use page::pen::put;
 use page::pen::put_box;
-use page::pen::put_if;
+use page::pen::put_one_of;
 use page::pen::put_text_at;
 use page::pen::say;
-use page::pen::say2;
 use spots::BAND;
 use spots::Chips;
 use spots::column_x;
@@ -31,27 +31,29 @@ fn put_band(out: &mut [u8], p: Pen, c: Chips, k: usize) -> Pen {
     let low = height(reach_of_first(totals, ps, k), most);
     let high = height(reach(totals, q.who), most);
     let width = spots::less(right_of(c.columns), BAND);
-    let a = put_if(
+    let a = put_one_of(
         out,
         p,
-        k % 2 == 0,
-        b"<rect class=\"band\" fill=\"#f4f4f4\" stroke=\"#666\" stroke-width=\"6\"",
+        b"<rect class=\"band\" fill=\"#f4f4f4\" stroke=\"#666\" stroke-width=\"6\"|<rect class=\"band\" fill=\"#dedede\" stroke=\"#666\" stroke-width=\"6\"",
+        k % 2,
     );
-    let b = put_if(
+    put_band_on(
         out,
         a,
-        k % 2 == 1,
-        b"<rect class=\"band\" fill=\"#dedede\" stroke=\"#666\" stroke-width=\"6\"",
-    );
-    let d = put_box(out, b, b"", BAND, y_at(high), width, spots::less(high, low));
-    say2(
-        out,
-        d,
-        b" data-pot=\"",
+        y_at(high),
+        width,
+        spots::less(high, low),
         number_of(k),
-        b"\" data-chips=\"",
         wide(q.amount),
-        b"\"/>\n",
+    )
+}
+
+fn put_band_on(out: &mut [u8], p: Pen, y: u64, width: u64, high: u64, pot: u64, chips: u64) -> Pen {
+    fill(
+        out,
+        p,
+        b" x=\"|\" y=\"|\" width=\"|\" height=\"|\" data-pot=\"|\" data-chips=\"|\"/>\n",
+        &[BAND, y, width, high, pot, chips],
     )
 }
 
@@ -101,16 +103,12 @@ fn put_inside(out: &mut [u8], p: Pen, x: u64, top: u64, high: u64, chips: u32) -
 
 // What a piece is: whose it is, and how many chips lie in it.
 fn put_data(out: &mut [u8], p: Pen, seat: u64, sitting: u32, chips: u32) -> Pen {
-    let a = say2(
+    fill(
         out,
         p,
-        b" data-seat=\"",
-        seat,
-        b"\" data-sitting=\"",
-        sitting as u64,
-        b"\" data-chips=\"",
-    );
-    say(out, a, b"", chips as u64, b"\"/>\n")
+        b" data-seat=\"|\" data-sitting=\"|\" data-chips=\"|\"/>\n",
+        &[seat, sitting as u64, chips as u64],
+    )
 }
 
 // The piece of the sitting at place i that lies in the k-th pot; its column is the j-th.

@@ -1,92 +1,54 @@
 // The page's start, and its end: the sittings that are still there, the evening in a table, and the sums that come out.
 use accounts::Account;
+use accounts::Charges;
 use accounts::Sums;
 use chairs::Chair;
 use notes::Notes;
 use page::pen::Pen;
+use page::pen::fill;
 use page::pen::put;
 use page::pen::say;
-use page::pen::say2;
 use page::words::put_refusal;
 use paper::Sheet;
 use table::table::Table;
 
 // The row of a sitting: brought, put in, paid, and what it takes home or has.
 pub fn put_row(out: &mut [u8], p: Pen, sitting: u32, seat: u32, a: Account, home: u32) -> Pen {
-    let b = say2(
+    fill(
         out,
         p,
-        b"<div class=\"row\"><span>",
-        sitting as u64,
-        b"</span><span>",
-        seat as u64,
-        b"</span><span>",
-    );
-    let c = say2(
-        out,
-        b,
-        b"",
-        a.brought,
-        b"</span><span>",
-        a.put,
-        b"</span><span>",
-    );
-    say2(
-        out,
-        c,
-        b"",
-        a.paid,
-        b"</span><span>",
-        home as u64,
-        b"</span>",
+        b"<div class=\"row\"><span>|</span><span>|</span><span>|</span><span>|</span><span>|</span><span>|</span>",
+        &[
+            sitting as u64,
+            seat as u64,
+            a.brought,
+            a.put,
+            a.paid,
+            home as u64,
+        ],
     )
 }
 
 // The head of the sittings' rows and the table's sheet.
 pub fn put_start(out: &mut [u8], p: Pen, s: Sheet) -> Pen {
-    let a = say2(
+    let a = fill(
         out,
         p,
-        b"<p class=\"sheet\">A table of ",
-        s.seats as u64,
-        b" seats, blinds ",
-        s.small as u64,
-        b" and ",
-    );
-    let b = say2(
-        out,
-        a,
-        b"",
-        s.big as u64,
-        b"; commission ",
-        s.rate as u64,
-        b" thousandths of each pot, at most ",
-    );
-    put_start_on(out, b, s)
-}
-
-fn put_start_on(out: &mut [u8], p: Pen, s: Sheet) -> Pen {
-    let a = say2(
-        out,
-        p,
-        b"",
-        s.cap as u64,
-        b" a hand, in steps of ",
-        s.step as u64,
-        b"; ",
-    );
-    let b = say2(
-        out,
-        a,
-        b"",
-        s.game as u64,
-        b" hole cards of a deck of ",
-        s.deck as u64,
-        b".</p>\n",
+        b"<p class=\"sheet\">A table of | seats, blinds | and |; commission | thousandths of each pot, at most | a hand, in steps of |; | hole cards of a deck of |.</p>\n",
+        &[
+            s.seats as u64,
+            s.small as u64,
+            s.big as u64,
+            s.rate as u64,
+            s.cap as u64,
+            s.step as u64,
+            s.game as u64,
+            s.deck as u64,
+        ],
     );
     put(
         out,
-        b,
+        a,
         b"<div class=\"row top\"><span>sitting</span><span>seat</span><span>brought</span><span>put in</span><span>paid</span><span>taken home or has</span><span></span></div>\n",
     )
 }
@@ -125,77 +87,27 @@ fn put_all_there(out: &mut [u8], p: Pen, m: Notes, cs: [Chair; 10]) -> Pen {
 
 // The row of all sittings.
 fn put_sums(out: &mut [u8], p: Pen, s: Sums) -> Pen {
-    let a = say2(
+    fill(
         out,
         p,
-        b"<div class=\"row top sums\"><span>",
-        s.sittings,
-        b" sittings</span><span></span><span>",
-        s.brought,
-        b"</span><span>",
-    );
-    let b = say2(
-        out,
-        a,
-        b"",
-        s.put,
-        b"</span><span>",
-        s.paid,
-        b"</span><span>",
-    );
-    say(out, b, b"", s.home, b"</span><span>all</span></div>\n")
+        b"<div class=\"row top sums\"><span>| sittings</span><span></span><span>|</span><span>|</span><span>|</span><span>|</span><span>all</span></div>\n",
+        &[s.sittings, s.brought, s.put, s.paid, s.home],
+    )
 }
 
 // The two sums that come out: what sittings have, and what hands took.
-fn put_proofs(out: &mut [u8], p: Pen, s: Sums, m: Notes, lies: u64) -> Pen {
-    let a = say2(
+fn put_proofs(out: &mut [u8], p: Pen, s: Sums, c: Charges, lies: u64) -> Pen {
+    let a = fill(
         out,
         p,
-        b"<p class=\"sums\">Brought ",
-        s.brought,
-        b" and paid ",
-        s.paid,
-        b" is put in ",
+        b"<p class=\"sums\">Brought | and paid | is put in | and taken home or there |.</p>\n",
+        &[s.brought, s.paid, s.put, s.home],
     );
-    let b = say2(
+    fill(
         out,
         a,
-        b"",
-        s.put,
-        b" and taken home or there ",
-        s.home,
-        b".</p>\n",
-    );
-    put_proof_on(out, b, s, m, lies)
-}
-
-fn put_proof_on(out: &mut [u8], p: Pen, s: Sums, m: Notes, lies: u64) -> Pen {
-    let a = say2(
-        out,
-        p,
-        b"<p class=\"sums\">Put in ",
-        s.put,
-        b" is paid ",
-        s.paid,
-        b", fees ",
-    );
-    let b = say2(
-        out,
-        a,
-        b"",
-        m.charges.fees,
-        b", drops ",
-        m.charges.drops,
-        b", unclaimed ",
-    );
-    say2(
-        out,
-        b,
-        b"",
-        m.charges.unclaimed,
-        b", and in the open hand ",
-        lies,
-        b".</p>\n</body>\n</html>\n",
+        b"<p class=\"sums\">Put in | is paid |, fees |, drops |, unclaimed |, and in the open hand |.</p>\n</body>\n</html>\n",
+        &[s.put, s.paid, c.fees, c.drops, c.unclaimed, lies],
     )
 }
 
@@ -227,34 +139,20 @@ fn put_codes(out: &mut [u8], p: Pen, codes: [u64; 13]) -> Pen {
 }
 
 // The evening in a table.
-fn put_table(out: &mut [u8], p: Pen, m: Notes) -> Pen {
-    let codes = m.codes;
-    let a = say2(
+fn put_table(out: &mut [u8], p: Pen, hands: u64, codes: [u64; 13], c: Charges) -> Pen {
+    let a = fill(
         out,
         p,
-        b"<table id=\"evening\">\n<caption>The evening</caption>\n<tr><th class=\"why\">hands opened</th><td>",
-        m.hands,
-        b"</td></tr>\n<tr><th class=\"why\">hands settled</th><td>",
-        m.charges.hands,
-        b"</td></tr>\n<tr><th class=\"why\">entries taken</th><td>",
+        b"<table id=\"evening\">\n<caption>The evening</caption>\n<tr><th class=\"why\">hands opened</th><td>|</td></tr>\n<tr><th class=\"why\">hands settled</th><td>|</td></tr>\n<tr><th class=\"why\">entries taken</th><td>|</td></tr>\n",
+        &[hands, c.hands, codes[0]],
     );
-    let b = say(out, a, b"", codes[0], b"</td></tr>\n");
-    put_table_on(out, b, m)
-}
-
-fn put_table_on(out: &mut [u8], p: Pen, m: Notes) -> Pen {
-    let codes = m.codes;
-    let c = put_codes(out, p, codes);
-    let a = say2(
+    let b = put_codes(out, a, codes);
+    fill(
         out,
-        c,
-        b"<tr><th class=\"why\">fees</th><td>",
-        m.charges.fees,
-        b"</td></tr>\n<tr><th class=\"why\">drops</th><td>",
-        m.charges.drops,
-        b"</td></tr>\n<tr><th class=\"why\">unclaimed</th><td>",
-    );
-    say(out, a, b"", m.charges.unclaimed, b"</td></tr>\n</table>\n")
+        b,
+        b"<tr><th class=\"why\">fees</th><td>|</td></tr>\n<tr><th class=\"why\">drops</th><td>|</td></tr>\n<tr><th class=\"why\">unclaimed</th><td>|</td></tr>\n</table>\n",
+        &[c.fees, c.drops, c.unclaimed],
+    )
 }
 
 // The end of the page.
@@ -266,7 +164,9 @@ pub fn put_evening(out: &mut [u8], p: Pen, m: Notes, t: Table) -> Pen {
 }
 
 fn put_close(out: &mut [u8], p: Pen, s: Sums, m: Notes, lies: u64) -> Pen {
+    let codes = m.codes;
+    let c = m.charges;
     let a = put_sums(out, p, s);
-    let b = put_table(out, a, m);
-    put_proofs(out, b, s, m, lies)
+    let b = put_table(out, a, m.hands, codes, c);
+    put_proofs(out, b, s, c, lies)
 }

@@ -71,6 +71,62 @@ pub fn put_number(out: &mut [u8], p: Pen, n: u64) -> Pen {
     put(out, p, &digits[..k])
 }
 
+// Where the next bar of a text stands, from a place on; its end where none does.
+fn bar(text: &[u8], from: usize) -> usize
+    ensures { λ r. ⌜ r ≤ length (now (text .entry)) ⌝ }
+{
+    let n = text.len();
+    let mut i = filled(from, n);
+    while i < n {
+        if text[i] == b'|' {
+            return i;
+        }
+        i += 1;
+    }
+    n
+}
+
+// What stands behind the next bar; the place itself where no bar stands.
+fn behind_bar(text: &[u8], from: usize) -> usize {
+    let i = bar(text, from);
+    if i < text.len() {
+        return i + 1;
+    }
+    from
+}
+
+// A text from a place up to its next bar.
+fn put_to_bar(out: &mut [u8], p: Pen, text: &[u8], from: usize) -> Pen {
+    let to = bar(text, from);
+    put(out, p, &text[filled(from, to)..to])
+}
+
+// Of the words that stand between bars the one at a place, from 0; the last where there are fewer.
+pub fn put_one_of(out: &mut [u8], p: Pen, words: &[u8], place: usize) -> Pen {
+    let n = filled(place, words.len());
+    let mut from: usize = 0;
+    let mut i: usize = 0;
+    while i < n {
+        from = behind_bar(words, from);
+        i += 1;
+    }
+    put_to_bar(out, p, words, from)
+}
+
+// A text with a number where each of its bars stands.
+pub fn fill(out: &mut [u8], p: Pen, text: &[u8], numbers: &[u64]) -> Pen {
+    let mut pen = p;
+    let mut from: usize = 0;
+    let mut i: usize = 0;
+    while i < numbers.len() {
+        pen = put_to_bar(out, pen, text, from);
+        pen = put_number(out, pen, numbers[i]);
+        from = behind_bar(text, from);
+        i += 1;
+    }
+    put_to_bar(out, pen, text, from)
+}
+
 // A number between two texts.
 pub fn say(out: &mut [u8], p: Pen, before: &[u8], n: u64, after: &[u8]) -> Pen {
     let a = put(out, p, before);
@@ -95,12 +151,16 @@ pub fn say2(
 // The box of a picture: what stands before its four numbers, and these.
 pub fn put_box(out: &mut [u8], p: Pen, what: &[u8], x: u64, y: u64, width: u64, high: u64) -> Pen {
     let a = put(out, p, what);
-    let b = say2(out, a, b" x=\"", x, b"\" y=\"", y, b"\" width=\"");
-    say2(out, b, b"", width, b"\" height=\"", high, b"\"")
+    fill(
+        out,
+        a,
+        b" x=\"|\" y=\"|\" width=\"|\" height=\"|\"",
+        &[x, y, width, high],
+    )
 }
 
 // The start of a text of a picture: what stands before its place, and this.
 pub fn put_text_at(out: &mut [u8], p: Pen, what: &[u8], x: u64, y: u64) -> Pen {
     let a = put(out, p, what);
-    say2(out, a, b" x=\"", x, b"\" y=\"", y, b"\">")
+    fill(out, a, b" x=\"|\" y=\"|\">", &[x, y])
 }

@@ -2,6 +2,7 @@
 use crate::pen::Pen;
 use crate::pen::put;
 use crate::pen::put_number;
+use crate::pen::put_one_of;
 use crate::pen::say;
 
 // Up to the style's end. The evening and the sittings come last in the bytes, and first on the page by `order`.
@@ -63,59 +64,39 @@ fn put_style_of_rows(out: &mut [u8], p: Pen) -> Pen {
 
 // The word of a kind, by its place in document 01's table of entries.
 pub fn put_kind(out: &mut [u8], p: Pen, kind: u32) -> Pen {
-    match kind {
-        0 => put(out, p, b"sit"),
-        1 => put(out, p, b"leave"),
-        2 => put(out, p, b"hand"),
-        3 => put(out, p, b"hole"),
-        4 => put(out, p, b"fold"),
-        5 => put(out, p, b"check"),
-        6 => put(out, p, b"call"),
-        7 => put(out, p, b"wager"),
-        8 => put(out, p, b"board"),
-        9 => put(out, p, b"dead"),
-        10 => put(out, p, b"settle"),
-        11 => put(out, p, b"void"),
-        _ => put(out, p, b"an unknown kind"),
-    }
+    put_one_of(
+        out,
+        p,
+        b"sit|leave|hand|hole|fold|check|call|wager|board|dead|settle|void|an unknown kind",
+        kind as usize,
+    )
 }
 
-// A refusal in words, by its number in document 01's table.
+// A refusal in words, by its number in document 01's table; another number means that the answer sheet is too short.
 pub fn put_refusal(out: &mut [u8], p: Pen, code: u8) -> Pen {
-    match code {
-        1 => put(out, p, b"the block's form is wrong"),
-        2 => put(out, p, b"unknown kind or number out of range"),
-        3 => put(out, p, b"n is not the next"),
-        4 => put(out, p, b"wrong moment"),
-        5 => put(out, p, b"the seat isn't as asked"),
-        6 => put(out, p, b"not that seat's turn"),
-        7 => put(out, p, b"amount or act not allowed by Betting"),
-        8 => put(out, p, b"a card already in this hand"),
-        9 => put(out, p, b"more than 100,000,000 chips"),
-        10 => put(out, p, b"a live seat has not all its cards entered"),
-        11 => put(out, p, b"the sheet is bad"),
-        _ => put(out, p, b"the answer sheet is too short"),
-    }
+    put_one_of(
+        out,
+        p,
+        b"the answer sheet is too short|the block's form is wrong|unknown kind or number out of range|n is not the next|wrong moment|the seat isn't as asked|not that seat's turn|amount or act not allowed by Betting|a card already in this hand|more than 100,000,000 chips|a live seat has not all its cards entered|the sheet is bad|the answer sheet is too short",
+        code as usize,
+    )
 }
 
 // A rank: 2 to 10 by its number, the others by their letter.
 pub fn put_rank(out: &mut [u8], p: Pen, rank: u8) -> Pen {
-    match rank {
-        11 => put(out, p, b"J"),
-        12 => put(out, p, b"Q"),
-        13 => put(out, p, b"K"),
-        14 => put(out, p, b"A"),
-        _ => put_number(out, p, rank as u64),
+    if 14 < rank {
+        return put_number(out, p, rank as u64);
     }
+    put_one_of(out, p, b"0|1|2|3|4|5|6|7|8|9|10|J|Q|K|A", rank as usize)
 }
 
 fn put_suit(out: &mut [u8], p: Pen, suit: u8) -> Pen {
-    match suit {
-        0 => put(out, p, b"\xe2\x99\xa3"),
-        1 => put(out, p, b"\xe2\x99\xa6"),
-        2 => put(out, p, b"\xe2\x99\xa5"),
-        _ => put(out, p, b"\xe2\x99\xa0"),
-    }
+    put_one_of(
+        out,
+        p,
+        b"\xe2\x99\xa3|\xe2\x99\xa6|\xe2\x99\xa5|\xe2\x99\xa0",
+        suit as usize,
+    )
 }
 
 // A card, 4 × (rank − 2) + suit.
@@ -126,17 +107,12 @@ pub fn put_card(out: &mut [u8], p: Pen, card: u8) -> Pen {
 
 // The class of a hand, by its number in cards' table of classes.
 pub fn put_class(out: &mut [u8], p: Pen, class: u8) -> Pen {
-    match class {
-        0 => put(out, p, b"straight flush"),
-        1 => put(out, p, b"four of a kind"),
-        2 => put(out, p, b"full house"),
-        3 => put(out, p, b"flush"),
-        4 => put(out, p, b"straight"),
-        5 => put(out, p, b"three of a kind"),
-        6 => put(out, p, b"two pair"),
-        7 => put(out, p, b"pair"),
-        _ => put(out, p, b"five odd cards"),
-    }
+    put_one_of(
+        out,
+        p,
+        b"straight flush|four of a kind|full house|flush|straight|three of a kind|two pair|pair|five odd cards",
+        class as usize,
+    )
 }
 
 // One of the five ranks of a hand, behind a blank.
@@ -145,19 +121,21 @@ fn put_next_rank(out: &mut [u8], p: Pen, rank: u8) -> Pen {
     put_rank(out, a, rank)
 }
 
-fn put_last_ranks(out: &mut [u8], p: Pen, third: u8, fourth: u8, fifth: u8) -> Pen {
-    let a = put_next_rank(out, p, third);
-    let b = put_next_rank(out, a, fourth);
-    put_next_rank(out, b, fifth)
+fn put_ranks(out: &mut [u8], p: Pen, ranks: [u8; 5]) -> Pen {
+    let mut pen = p;
+    let mut i: usize = 0;
+    while i < 5 {
+        pen = put_next_rank(out, pen, ranks[i]);
+        i += 1;
+    }
+    pen
 }
 
 // A hand: its class and its five ranks.
 pub fn put_hand(out: &mut [u8], p: Pen, class: u8, ranks: [u8; 5]) -> Pen {
     let a = put_class(out, p, class);
     let b = put(out, a, b":");
-    let c = put_next_rank(out, b, ranks[0]);
-    let d = put_next_rank(out, c, ranks[1]);
-    put_last_ranks(out, d, ranks[2], ranks[3], ranks[4])
+    put_ranks(out, b, ranks)
 }
 
 // A number in a cell of a table.

@@ -4,11 +4,11 @@ use chart::put_chart;
 use columns::in_mask;
 use columns::wins;
 use page::pen::Pen;
+use page::pen::fill;
 use page::pen::put;
+use page::pen::put_one_of;
 use page::pen::say;
-use page::pen::say2;
 use page::words::put_card;
-use page::words::put_cell;
 use page::words::put_hand;
 use spots::Chips;
 
@@ -44,41 +44,26 @@ pub struct Hand {
 
 // Who is dealt in, with the stack before, and what was posted.
 pub fn put_dealt(out: &mut [u8], p: Pen, seat: u64, sitting: u32, before: u32, posted: u32) -> Pen {
-    let a = say2(
+    if posted == 0 {
+        return fill(
+            out,
+            p,
+            b"<p class=\"dealt\"><b></b> seat |: sitting | with |</p>\n",
+            &[seat, sitting as u64, before as u64],
+        );
+    }
+    fill(
         out,
         p,
-        b"<p class=\"dealt\"><b></b> seat ",
-        seat,
-        b": sitting ",
-        sitting as u64,
-        b" with ",
-    );
-    if posted == 0 {
-        return say(out, a, b"", before as u64, b"</p>\n");
-    }
-    say2(
-        out,
-        a,
-        b"",
-        before as u64,
-        b", posts ",
-        posted as u64,
-        b"</p>\n",
+        b"<p class=\"dealt\"><b></b> seat |: sitting | with |, posts |</p>\n",
+        &[seat, sitting as u64, before as u64, posted as u64],
     )
 }
 
 // How a sitting's hand stands.
-fn put_state(out: &mut [u8], p: Pen, q: Part) -> Pen {
-    let a = put_how(out, p, q.how);
-    put_gone(out, a, q.here, q.now)
-}
-
-fn put_how(out: &mut [u8], p: Pen, how: u8) -> Pen {
-    match how {
-        0 => put(out, p, b"<td>live"),
-        1 => put(out, p, b"<td>folded"),
-        _ => put(out, p, b"<td>dead"),
-    }
+fn put_state(out: &mut [u8], p: Pen, how: u8, here: bool, now: u32) -> Pen {
+    let a = put_one_of(out, p, b"<td>live|<td>folded|<td>dead", how as usize);
+    put_gone(out, a, here, now)
 }
 
 // Whether it has left, and who sits there now.
@@ -90,29 +75,6 @@ fn put_gone(out: &mut [u8], p: Pen, here: bool, now: u32) -> Pen {
         return put(out, p, b", left</td><td>");
     }
     say(out, p, b", left; now sitting ", now as u64, b"</td><td>")
-}
-
-// What a sitting put in, by round and together.
-fn put_rounds(out: &mut [u8], p: Pen, r: [u32; 4], total: u32) -> Pen {
-    let a = say2(
-        out,
-        p,
-        b"<td>",
-        r[0] as u64,
-        b"</td><td>",
-        r[1] as u64,
-        b"</td>",
-    );
-    let b = say2(
-        out,
-        a,
-        b"<td>",
-        r[2] as u64,
-        b"</td><td>",
-        r[3] as u64,
-        b"</td>",
-    );
-    put_cell(out, b, total as u64)
 }
 
 // A card that was entered, behind a blank.
@@ -155,11 +117,19 @@ fn put_reason(out: &mut [u8], p: Pen, h: Hand, i: usize, k: usize, score: u32) -
     }
     let q = list[k];
     let alone = pots::hand::sole(q.who);
-    if laws::both(alone, in_mask(q.who, i)) {
-        return say(out, p, b"pot ", k as u64 + 1, b": sole contender. ");
-    }
-    if laws::both(!alone, wins(scores, q.who, i, score)) {
-        return say(out, p, b"pot ", k as u64 + 1, b": best hand. ");
+    let sole = laws::both(alone, in_mask(q.who, i));
+    let best = laws::both(!alone, wins(scores, q.who, i, score));
+    put_whys(out, p, sole, best, k as u64 + 1)
+}
+
+fn put_whys(out: &mut [u8], p: Pen, sole: bool, best: bool, pot: u64) -> Pen {
+    let a = put_why(out, p, sole, pot, b"pot |: sole contender. ");
+    put_why(out, a, best, pot, b"pot |: best hand. ")
+}
+
+fn put_why(out: &mut [u8], p: Pen, test: bool, pot: u64, text: &[u8]) -> Pen {
+    if test {
+        return fill(out, p, text, &[pot]);
     }
     p
 }
@@ -193,6 +163,15 @@ fn put_back(out: &mut [u8], p: Pen, back: u32, here: bool) -> Pen {
     )
 }
 
+fn put_pay(out: &mut [u8], p: Pen, back: u32, paid: u32) -> Pen {
+    fill(
+        out,
+        p,
+        b"</td><td>|</td><td class=\"paid\">|</td><td class=\"why\">",
+        &[back as u64, paid as u64],
+    )
+}
+
 // What a sitting is paid, and why.
 fn put_paid(out: &mut [u8], p: Pen, h: Hand, i: usize, q: Part) -> Pen {
     if !h.settled {
@@ -204,15 +183,7 @@ fn put_paid(out: &mut [u8], p: Pen, h: Hand, i: usize, q: Part) -> Pen {
             b"</td><td></td><td></td></tr>\n",
         );
     }
-    let a = say2(
-        out,
-        p,
-        b"</td><td>",
-        q.back as u64,
-        b"</td><td class=\"paid\">",
-        q.paid as u64,
-        b"</td><td class=\"why\">",
-    );
+    let a = put_pay(out, p, q.back, q.paid);
     let b = put_reasons(out, a, h, i, q.score);
     put_back(out, b, q.back, q.here)
 }
@@ -223,24 +194,37 @@ fn put_part(out: &mut [u8], p: Pen, h: Hand, i: usize, q: Part) -> Pen {
     if 10 <= i {
         return p;
     }
-    let a = say2(
-        out,
-        p,
-        b"<tr class=\"part\"><td>",
-        i as u64 + 1,
-        b"</td><td>",
-        q.sitting as u64,
-        b"</td>",
-    );
-    let b = put_cell(out, a, q.before as u64);
-    put_part_on(out, b, h, i, q, totals[i])
+    let rounds = q.rounds;
+    let a = put_numbers(out, p, i as u64 + 1, q.sitting, q.before, rounds, totals[i]);
+    let b = put_state(out, a, q.how, q.here, q.now);
+    put_part_end(out, b, h, i, q)
 }
 
-fn put_part_on(out: &mut [u8], p: Pen, h: Hand, i: usize, q: Part, total: u32) -> Pen {
-    let rounds = q.rounds;
-    let a = put_rounds(out, p, rounds, total);
-    let b = put_state(out, a, q);
-    put_part_end(out, b, h, i, q)
+// Who it is, its stack before, and what it put in, by round and together.
+fn put_numbers(
+    out: &mut [u8],
+    p: Pen,
+    seat: u64,
+    sitting: u32,
+    before: u32,
+    rounds: [u32; 4],
+    total: u32,
+) -> Pen {
+    fill(
+        out,
+        p,
+        b"<tr class=\"part\"><td>|</td><td>|</td><td>|</td><td>|</td><td>|</td><td>|</td><td>|</td><td>|</td>",
+        &[
+            seat,
+            sitting as u64,
+            before as u64,
+            rounds[0] as u64,
+            rounds[1] as u64,
+            rounds[2] as u64,
+            rounds[3] as u64,
+            total as u64,
+        ],
+    )
 }
 
 fn put_part_end(out: &mut [u8], p: Pen, h: Hand, i: usize, q: Part) -> Pen {
@@ -284,29 +268,24 @@ fn put_pot(out: &mut [u8], p: Pen, c: Chips, k: usize) -> Pen {
     let q = list[k];
     let low = spots::reach_of_first(totals, ps, k);
     let high = columns::reach(totals, q.who);
-    let a = say2(
-        out,
-        p,
-        b"<tr class=\"pot\"><td>",
-        k as u64 + 1,
-        b"</td><td>",
-        low as u64 + 1,
-        b" to ",
-    );
-    let b = say2(
-        out,
-        a,
-        b"",
-        high as u64,
-        b"</td><td>",
-        q.amount as u64,
-        b"</td>",
-    );
-    put_contenders(out, b, q.who)
+    put_pot_row(out, p, k as u64 + 1, low, high, q.amount, q.who)
 }
 
-fn put_contenders(out: &mut [u8], p: Pen, who: u16) -> Pen {
-    let a = put(out, p, b"<td>seats");
+fn put_pot_row(
+    out: &mut [u8],
+    p: Pen,
+    pot: u64,
+    low: u32,
+    high: u32,
+    amount: u32,
+    who: u16,
+) -> Pen {
+    let a = fill(
+        out,
+        p,
+        b"<tr class=\"pot\"><td>|</td><td>| to |</td><td>|</td><td>seats",
+        &[pot, low as u64 + 1, high as u64, amount as u64],
+    );
     let b = put_seats(out, a, who);
     put(out, b, b"</td></tr>\n")
 }
@@ -314,19 +293,26 @@ fn put_contenders(out: &mut [u8], p: Pen, who: u16) -> Pen {
 fn put_pots(out: &mut [u8], p: Pen, c: Chips) -> Pen {
     let ps = c.pots;
     let n = ps.n;
-    let mut pen = put(
-        out,
-        p,
-        b"</figure>\n<table class=\"pots\">\n<caption>Pots</caption>\n<tr><th>pot</th><th>heights</th><th>chips</th><th>contended by</th></tr>\n",
-    );
+    let mut pen = p;
     let mut k: usize = 0;
     while k < n {
         pen = put_pot(out, pen, c, k);
         k += 1;
     }
+    pen
+}
+
+// The table of the pots, with what goes back.
+fn put_pots_table(out: &mut [u8], p: Pen, c: Chips) -> Pen {
+    let a = put(
+        out,
+        p,
+        b"</figure>\n<table class=\"pots\">\n<caption>Pots</caption>\n<tr><th>pot</th><th>heights</th><th>chips</th><th>contended by</th></tr>\n",
+    );
+    let b = put_pots(out, a, c);
     say(
         out,
-        pen,
+        b,
         b"<tr><td colspan=\"2\">back</td><td class=\"back\">",
         c.back as u64,
         b"</td><td></td></tr>\n</table>\n",
@@ -334,31 +320,28 @@ fn put_pots(out: &mut [u8], p: Pen, c: Chips) -> Pen {
 }
 
 // Fee, drop and what nobody claims.
-fn put_charges(out: &mut [u8], p: Pen, h: Hand) -> Pen {
-    if !h.settled {
+fn put_charges(out: &mut [u8], p: Pen, settled: bool, fee: u32, unclaimed: u32, drop: u32) -> Pen {
+    if !settled {
         return put(
             out,
             p,
             b"</table>\n<p class=\"open\"><strong>The log ends inside this hand: nothing of it is paid.</strong></p>\n</section>\n",
         );
     }
-    let a = say2(
+    let a = fill(
         out,
         p,
-        b"</table>\n<p class=\"charges\">fee <span class=\"fee\">",
-        h.fee as u64,
-        b"</span>, unclaimed <span class=\"unclaimed\">",
-        h.unclaimed as u64,
-        b"</span>",
+        b"</table>\n<p class=\"charges\">fee <span class=\"fee\">|</span>, unclaimed <span class=\"unclaimed\">|</span>",
+        &[fee as u64, unclaimed as u64],
     );
-    if h.drop == 0 {
+    if drop == 0 {
         return put(out, a, b"</p>\n</section>\n");
     }
     say(
         out,
         a,
         b", drop <span class=\"drop\">",
-        h.drop as u64,
+        drop as u64,
         b"</span></p>\n</section>\n",
     )
 }
@@ -387,7 +370,7 @@ fn put_parts_head(out: &mut [u8], p: Pen) -> Pen {
 
 fn put_end_on(out: &mut [u8], p: Pen, h: Hand) -> Pen {
     let c = h.chips;
-    let a = put_pots(out, p, c);
+    let a = put_pots_table(out, p, c);
     let b = put_parts(out, a, h);
-    put_charges(out, b, h)
+    put_charges(out, b, h.settled, h.fee, h.unclaimed, h.drop)
 }

@@ -1,9 +1,9 @@
 // What happens at the table, a line for each entry: what a taken one did, in numbers of the table before and after it; the words of a refused one, folded away.
 use page::pen::Pen;
+use page::pen::fill;
 use page::pen::put;
 use page::pen::put_if;
 use page::pen::say;
-use page::pen::say2;
 use page::words::put_card;
 use page::words::put_kind;
 use page::words::put_refusal;
@@ -26,36 +26,20 @@ pub struct Event {
 
 // The entry's number and its seat.
 fn put_who(out: &mut [u8], p: Pen, e: Event) -> Pen {
-    let a = say2(
+    fill(
         out,
         p,
-        b"<p><b>",
-        e.n as u64,
-        b"</b> seat ",
-        e.seat as u64,
-        b" (sitting ",
-    );
-    say(out, a, b"", e.sitting as u64, b") ")
+        b"<p><b>|</b> seat | (sitting |) ",
+        &[e.n as u64, e.seat as u64, e.sitting as u64],
+    )
 }
 
 fn put_sat(out: &mut [u8], p: Pen, e: Event) -> Pen {
-    let a = say2(
+    fill(
         out,
         p,
-        b"<p><b>",
-        e.n as u64,
-        b"</b> seat ",
-        e.seat as u64,
-        b": sitting ",
-    );
-    say2(
-        out,
-        a,
-        b"",
-        e.after as u64,
-        b" sits down with ",
-        e.left as u64,
-        b"</p>\n",
+        b"<p><b>|</b> seat |: sitting | sits down with |</p>\n",
+        &[e.n as u64, e.seat as u64, e.after as u64, e.left as u64],
     )
 }
 
@@ -92,14 +76,11 @@ fn put_all_in(out: &mut [u8], p: Pen, all: bool) -> Pen {
 fn put_wager(out: &mut [u8], p: Pen, e: Event) -> Pen {
     let paid = laws::short_of(e.stack, e.left);
     let a = put_who(out, p, e);
-    let b = say2(
+    let b = fill(
         out,
         a,
-        b"wagers to ",
-        e.a as u64,
-        b": puts in ",
-        paid as u64,
-        b"",
+        b"wagers to |: puts in |",
+        &[e.a as u64, paid as u64],
     );
     put_all_in(out, b, e.left == 0)
 }
@@ -152,16 +133,12 @@ pub fn put_event(out: &mut [u8], p: Pen, e: Event) -> Pen {
 
 // The numbers of a refused block, as they were read.
 fn put_numbers(out: &mut [u8], p: Pen, e: Event) -> Pen {
-    let a = say2(
+    fill(
         out,
         p,
-        b" seat ",
-        e.seat as u64,
-        b", a ",
-        e.a as u64,
-        b", b ",
-    );
-    say(out, a, b"", e.b as u64, b"")
+        b" seat |, a |, b |",
+        &[e.seat as u64, e.a as u64, e.b as u64],
+    )
 }
 
 // A refused block, with its words; of one whose form is wrong nothing else is known. The first of a run opens what folds them away.

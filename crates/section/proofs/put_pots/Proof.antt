@@ -1,22 +1,16 @@
 -- `put_pots` meets its contract.
 use mathlib.Core.Path.{_≡_, refl}
-use Prim.Native.Nat.{_-_, _≤_}
+use Prim.Native.Nat.{_-_}
 use lib.ListN.{length}
 use borrow.Author.Needs.{needs}
 use Rattle.section.proofs.put_pots.Statement.{statement}
 use Rattle.section.proofs.put_pots.Tie as tie
 
 abbrev Inv-loop : tie.InvT-loop
-Inv-loop out₀ c n pen₀ k₀ t9 t10 out pen k = length out ≡ length out₀
+Inv-loop out₀ c n pen₀ k₀ out pen k = length out ≡ length out₀
 
 abbrev μ-loop : tie.MeasureT-loop
-μ-loop out₀ c n pen₀ k₀ t9 t10 out pen k = n - k
-
-slice-aggregate-put : tie.Need-slice-aggregate-put Inv-loop μ-loop
-slice-aggregate-put c = search needs
-
-put-requires : tie.Need-put-requires Inv-loop μ-loop
-put-requires c κs = search needs
+μ-loop out₀ c n pen₀ k₀ out pen k = n - k
 
 loop-holds : tie.Need-loop-holds Inv-loop μ-loop
 loop-holds c = search needs
@@ -33,18 +27,6 @@ loop-less c = search needs
 loop-again : tie.Need-loop-again Inv-loop μ-loop
 loop-again c = search needs
 
-slice-aggregate-say : tie.Need-slice-aggregate-say Inv-loop μ-loop
-slice-aggregate-say c = search needs
-
-cast-say : tie.Need-cast-say Inv-loop μ-loop
-cast-say c = search needs
-
-slice-aggregate-say-2 : tie.Need-slice-aggregate-say-2 Inv-loop μ-loop
-slice-aggregate-say-2 c = search needs
-
-say-requires : tie.Need-say-requires Inv-loop μ-loop
-say-requires c κs = search needs
-
 same-length : tie.Need-same-length Inv-loop μ-loop
 same-length c = search needs
 
@@ -57,16 +39,10 @@ put-pots-spec =
     (tie.spec
     Inv-loop
     μ-loop
-    slice-aggregate-put
-    put-requires
     loop-holds
     put-pot-requires
     add-k
     loop-less
     loop-again
-    slice-aggregate-say
-    cast-say
-    slice-aggregate-say-2
-    say-requires
     same-length
     returns)
