@@ -1,0 +1,4 @@
+-- Laws for the program.
+
+pub mod Scanned
+pub mod Made
