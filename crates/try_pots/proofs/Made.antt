@@ -1,5 +1,4 @@
 -- A list that is written place by place; how many seats a line can say; and that a hand which passes every test keeps the bounds. Assumes nothing.
--- one place more of a list of n
 use mathlib.Core.Path.{_≡_, refl, sym, ap, _∙_}
 use mathlib.Core.Bool.{Bool, true, false}
 use mathlib.Core.List.{List, _∷_, _++_, append-nil}
@@ -19,6 +18,7 @@ use Rattle.pots.proofs.Masks.{mask-empty}
 use Rattle.try_pots.specs.MadeHands.{listed, seatsBy, isFair, Fair}
 use Rattle.try_pots.specs.declared.hand.Hand.{Hand}
 
+-- one place more of a list of n
 pub listed-turn : (f : ℕ → ℕ) (n i y : ℕ) (a all : List ℕ) → i < n → i < length a → y ≡ f i → take i a ++ listed f i (n - i) ≡ all
     → take (i + 1) (set a i y) ++ listed f (i + 1) (n - (i + 1)) ≡ all
 listed-turn f n i y a all l m e q =

@@ -1,5 +1,4 @@
 -- No section of the paper: the made-up hand that a line's numbers say, whether it is one that `pots` takes, and what `pots` says of it. Assumes nothing.
--- f of so many places, from a place on
 use mathlib.Core.Bool.{Bool}
 use mathlib.Core.List.{List, [], _∷_}
 use mathlib.Core.Path.{_≡_}
@@ -15,6 +14,7 @@ use Rattle.pots.specs.declared.Commission.{Commission}
 use Rattle.try_pots.specs.declared.hand.Hand.{Hand}
 use Rattle.try_pots.specs.declared.lines.Told.{Told}
 
+-- f of so many places, from a place on
 abbrev pub listed : (ℕ → ℕ) → ℕ → ℕ → List ℕ
 listed f i zero = []
 listed f i (suc n) = f i ∷ listed f (suc i) n

@@ -1,5 +1,4 @@
 -- No section of the paper: how the program `try_pots` reads a line, numbers with blanks between them. Assumes nothing.
--- a line of which nothing has been read
 use mathlib.Core.Bool.{Bool, true, false}
 use mathlib.Core.List.{List}
 use Prim.Native.Nat.{ℕ, _+_, _-_, _*_}
@@ -8,6 +7,7 @@ use lib.ListN.{set}
 use Rattle.laws.specs.Tests.{both, either, pick}
 use Rattle.try_pots.specs.declared.line.Scan.{Scan}
 
+-- a line of which nothing has been read
 abbrev pub noScan : Scan
 noScan = record { count = 0; value = 0; some = false; bad = false }
 
