@@ -10,7 +10,7 @@ use native.Mathlib.Decide.{decLt}
 use lib.Dec.{eqb, ltb}
 use lib.ListN.{length, length-map}
 use borrow.Author.Tests.{eq-eqb, ltb-true, ltb-false, lt-ltb, le-ltb}
-use Rattle.laws.specs.Tests.{one, both, pick}
+use Rattle.laws.specs.Tests.{both, pick}
 use Rattle.laws.specs.Lists.{All}
 use Rattle.laws.specs.Often.{count, SameNumbers}
 use Rattle.laws.proofs.Tests.{test, both-true}

@@ -19,7 +19,8 @@ use Rattle.cards.specs.Cards.{rank, suit}
 use Rattle.cards.proofs.Scaled.{same-eqb, same-count}
 use Rattle.cards.proofs.Patterns.{Strict}
 use Rattle.counts.specs.HandOrder.{leaving, heldTimes, ofSuit, ifFive, flushRanks, countsOf, countedHand, named}
-use Rattle.counts.proofs.Passing.{Drops, drops-up, drops-none, passing-drops, passing-count, passing-same, drops-same}
+use Rattle.laws.proofs.Choosing.{Drops, drops-up}
+use Rattle.counts.proofs.Passing.{drops-none, passing-drops, passing-count, passing-same, drops-same}
 
 -- ---- the ranks held k times
 pub held-drops : (k : ℕ) (rs : List ℕ) → Drops 15 (heldTimes k rs)

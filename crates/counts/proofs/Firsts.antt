@@ -11,7 +11,8 @@ use Rattle.laws.specs.Tests.{both, pick}
 use Rattle.cards.specs.Hands.{hand}
 use Rattle.cards.specs.declared.Hand.{Hand}
 use Rattle.counts.specs.HandOrder.{highest, leaving, isRank, Counts, rowFoot, rowed, fourRank, threeRank, pairBeside, pairRank, secondPair, kickers, lowNamed, named}
-use Rattle.counts.proofs.Passing.{Drops, drops-up, leaving-first}
+use Rattle.laws.proofs.Choosing.{Drops, drops-up}
+use Rattle.counts.proofs.Passing.{leaving-first}
 
 -- ---- the first, and the others
 -- a is the first of l, and m are the others

@@ -24,7 +24,8 @@ use Rattle.cards.proofs.Ordered.{before-high}
 use Rattle.cards.proofs.Sorted.{ordered-right}
 use Rattle.cards.proofs.Sole.{ordered-only}
 use Rattle.cards.proofs.Mixing.{Within}
-use Rattle.counts.proofs.Passing.{Drops, drops-none}
+use Rattle.laws.proofs.Choosing.{Drops}
+use Rattle.counts.proofs.Passing.{drops-none}
 use Rattle.counts.proofs.Counting.{map-from}
 
 -- each is there once at most

@@ -21,7 +21,8 @@ use Rattle.laws.proofs.Bits.{bit-le, bit-zero}
 use Rattle.counts.specs.HandOrder.{highest, leaving, isThere, isRow, rowFoot}
 use Rattle.counts.specs.Kept.{ranksIn, Short}
 use Rattle.counts.proofs.Digits.{bit-and, bit-or, bit-less, bit-pow, bit-high, bit-top}
-use Rattle.counts.proofs.Passing.{Drops, drops-none, passing-drops, passing-count, passing-same, passing-none, highest-is, leaving-passing}
+use Rattle.laws.proofs.Choosing.{Drops}
+use Rattle.counts.proofs.Passing.{drops-none, passing-drops, passing-count, passing-same, passing-none, highest-is, leaving-passing}
 
 pub ranks-drop : (m : ℕ) → Drops 15 (ranksIn m)
 unfolding ranksIn

@@ -14,16 +14,8 @@ use Rattle.laws.specs.Tests.{one, both, pick}
 use Rattle.laws.specs.Often.{count, SameNumbers}
 use Rattle.laws.proofs.Tests.{test}
 use Rattle.laws.proofs.Often.{count-self}
+use Rattle.laws.proofs.Choosing.{Drops, drops-up}
 use Rattle.counts.specs.HandOrder.{passing, highest, leaving}
-
--- each is below the one before, and the first below x
-abbrev pub Drops : ℕ → List ℕ → Type 0
-Drops x [] = Unit {0}
-Drops x (y ∷ l) = (y < x) × Drops y l
-
-pub drops-up : (x y : ℕ) (l : List ℕ) → x ≤ y → Drops x l → Drops y l
-drops-up x y [] h d = tt
-drops-up x y (z ∷ l) h d = (omega (arith, d .0), d .1)
 
 pub passing-drops : (n : ℕ) (p : ℕ → Bool) → Drops n (passing n p)
 unfolding passing

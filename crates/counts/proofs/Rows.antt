@@ -10,18 +10,19 @@ use native.Mathlib.Decide.{decLt}
 use lib.Dec.{eqb, ltb}
 use lib.ListN.{length}
 use borrow.Author.Tests.{eqb-true, eq-eqb, ne-eqb, lt-ltb, ltb-true}
-use Rattle.laws.specs.Tests.{one, both, either}
+use Rattle.laws.specs.Tests.{both, either}
 use Rattle.laws.specs.Lists.{All}
 use Rattle.laws.specs.Often.{count}
 use Rattle.laws.proofs.Tests.{test, both-true}
 use Rattle.laws.proofs.Often.{count-self, same-length}
 use Rattle.cards.specs.Cards.{sameList, isWheel, lowered, inRow, ordered}
 use Rattle.cards.specs.Hands.{mostHeld}
-use Rattle.cards.proofs.Steps.{same-list}
+use Rattle.laws.proofs.Members.{same-list}
 use Rattle.cards.proofs.Sorted.{ordered-right}
 use Rattle.cards.proofs.Mixing.{Within}
 use Rattle.counts.specs.HandOrder.{passing, highest, isThere, isRow, rowFoot, rowed}
-use Rattle.counts.proofs.Passing.{Drops, passing-same, highest-most, highest-passes}
+use Rattle.laws.proofs.Choosing.{Drops}
+use Rattle.counts.proofs.Passing.{passing-same, highest-most, highest-passes}
 use Rattle.counts.proofs.Counting.{all-at}
 use Rattle.counts.proofs.Fives.{most-one}
 

@@ -11,14 +11,14 @@ use borrow.Author.Tests.{ltb-true}
 use Rattle.laws.specs.Tests.{both, either, pick}
 use Rattle.laws.specs.Lists.{All}
 use Rattle.laws.specs.Often.{count}
-use Rattle.laws.proofs.Tests.{test, both-true}
+use Rattle.laws.proofs.Tests.{both-true}
 use Rattle.cards.specs.Cards.{sameList, before, put, inOrder, ordered}
 use Rattle.cards.specs.Hands.{hand, classOf}
 use Rattle.cards.specs.Order.{above, betterBy, keep, choices}
 use Rattle.cards.specs.Patterns.{neighbours}
 use Rattle.cards.specs.declared.Hand.{Hand}
 use Rattle.cards.proofs.Falls.{Falling}
-use Rattle.cards.proofs.Steps.{same-list}
+use Rattle.laws.proofs.Members.{same-list}
 use Rattle.cards.proofs.Scaled.{same-count, carried-at}
 use Rattle.cards.proofs.Patterns.{Strict, dense, carry, allOf, each-of, neighbours-long}
 use Rattle.counts.specs.HandOrder.{passing, highest, leaving, isRank, heldTimes, Counts, countsBy, fourRank, threeRank, pairBeside, pairRank, secondPair, kickers, lowNamed}

@@ -28,7 +28,7 @@ use Rattle.cards.proofs.Only.{best-only}
 use Rattle.cards.proofs.Mixed.{same-ordered}
 use Rattle.cards.proofs.Mixing.{Within, choice-within, within-choice}
 use Rattle.counts.specs.HandOrder.{highest, heldTimes, ofSuit, rowFoot, rowed}
-use Rattle.counts.proofs.Passing.{Drops}
+use Rattle.laws.proofs.Choosing.{Drops}
 use Rattle.counts.proofs.Counting.{held-drops, held-often, often-held, suit-count, suit-long}
 use Rattle.counts.proofs.Fives.{drops-ordered, most-one, dropped-cards, tally-within, first-ones}
 use Rattle.counts.proofs.Rows.{Ranks, ranks-at, rowed-row, foot-same, straight-of, row-ranks}

@@ -8,7 +8,7 @@ use rounds::close;
 use rounds::empty;
 use rounds::feed;
 ghost use mathlib.Core.Path.{_≡_};
-ghost use Prim.Native.Nat.{_+_, _≤_, _<_};
+ghost use Prim.Native.Nat.{_≤_, _<_};
 ghost use lib.ListN.{length};
 ghost use Rattle.rounds.specs.RoundParts.{Held};
 

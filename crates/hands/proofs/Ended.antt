@@ -13,7 +13,7 @@ use Rattle.laws.proofs.Tests.{both-true}
 use Rattle.laws.specs.Often.{tally}
 use Rattle.laws.proofs.Often.{tally-most}
 use Rattle.cards.specs.Order.{rankingOf, bestOf}
-use Rattle.cards.specs.Reading.{codeOfReading, anyOutside, anyTwice, readingOf}
+use Rattle.cards.specs.Reading.{codeOfReading, anyAbove, anyOutside, anyTwice, readingOf}
 use Rattle.cards.specs.declared.Hand.{Hand}
 use Rattle.cards.specs.declared.asked.Reading.{Reading}
 use Rattle.cards.specs.declared.asked.Reading.the-variants.{Known, NotSeven, NoCard, Repeat}
@@ -23,7 +23,7 @@ use Rattle.ladder.proofs.Laid.{ladder-length}
 use Rattle.counts.specs.HandOrder.{countedReading}
 use Rattle.counts.proofs.Agree.{readers-agree}
 use Rattle.hands.specs.Answers.{Wrote, numberBytes, handBytes, placeBytes, knownBytes, readingBytes}
-use Rattle.hands.specs.Lines.{lineOf, endedTo, cardsTo, answerOf}
+use Rattle.hands.specs.Lines.{lineOf, endedTo, cardsTo, fiveOf, readBy, answerOf}
 use Rattle.hands.specs.declared.Line.{Line}
 use Rattle.hands.proofs.Written.{next}
 
@@ -72,15 +72,47 @@ module _ {at s : ℕ} {o m : List ℕ} (place : Bool) where
   refused-bytes r v k e q c w =
       subst (λ (bs : List ℕ). Wrote bs at o m s) (ap numberBytes (c ∙ ap codeOfReading e) ∙ sym q ∙ ap (readingBytes place) (sym e)) w
 
-pub answer-is : {at r s : ℕ} {o m p : List ℕ} (deck : ℕ) (place : Bool) (l e : Line) (cs ds : List ℕ) (a : Reading) → e ≡ endedTo l (length cs) → ds ≡ cardsTo l cs
-    → a ≡ readingOf deck (take (e .have - 0) (drop 0 ds)) → Wrote (readingBytes place a) at o m r → Wrote (10 ∷ []) r m p s → Wrote (answerOf deck place l cs) at o p s
+pub answer-is : {at r s : ℕ} {o m p : List ℕ} (five : Bool) (deck : ℕ) (place : Bool) (l e : Line) (cs ds : List ℕ) (a : Reading) → e ≡ endedTo l (length cs)
+    → ds ≡ cardsTo l cs → a ≡ readBy five deck (take (e .have - 0) (drop 0 ds)) → Wrote (readingBytes place a) at o m r → Wrote (10 ∷ []) r m p s
+    → Wrote (answerOf five deck place l cs) at o p s
 unfolding answerOf
-answer-is {at} {r} {s} {o} {m} {p} deck place l e cs ds a f g q w v =
+answer-is {at} {r} {s} {o} {m} {p} five deck place l e cs ds a f g q w v =
     let z : e .have - 0 ≡ e .have = omega arith in
     next
     (subst (λ (x : Reading). Wrote (readingBytes place x) at o m r)
-    (q ∙ ap (λ (n : ℕ). readingOf deck (take n ds)) z ∙ ap₂ (λ (x : Line) (y : List ℕ). readingOf deck (take (x .have) y)) f g) w)
+    (q ∙ ap (λ (n : ℕ). readBy five deck (take n ds)) z ∙ ap₂ (λ (x : Line) (y : List ℕ). readBy five deck (take (x .have) y)) f g) w)
     v
+
+-- ---- five cards, or seven
+module _ (l : List ℕ) where
+  abbrev fives : Bool
+  fives = both (eqb (length l) 5) (not (anyAbove l))
+
+  -- what the code asks, in two steps
+  pub fives-are : (a q : Bool) {t : Bool} → a ≡ anyAbove l → q ≡ both (eqb (length l) 5) (not a) → q ≡ t → fives ≡ t
+  fives-are a q e f g = sym (f ∙ ap (λ (b : Bool). both (eqb (length l) 5) (not b)) e) ∙ g
+
+  pub five-none : fives ≡ false → NoCard ≡ fiveOf l
+  unfolding fiveOf
+  five-none e = sym (ap (λ (b : Bool). pick b (pick (anyTwice l) Repeat (Known (bestOf (rankingOf 52) l))) NoCard) e)
+
+  known-five : fives ≡ true → pick (anyTwice l) Repeat (Known (bestOf (rankingOf 52) l)) ≡ fiveOf l
+  unfolding fiveOf
+  known-five e = sym (ap (λ (b : Bool). pick b (pick (anyTwice l) Repeat (Known (bestOf (rankingOf 52) l))) NoCard) e)
+
+  pub five-twice : fives ≡ true → anyTwice l ≡ true → Repeat ≡ fiveOf l
+  five-twice e f = sym (ap (λ (b : Bool). pick b Repeat (Known (bestOf (rankingOf 52) l))) f) ∙ known-five e
+
+  pub five-known : {h : Hand} → fives ≡ true → anyTwice l ≡ false → h ≡ bestOf (rankingOf 52) l → Known h ≡ fiveOf l
+  five-known e f g = ap Known g ∙ sym (ap (λ (b : Bool). pick b Repeat (Known (bestOf (rankingOf 52) l))) f) ∙ known-five e
+
+  pub read-five : {r : Reading} (five : Bool) (deck : ℕ) → five ≡ true → r ≡ fiveOf l → r ≡ readBy five deck l
+  unfolding readBy
+  read-five five deck e q = q ∙ sym (ap (λ (b : Bool). pick b (fiveOf l) (readingOf deck l)) e)
+
+  pub read-seven : {r : Reading} (five : Bool) (deck : ℕ) → five ≡ false → r ≡ readingOf deck l → r ≡ readBy five deck l
+  unfolding readBy
+  read-seven five deck e q = q ∙ sym (ap (λ (b : Bool). pick b (fiveOf l) (readingOf deck l)) e)
 
 -- ---- the place has four digits at most
 pub place-small : (h : Hand) → placeOf h < 10000

@@ -1,23 +1,32 @@
 // Hands: a line of card numbers after another on standard input, and for each what the box answers when it is asked about them: the class of the
 // best five, 8 for a straight flush down to 0 for five odd cards, and their ranks as they are compared; or the paper's number for a refusal. With the
-// argument --counted the second reader answers, which counts; with --place the place of the hand is written in place of its class and ranks. With --short
-// the cards are those of the 32-card deck, which has neither the second reader nor places.
+// argument --counted the second reader answers, which counts; with --place the place of the hand is written in place of its class and ranks; with --five
+// a line has five cards. With --short the cards are those of the 32-card deck, which has none of these.
+use argument::is_argument;
 use cards::Hand;
 use cards::Reading;
+use cards::any_above;
+use cards::any_twice;
+use cards::best_hand;
 use laws::both;
 use laws::either;
 use libc::STDIN_FILENO;
 use libc::STDOUT_FILENO;
+use output::flush;
 ghost use mathlib.Core.Path.{_≡_};
 ghost use mathlib.Core.List.{[], _∷_};
 ghost use Prim.Native.Nat.{_+_, _-_, _≤_, _<_};
 ghost use lib.ListN.{length, set};
 ghost use Rattle.cards.specs.Reading.{readingOf};
-ghost use Rattle.hands.specs.Lines.{noLine, grownOf, endedTo, cardsTo, takenTo, cardsWith, answerOf};
+ghost use Rattle.hands.specs.Lines.{noLine, grownOf, endedTo, cardsTo, takenTo, cardsWith, fiveOf, readBy, answerOf};
 ghost use Rattle.hands.specs.Answers.{Wrote, numberBytes, rankBytes, handBytes, fourBytes, keyBytes, placeBytes, knownBytes, readingBytes};
 
-// What is asked for: the deck; the second reader in place of the first; the hand's place in place of its class and ranks.
+// Answers are written out where less than an answer's room, 18 bytes, is left behind them.
+const ENOUGH: usize = 65500;
+
+// What is asked for: five cards in place of seven; the deck; the second reader in place of the first; the hand's place in place of its class and ranks.
 struct Wish {
+    five: bool,
     deck: u32,
     counted: bool,
     place: bool,
@@ -236,36 +245,45 @@ fn read_cards(deck: u32, counted: bool, cards: &[u8]) -> Reading
     cards::read_hand(deck, cards)
 }
 
+// The hand of five cards of the 52: any other number of them or a card above 51 is refused with 2, then a card that comes twice.
+fn read_five(cards: &[u8]) -> Reading
+    ensures { λ r. ⌜ r ≡ fiveOf (now (cards .entry)) ⌝ }
+{
+    if both(cards.len() == 5, !any_above(cards)) {
+        if any_twice(cards) {
+            return Reading::Repeat;
+        }
+        return Reading::Known(best_hand(52, cards));
+    }
+    Reading::NoCard
+}
+
+// The answer about five cards, or about seven.
+fn read_by(w: Wish, cards: &[u8]) -> Reading
+    ensures { λ r. ⌜ r ≡ readBy (w .five) (w .deck) (now (cards .entry)) ⌝ }
+{
+    if w.five {
+        return read_five(cards);
+    }
+    read_cards(w.deck, w.counted, cards)
+}
+
 // The answer to the line, in a line of its own.
 fn answer(w: Wish, l: Line, cards: &mut [u8], out: &mut [u8], at: usize) -> usize
     requires { ⌜ (l .have ≤ length (now cards)) × (at + 18 ≤ length (now out)) ⌝ }
-    ensures wrote { λ r. ⌜ Wrote (answerOf (w .deck) (w .place) l (now (cards .entry))) at (now (out .entry)) (now (out .exit)) r ⌝ }
+    ensures wrote { λ r. ⌜ Wrote (answerOf (w .five) (w .deck) (w .place) l (now (cards .entry))) at (now (out .entry)) (now (out .exit)) r ⌝ }
     ensures room { λ r. ⌜ r ≤ at + 18 ⌝ }
 {
     let ended = end_word(l, cards);
     let n = ended.have;
-    let deck = w.deck;
-    let counted = w.counted;
     let place = w.place;
-    let end = put_reading(place, read_cards(deck, counted, &cards[0..n]), out, at);
+    let end = put_reading(place, read_by(w, &cards[0..n]), out, at);
     put(out, end, 10)
 }
 
 struct ServedTo {
     line: Line,
     at: usize,
-}
-
-// Writes out the answers where there is no room for another behind them; how much of them is still to be written.
-fn flush(answers: &[u8]) -> usize
-    ensures { λ r. ⌜ (r ≤ length (now (answers .entry))) × (r ≤ 65500) ⌝ }
-{
-    let at = answers.len();
-    if at <= 65500 {
-        return at;
-    }
-    io::write_all(STDOUT_FILENO, answers);
-    0
 }
 
 // A byte of the input: an LF ends a line, which is answered.
@@ -277,8 +295,8 @@ fn serve_byte(w: Wish, l: Line, cards: &mut [u8], b: u8, out: &mut [u8], at: usi
         let line = take_byte(l, cards, b);
         return ServedTo { line, at };
     }
-    let k = flush(&out[0..at]);
-    let end = answer(w, l, cards, out, k);
+    let f = flush(STDOUT_FILENO, &out[0..at], ENOUGH);
+    let end = answer(w, l, cards, out, f.at);
     let line = fresh();
     ServedTo { line, at: end }
 }
@@ -349,13 +367,6 @@ fn is_begun(l: Line) -> bool {
     if l.begun { true } else { 0 < l.have }
 }
 
-// Whether the k-th argument is this word.
-fn is_argument(k: usize, word: &[u8]) -> bool {
-    let mut given = [0u8; 16];
-    let n = os::arg(k, &mut given);
-    check::same(&given[..n], word)
-}
-
 // Whether one of the three arguments is this word.
 fn is_given(word: &[u8]) -> bool {
     either(
@@ -364,10 +375,11 @@ fn is_given(word: &[u8]) -> bool {
     )
 }
 
-// The hands of the 32 cards have no places.
+// The hands of the 32 cards have no places, and are of seven cards.
 fn wished() -> Wish {
     let deck = if is_given(b"--short") { 32 } else { 52 };
     Wish {
+        five: both(is_given(b"--five"), deck == 52),
         deck,
         counted: is_given(b"--counted"),
         place: both(is_given(b"--place"), deck == 52),

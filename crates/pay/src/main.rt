@@ -1,5 +1,6 @@
 // The payer: a tray and then the clerk's answers on standard input; at each settled block how many chips of each row go to each sitting, on standard output as soon as its
 // last line has come; at the end the tray as it stands. With the argument --check the proposals are another program's, and are checked.
+use argument::is_argument;
 use libc::STDIN_FILENO;
 use libc::STDOUT_FILENO;
 use lines::Fill;
@@ -147,13 +148,6 @@ fn read_all(check: bool, buf: &mut [u8], gives: &mut [u32]) -> Teller
     teller
 }
 
-// Whether the first argument is --check.
-fn checking() -> bool {
-    let mut word = [0u8; 16];
-    let n = os::arg(1, &mut word);
-    check::same(&word[..n], b"--check")
-}
-
 // The input has ended.
 fn end(s: Teller, gives: &[u32])
     requires { ⌜ Sound s × (length (now gives) ≡ 160) ⌝ }
@@ -166,6 +160,6 @@ fn end(s: Teller, gives: &[u32])
 fn main() {
     let mut buf = [0u8; text::sheet::ROOM];
     let mut gives = [0u32; 160];
-    let t = read_all(checking(), &mut buf, &mut gives);
+    let t = read_all(is_argument(1, b"--check"), &mut buf, &mut gives);
     end(t, &gives);
 }

@@ -1,5 +1,6 @@
 // The screen: answers on standard input, and a picture of each for a person on standard output, as it comes. With the argument --plain, or where the
 // output is no terminal, without colour.
+use argument::is_argument;
 use libc::STDIN_FILENO;
 use libc::STDOUT_FILENO;
 use output::ahead;
@@ -11,7 +12,7 @@ use picture::draw_on;
 use picture::start;
 ghost use mathlib.Core.Path.{_≡_};
 ghost use mathlib.Core.Bool.{false};
-ghost use Prim.Native.Nat.{_+_, _≤_, _<_};
+ghost use Prim.Native.Nat.{_≤_, _<_};
 ghost use lib.ListN.{length};
 ghost use Rattle.picture.specs.Screen.{Held, lineRoom, drawnMost};
 ghost use Rattle.picture.specs.Parts.{DrawnTo};
@@ -134,9 +135,7 @@ fn end(s: Screen, buf: &[u8])
 
 // Whether to draw in colour: on a terminal, unless the first argument is --plain.
 fn coloured() -> bool {
-    let mut word = [0u8; 16];
-    let n = os::arg(1, &mut word);
-    if check::same(&word[..n], b"--plain") {
+    if is_argument(1, b"--plain") {
         return false;
     }
     libc::isatty(STDOUT_FILENO) == 1

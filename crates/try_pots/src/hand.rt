@@ -1,9 +1,11 @@
 // A hand out of a line's numbers, and whether it is one that the crate `pots` takes.
 ghost use mathlib.Core.Path.{_≡_};
-ghost use mathlib.Core.Bool.{true};
-ghost use Prim.Native.Nat.{ℕ, _≤_, _<_};
+ghost use Prim.Native.Nat.{_≤_, _<_};
 ghost use lib.ListN.{getD};
 ghost use Rattle.laws.specs.Lists.{sumOf};
+ghost use Rattle.try_pots.specs.MadeHands.{numberFor, columnOf, seatsOf, ruleOf, handOf, isFair};
+use laws::both;
+use laws::chosen;
 use pots::Commission;
 
 pub struct Hand {
@@ -16,18 +18,33 @@ pub struct Hand {
     pub here: u16,
 }
 
-fn number_at(nums: &[u32], i: usize) -> u32 {
+fn number_at(nums: &[u32], i: usize) -> u32
+    ensures { λ r. ⌜ r ≡ getD (now (nums .entry)) i 0 ⌝ }
+{
     if i < nums.len() { nums[i] } else { 0 }
 }
 
-// The list of a line that begins at a place, with a number for each seat, and 0 for the seats above.
+// The number for a seat in the list that begins at a place: 0 for the seats above the last.
+fn number_for(nums: &[u32], from: usize, seats: usize, i: usize) -> u32
+    requires { ⌜ (from ≤ 37) × (i < 10) ⌝ }
+    ensures { λ r. ⌜ r ≡ numberFor (now (nums .entry)) from seats i ⌝ }
+{
+    if i < seats {
+        number_at(nums, from + i)
+    } else {
+        0
+    }
+}
+
+// That list.
 fn column(nums: &[u32], from: usize, seats: usize) -> [u32; 10]
-    requires { ⌜ (from ≤ 37) × (seats ≤ 10) ⌝ }
+    requires { ⌜ from ≤ 37 ⌝ }
+    ensures { λ r. ⌜ r ≡ columnOf (now (nums .entry)) from seats ⌝ }
 {
     let mut a = [0u32; 10];
     let mut i: usize = 0;
-    while i < seats {
-        a[i] = number_at(nums, from + i);
+    while i < 10 {
+        a[i] = number_for(nums, from, seats, i);
         i += 1;
     }
     a
@@ -35,19 +52,16 @@ fn column(nums: &[u32], from: usize, seats: usize) -> [u32; 10]
 
 // How many seats a line of so many numbers is for: 0 where they are not two to ten, or the numbers are too few or too many.
 fn seats_of(nums: &[u32], count: usize) -> usize
-    ensures { λ r. ⌜ r ≤ 10 ⌝ }
+    ensures { λ r. ⌜ (r ≡ seatsOf (now (nums .entry)) count) × (r ≤ 10) ⌝ }
 {
-    let n = number_at(nums, 0) as usize;
-    if n < 2 {
-        return 0;
-    }
-    if 10 < n {
-        return 0;
-    }
-    if count == 7 + 4 * n { n } else { 0 }
+    let n = number_at(nums, 0);
+    let room = both(2 <= n, n <= 10);
+    chosen(both(room, count == 7 + 4 * n as usize), n, 0) as usize
 }
 
-fn rule_of(nums: &[u32]) -> Commission {
+fn rule_of(nums: &[u32]) -> Commission
+    ensures { λ r. ⌜ r ≡ ruleOf (now (nums .entry)) ⌝ }
+{
     Commission {
         rate: number_at(nums, 2),
         cap: number_at(nums, 3),
@@ -57,7 +71,9 @@ fn rule_of(nums: &[u32]) -> Commission {
     }
 }
 
-pub fn hand_of(nums: &[u32], count: usize) -> Hand {
+pub fn hand_of(nums: &[u32], count: usize) -> Hand
+    ensures { λ r. ⌜ r ≡ handOf (now (nums .entry)) count ⌝ }
+{
     let seats = seats_of(nums, count);
     let rule = rule_of(nums);
     Hand {
@@ -91,27 +107,15 @@ fn sum(xs: [u32; 10]) -> u64
 
 // Whether a hand keeps the bounds that `pots` asks for.
 pub fn fair(h: Hand) -> bool
-    ensures { λ r. ⌜ (r ≡ true → (h .seats ≤ 10) × (sumOf (h .totals) ≤ 100000000) × (h .rule .rate ≤ 100) × (0 < h .rule .step) × (h .puck ≤ 10) × ((i : ℕ) → getD (h .scores) i 0 ≤ 100000000)) ⌝ }
+    ensures { λ r. ⌜ r ≡ isFair h ⌝ }
 {
     let totals = h.totals;
     let scores = h.scores;
-    if h.seats == 0 {
-        return false;
-    }
-    if 10 < h.seats {
-        return false;
-    }
-    if 100000000 < sum(totals) {
-        return false;
-    }
-    if 100 < h.rule.rate {
-        return false;
-    }
-    if h.rule.step < 1 {
-        return false;
-    }
-    if 10 < h.puck {
-        return false;
-    }
-    pots::mask_at(scores, 100000001) == 0
+    let few = both(0 < h.seats, h.seats <= 10);
+    let small = both(
+        sum(totals) <= 100000000,
+        pots::mask_at(scores, 100000001) == 0,
+    );
+    let ruled = both(h.rule.rate <= 100, 0 < h.rule.step);
+    both(few, both(small, both(ruled, h.puck <= 10)))
 }

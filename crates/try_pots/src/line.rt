@@ -1,4 +1,9 @@
 // A line of numbers, byte by byte: its numbers go into lent places, and what is known of the line is a small struct.
+use laws::both;
+use laws::either;
+ghost use mathlib.Core.Path.{_≡_};
+ghost use lib.ListN.{length};
+ghost use Rattle.try_pots.specs.Numbers.{noScan, begunOf, spoiltOf, digitTo, endedTo, numbersTo, takenTo, numbersWith};
 
 // A line so far: how many numbers are done, the number that is not, whether that has a digit, and whether the line is no line of numbers.
 pub struct Scan {
@@ -8,7 +13,9 @@ pub struct Scan {
     pub bad: bool,
 }
 
-pub fn fresh() -> Scan {
+pub fn fresh() -> Scan
+    ensures { λ r. ⌜ r ≡ noScan ⌝ }
+{
     Scan {
         count: 0,
         value: 0,
@@ -18,17 +25,15 @@ pub fn fresh() -> Scan {
 }
 
 // Whether the line has a byte other than a blank.
-pub fn begun(s: Scan) -> bool {
-    if s.bad {
-        return true;
-    }
-    if s.some {
-        return true;
-    }
-    0 < s.count
+pub fn begun(s: Scan) -> bool
+    ensures { λ r. ⌜ r ≡ begunOf s ⌝ }
+{
+    either(s.bad, either(s.some, 0 < s.count))
 }
 
-fn spoilt(s: Scan) -> Scan {
+fn spoilt(s: Scan) -> Scan
+    ensures { λ r. ⌜ r ≡ spoiltOf s ⌝ }
+{
     Scan {
         count: s.count,
         value: 0,
@@ -37,24 +42,25 @@ fn spoilt(s: Scan) -> Scan {
     }
 }
 
-// One digit more. A number above 999,999,999 is not taken.
-fn with_digit(s: Scan, d: u8) -> Scan {
-    if 99999999 < s.value {
-        return spoilt(s);
+// One digit more. A byte that is none is not taken, nor a number above 999,999,999.
+fn with_digit(s: Scan, b: u8) -> Scan
+    ensures { λ r. ⌜ r ≡ digitTo s b ⌝ }
+{
+    if both(s.value <= 99999999, both(48 <= b, b <= 57)) {
+        return Scan {
+            count: s.count,
+            value: s.value * 10 + (b - 48) as u32,
+            some: true,
+            bad: s.bad,
+        };
     }
-    if 9 < d {
-        return spoilt(s);
-    }
-    Scan {
-        count: s.count,
-        value: s.value * 10 + d as u32,
-        some: true,
-        bad: s.bad,
-    }
+    spoilt(s)
 }
 
 // The number that a blank or the line's end has ended, put into its place.
-pub fn with_number(nums: &mut [u32], s: Scan) -> Scan {
+pub fn with_number(nums: &mut [u32], s: Scan) -> Scan
+    ensures { λ r. ⌜ (r ≡ endedTo s (length (now (nums .entry)))) × (now (nums .exit) ≡ numbersTo s (now (nums .entry))) ⌝ }
+{
     if !s.some {
         return s;
     }
@@ -71,12 +77,11 @@ pub fn with_number(nums: &mut [u32], s: Scan) -> Scan {
     }
 }
 
-pub fn with_byte(nums: &mut [u32], s: Scan, b: u8) -> Scan {
+pub fn with_byte(nums: &mut [u32], s: Scan, b: u8) -> Scan
+    ensures { λ r. ⌜ (r ≡ takenTo s (length (now (nums .entry))) b) × (now (nums .exit) ≡ numbersWith s (now (nums .entry)) b) ⌝ }
+{
     if b == 32 {
         return with_number(nums, s);
     }
-    if b < 48 {
-        return spoilt(s);
-    }
-    with_digit(s, b - 48)
+    with_digit(s, b)
 }

@@ -2,12 +2,11 @@
 use crate::hand;
 use crate::hand::Hand;
 use crate::line::Scan;
+use laws::both;
 use pots::Pots;
-ghost use mathlib.Core.Bool.{true};
-ghost use mathlib.Core.Path.{_≡_};
-ghost use Prim.Native.Nat.{ℕ, _≤_, _<_};
-ghost use lib.ListN.{length, getD};
-ghost use Rattle.laws.specs.Lists.{sumOf};
+ghost use Prim.Native.Nat.{_≤_};
+ghost use lib.ListN.{length};
+ghost use Rattle.try_pots.specs.MadeHands.{Fair, Tells};
 
 fn put_byte(out: &mut [u8], at: usize, b: u8) -> usize
     requires { ⌜ at ≤ length (now out) ⌝ }
@@ -84,14 +83,15 @@ struct Told {
     unclaimed: u32,
 }
 
+// By the functions that the clerk runs.
 fn tell(h: Hand) -> Told
-    requires { ⌜ (h .seats ≤ 10) × (sumOf (h .totals) ≤ 100000000) × (h .rule .rate ≤ 100) × (0 < h .rule .step) × (h .puck ≤ 10) × ((i : ℕ) → getD (h .scores) i 0 ≤ 100000000) ⌝ }
-    ensures { λ r. ⌜ r .pots .n ≤ 9 ⌝ }
+    requires { ⌜ Fair h ⌝ }
+    ensures { λ r. ⌜ Tells h r ⌝ }
 {
     let totals = h.totals;
     let scores = h.scores;
-    let p = pots::pots_of(totals, h.live);
-    let back = pots::back(totals, h.live);
+    let put = pots::stand(totals, h.live);
+    let p = put.pots;
     let rule = h.rule;
     let s = pots::hand::settle_hand(totals, h.live, scores, rule, h.puck);
     let due = s.due;
@@ -99,7 +99,7 @@ fn tell(h: Hand) -> Told
     let paid = o.paid;
     Told {
         pots: p,
-        back,
+        back: put.back,
         fee: s.fee,
         drop: s.drop,
         due,
@@ -160,10 +160,7 @@ pub fn answer(nums: &[u32], s: Scan, out: &mut [u8], at: usize) -> usize
     ensures { λ r. ⌜ r ≤ length (now (out .entry)) ⌝ }
 {
     let h = hand::hand_of(nums, s.count);
-    if s.bad {
-        return put(out, at, b"2\n");
-    }
-    if hand::fair(h) {
+    if both(!s.bad, hand::fair(h)) {
         let k = put_told(out, at, tell(h), h.seats);
         return put_byte(out, k, 10);
     }

@@ -7,6 +7,7 @@ mod lines;
 use crate::line::Scan;
 use libc::STDIN_FILENO;
 use libc::STDOUT_FILENO;
+use output::flush;
 ghost use Prim.Native.Nat.{_≤_};
 ghost use lib.ListN.{length};
 
@@ -14,18 +15,6 @@ ghost use lib.ListN.{length};
 const LINE: usize = 600;
 
 const ENOUGH: usize = 64000;
-
-// What is written so far and not yet written out: nothing, once that is near its room's end.
-fn flush(out: &[u8]) -> usize
-    ensures { λ r. ⌜ r ≤ length (now (out .entry)) ⌝ }
-{
-    let at = out.len();
-    if at <= ENOUGH {
-        return at;
-    }
-    io::write_all(STDOUT_FILENO, out);
-    0
-}
 
 struct ServedTo {
     scan: Scan,
@@ -44,10 +33,10 @@ fn serve_byte(nums: &mut [u32], s: Scan, b: u8, out: &mut [u8], at: usize) -> Se
         };
     }
     let end = line::with_number(nums, s);
-    let k = flush(&out[0..at]);
+    let w = flush(STDOUT_FILENO, &out[0..at], ENOUGH);
     ServedTo {
         scan: line::fresh(),
-        at: lines::answer(nums, end, out, k),
+        at: lines::answer(nums, end, out, w.at),
     }
 }
 

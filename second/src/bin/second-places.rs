@@ -1,5 +1,5 @@
 //! Lines of five card numbers in, `place=N` out: the place of the hand among
-//! the classes of equal hands, the lowest 1; `code=2` or `code=8` for a line
+//! the classes of equal hands, the lowest 1; `2` or `8` for a line
 //! the paper refuses. All 2,598,960 fives are sorted and the classes numbered:
 //! no closed form. `--all` writes every five as a line in place of reading.
 
@@ -50,7 +50,7 @@ fn answer(classes: &[Strength], line: &str) -> String {
     let cards: Vec<u64> = line.split_ascii_whitespace().map(card).collect();
     match place(classes, &cards) {
         Ok(place) => format!("place={place}"),
-        Err(code) => format!("code={code}"),
+        Err(code) => format!("{code}"),
     }
 }
 

@@ -4,39 +4,28 @@ use Rattle.hands.proofs.Written.{next}
 use borrow.Author.Needs.{needs}
 use Rattle.hands.proofs.put_key.Statement.{statement}
 use Rattle.hands.proofs.put_key.Tie as tie
-use Rattle.hands.proofs.put_key.Reads as reads
-use Rattle.hands.proofs.put_key.Lts as lts
-use Rattle.hands.proofs.put.Reads as put-reads
 
--- src/main.rt:166:9
 put-requires : tie.Need-put-requires
 put-requires c κs = search needs
 
--- src/main.rt:167:9
 put-requires-2 : tie.Need-put-requires-2
 put-requires-2 c κs = search needs
 
--- src/main.rt:168:9
 put-requires-3 : tie.Need-put-requires-3
 put-requires-3 c κs = search needs
 
--- src/main.rt:169:9
 put-requires-4 : tie.Need-put-requires-4
 put-requires-4 c κs = search needs
 
--- src/main.rt:170:9
 put-requires-5 : tie.Need-put-requires-5
 put-requires-5 c κs = search needs
 
--- src/main.rt:171:5
 put-requires-6 : tie.Need-put-requires-6
 put-requires-6 c κs = search needs
 
--- src/main.rt:161:1
 same-length : tie.Need-same-length
 same-length c = search needs
 
--- src/main.rt:161:1
 returns : tie.Need-returns
 returns c = (next (next (next (next (next (c .before .before .before .before .before .before .before .before .before .before .before .before .before .before .before .before .before .before .before .before .before .before .put .ensures .0) (c .before .before .before .before .before .before .before .before .before .before .before .before .before .before .before .before .before .before .put2 .ensures .0)) (c .before .before .before .before .before .before .before .before .before .before .before .before .before .before .put3 .ensures .0)) (c .before .before .before .before .before .before .before .before .before .before .put4 .ensures .0)) (c .before .before .before .before .before .before .put5 .ensures .0)) (c .before .before .put6 .ensures .0), omega (arith, c .before .before .before .before .before .before .before .before .before .before .before .before .before .before .before .before .before .before .before .before .before .before .put .ensures .1, c .before .before .before .before .before .before .before .before .before .before .before .before .before .before .before .before .before .before .put2 .ensures .1, c .before .before .before .before .before .before .before .before .before .before .before .before .before .before .put3 .ensures .1, c .before .before .before .before .before .before .before .before .before .before .put4 .ensures .1, c .before .before .before .before .before .before .put5 .ensures .1, c .before .before .put6 .ensures .1))
 

@@ -4,32 +4,22 @@ use Rattle.hands.proofs.Ended.{known-place, known-hand}
 use borrow.Author.Needs.{needs}
 use Rattle.hands.proofs.put_known.Statement.{statement}
 use Rattle.hands.proofs.put_known.Tie as tie
-use Rattle.hands.proofs.put_known.Reads as reads
-use Rattle.hands.proofs.put_known.Lts as lts
-use Rattle.hands.proofs.put_hand.Reads as put-hand-reads
-use Rattle.hands.proofs.put_place.Reads as put-place-reads
 
--- src/main.rt:190:9
 put-place-requires : tie.Need-put-place-requires
 put-place-requires c κs = search needs
 
--- src/main.rt:190:9
 same-length : tie.Need-same-length
 same-length c = search needs
 
--- src/main.rt:190:9
 returns : tie.Need-returns
 returns c = (known-place _ _ (c .before .before .before .before .if1 .taken) (c .before .before .put-place .ensures .0), omega (arith, c .before .before .put-place .ensures .1))
 
--- src/main.rt:192:5
 put-hand-requires : tie.Need-put-hand-requires
 put-hand-requires c κs = search needs
 
--- src/main.rt:184:1
 same-length-2 : tie.Need-same-length-2
 same-length-2 c = search needs
 
--- src/main.rt:184:1
 returns-2 : tie.Need-returns-2
 returns-2 c = (known-hand _ _ (c .before .before .before .before .if1 .left) (c .before .before .put-hand .ensures .0), c .before .before .put-hand .ensures .1)
 

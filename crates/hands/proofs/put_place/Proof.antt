@@ -8,29 +8,19 @@ use Rattle.hands.proofs.Ended.{place-small}
 use borrow.Author.Needs.{needs}
 use Rattle.hands.proofs.put_place.Statement.{statement}
 use Rattle.hands.proofs.put_place.Tie as tie
-use Rattle.hands.proofs.put_place.Reads as reads
-use Rattle.hands.proofs.put_place.Lts as lts
-use Rattle.hands.proofs.put_four.Reads as put-four-reads
-use Rattle.hands.proofs.put_key.Reads as put-key-reads
-use Rattle.ladder.proofs.place.Reads as place-reads
 
--- src/main.rt:179:9
 put-key-requires : tie.Need-put-key-requires
 put-key-requires c κs = search needs
 
--- src/main.rt:180:25
 place-requires : tie.Need-place-requires
 place-requires c κs = search needs
 
--- src/main.rt:180:5
 put-four-requires : tie.Need-put-four-requires
 put-four-requires c κs = (omega (arith, c .before .before .before .before .put-key .ensures .1), subst (λ (n : ℕ). n < 10000) (sym (c .place .ensures)) (place-small (c .before .before .before .before .before .before .before .args .h)))
 
--- src/main.rt:174:1
 same-length : tie.Need-same-length
 same-length c = search needs
 
--- src/main.rt:174:1
 returns : tie.Need-returns
 unfolding placeBytes
 returns c = (

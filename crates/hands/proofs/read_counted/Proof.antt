@@ -4,47 +4,34 @@ use Rattle.hands.proofs.Ended.{counted-as, not-seven}
 use borrow.Author.Needs.{needs}
 use Rattle.hands.proofs.read_counted.Statement.{statement}
 use Rattle.hands.proofs.read_counted.Tie as tie
-use Rattle.hands.proofs.read_counted.Reads as reads
-use Rattle.hands.proofs.read_counted.Lts as lts
-use Rattle.counts.proofs.counted.Reads as counted-reads
 
--- src/main.rt:213:9
 returns : tie.Need-returns
 returns c = not-seven (now (c .before .before .args .cards)) (c .if1 .taken)
 
--- src/main.rt:216:9
 shared-slice-read-t5 : tie.Need-shared-slice-read-t5
 shared-slice-read-t5 c = search needs
 
--- src/main.rt:216:19
 shared-slice-read-t7 : tie.Need-shared-slice-read-t7
 shared-slice-read-t7 c = search needs
 
--- src/main.rt:216:29
 shared-slice-read-t9 : tie.Need-shared-slice-read-t9
 shared-slice-read-t9 c = search needs
 
--- src/main.rt:216:39
 shared-slice-read-t11 : tie.Need-shared-slice-read-t11
 shared-slice-read-t11 c = search needs
 
--- src/main.rt:216:49
 shared-slice-read-t13 : tie.Need-shared-slice-read-t13
 shared-slice-read-t13 c = search needs
 
--- src/main.rt:216:59
 shared-slice-read-t15 : tie.Need-shared-slice-read-t15
 shared-slice-read-t15 c = search needs
 
--- src/main.rt:216:69
 shared-slice-read-t17 : tie.Need-shared-slice-read-t17
 shared-slice-read-t17 c = search needs
 
--- src/main.rt:215:5
 counted-requires : tie.Need-counted-requires
 counted-requires c κs = search needs
 
--- src/main.rt:209:1
 returns-2 : tie.Need-returns-2
 returns-2 c = counted-as (now (c .before .before .before .before .before .before .before .before .before .before .args .cards)) _ (c .before .before .before .before .before .before .before .before .if1 .left) (c .counted .ensures)
 

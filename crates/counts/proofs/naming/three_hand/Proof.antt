@@ -5,7 +5,7 @@ use Prim.Native.Nat.{ℕ}
 use lib.ListN.{getD}
 use Rattle.counts.specs.HandOrder.{leaving}
 use Rattle.counts.specs.Kept.{ranksIn}
-use Rattle.counts.proofs.Passing.{Drops}
+use Rattle.laws.proofs.Choosing.{Drops}
 use Rattle.counts.proofs.Masked.{ranks-drop}
 use Rattle.counts.proofs.Firsts.{second-is}
 use borrow.Author.Needs.{needs}

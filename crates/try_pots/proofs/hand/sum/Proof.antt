@@ -1,6 +1,6 @@
 -- `sum` meets its contract. The invariant: s is the sum of the numbers from place i on, each of 32 bits.
 -- Assumes nothing.
-use Prim.Native.Nat.{_+_, _*_, _≤_, _-_}
+use Prim.Native.Nat.{_+_, _*_, _≤_}
 use mathlib.Core.Path.{_≡_, sym, _∙_}
 use native.Mathlib.Omega.{arith}
 use borrow.Author.Needs.{needs}
