@@ -213,6 +213,9 @@ kind-read log part d {r} k p h s m =
 drop-count : (i : ℕ) (l : List ℕ) → i ≤ length l → length (drop i l) + i ≡ length l
 drop-count i l h = omega (arith, length-drop i l)
 
+pub none-used : 0 < 0 → ⊥
+none-used o = omega arith
+
 -- what is lent of the log behind four lines has room for the fifth
 abbrev later : ℕ → List ℕ → List ℕ
 later i l = take (length l - i) (drop i l)

@@ -109,15 +109,11 @@ fn b_line(log: &[u8]) -> Line
     UNREAD
 }
 
-fn none() -> Front
-    ensures { λ r. ⌜ r .used ≡ 0 ⌝ }
-{
-    Front {
-        block: Block::Nothing,
-        used: 0,
-        whole: false,
-    }
-}
+const NONE: Front = Front {
+    block: Block::Nothing,
+    used: 0,
+    whole: false,
+};
 
 // Five well-formed lines have at most 63 bytes: `n`, `a` and `b` 12 each, `do` 12 and `seat` 15.
 const FULL: usize = 64;
@@ -127,35 +123,35 @@ fn at_one_go(log: &[u8]) -> Front
     ensures { λ r. ⌜ (0 < r .used → r ≡ frontOf (now (log .entry))) ⌝ }
 {
     if log.len() < FULL {
-        return none();
+        return NONE;
     }
     let n = n_line(log);
     let i = n.next;
     if i == 0 {
-        return none();
+        return NONE;
     }
     let second = &log[i..];
     let kind = do_line(second);
     let j = kind.next;
     if j == 0 {
-        return none();
+        return NONE;
     }
     let third = &second[j..];
     let seat = seat_line(third);
     let k = seat.next;
     if k == 0 {
-        return none();
+        return NONE;
     }
     let fourth = &third[k..];
     let a = a_line(fourth);
     let l = a.next;
     if l == 0 {
-        return none();
+        return NONE;
     }
     let b = b_line(&fourth[l..]);
     let m = b.next;
     if m == 0 {
-        return none();
+        return NONE;
     }
     Front {
         block: Block::Raw {

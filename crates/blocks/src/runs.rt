@@ -91,11 +91,12 @@ pub fn number_behind(log: &[u8], from: usize) -> Run
     requires { ⌜ from + 10 ≤ length (now log) ⌝ }
     ensures { λ r. ⌜ (r .count ≤ 9) × (0 < r .count → (numberOf (take (r .count) (drop from (now (log .entry)))) ≡ Value (r .value)) × (getD (drop from (now (log .entry))) (r .count) 0 ≡ 10)) ⌝ }
 {
+    let d = digit(log[from]);
     if log[from + 1] == 10 {
-        return one_digit(digit(log[from]));
+        return one_digit(d);
     }
     if log[from + 2] == 10 {
-        return two_digits(digit(log[from]), digit(log[from + 1]));
+        return two_digits(d, digit(log[from + 1]));
     }
     number_ended(&log[from..])
 }

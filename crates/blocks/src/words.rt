@@ -63,25 +63,26 @@ fn known_word(part: &[u8]) -> Run
     requires { ⌜ 9 ≤ length (now part) ⌝ }
     ensures { λ r. ⌜ (r .value < 12 → (r .count ≤ 8) × (take (r .count) (now (part .entry)) ≡ getD kindNames (r .value) []) × (getD (now (part .entry)) (r .count) 0 ≡ 10)) ⌝ }
 {
+    let w = four(part);
     if part[4] == 10 {
         return Run {
             count: 4,
-            value: kind_of_four(four(part)),
+            value: kind_of_four(w),
         };
     }
     if part[5] == 10 {
         return Run {
             count: 5,
-            value: kind_of_five(four(part), part[4]),
+            value: kind_of_five(w, part[4]),
         };
     }
     if part[6] == 10 {
         return Run {
             count: 6,
-            value: kind_of_six(four(part), part[4], part[5]),
+            value: kind_of_six(w, part[4], part[5]),
         };
     }
-    if four(part) == 0x0a746973 {
+    if w == 0x0a746973 {
         return Run { count: 3, value: 0 };
     }
     Run {

@@ -19,7 +19,7 @@ all-within-requires : tie.Need-all-within-requires
 all-within-requires c κs = search needs
 
 kind-place-requires : tie.Need-kind-place-requires
-kind-place-requires c κs = (omega arith, cc)
+kind-place-requires c κs = (omega arith, sym (c .before .all-within .ensures) ∙ c .if3 .taken)
 
 cast-t6 : tie.Need-cast-t6
 cast-t6 c =
@@ -29,10 +29,10 @@ cast-t6 c =
 returns-3 : tie.Need-returns-3
 returns-3 c =
     let s = c .before .before .before .before .before .before in
-    ap (λ (k : ℕ). Value k) (c .kind-place .ensures) ∙ sym (kind-letters (s .args .w .now) (omega arith) (omega arith) (cc))
+    ap (λ (k : ℕ). Value k) (c .kind-place .ensures) ∙ sym (kind-letters (s .args .w .now) (omega arith) (omega arith) (sym (c .before .before .all-within .ensures) ∙ c .before .if3 .taken))
 
 returns-4 : tie.Need-returns-4
-returns-4 c = sym (kind-other (c .before .before .before .before .before .args .w .now) (omega arith) (omega arith) (cc))
+returns-4 c = sym (kind-other ((c .before .before .before .before .before) .args .w .now) (omega arith) (omega arith) (sym (c .before .all-within .ensures) ∙ c .if3 .left))
 
 pub kind-of-spec : {M : Type 1} → statement M
 kind-of-spec =

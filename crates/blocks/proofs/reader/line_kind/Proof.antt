@@ -1,4 +1,8 @@
 -- `line_kind` meets its contract.
+use Rattle.blocks.specs.Block.{kindOf}
+use Prim.Native.Nat.{ℕ}
+use mathlib.Core.List.{List}
+use mathlib.Core.Path.{ap, _∙_}
 use borrow.Author.Needs.{needs}
 use Rattle.blocks.proofs.reader.line_kind.Statement.{statement}
 use Rattle.blocks.proofs.reader.line_kind.Tie as tie
@@ -13,7 +17,7 @@ kind-of-requires : tie.Need-kind-of-requires
 kind-of-requires c κs = search needs
 
 returns : tie.Need-returns
-returns c = cc
+returns c = c .kind-of .ensures ∙ ap (λ (x : List ℕ). kindOf x) (c .before .value-of .ensures)
 
 pub line-kind-spec : {M : Type 1} → statement M
 line-kind-spec =
