@@ -4,6 +4,8 @@ ghost use mathlib.Core.Path.{_≡_};
 ghost use mathlib.Core.List.{[], _∷_};
 ghost use Prim.Native.Nat.{_+_, _/_, _%_, _≤_, _<_, _^_};
 ghost use lib.ListN.{length};
+ghost use lib.Dec.{ltb};
+ghost use Rattle.laws.specs.Tests.{pick};
 ghost use Rattle.text.specs.Number.{digits};
 ghost use Rattle.writing.specs.AnswerSheet.{Wrote};
 ghost use Rattle.writing.specs.Nine.{nineDigits};
@@ -80,6 +82,21 @@ pub(crate) fn put_one(sheet: &mut [u8], n: u32) -> usize
 {
     sheet[0] = (48 + n) as u8;
     1
+}
+
+// How many digits a number below 100 has, and the first of them: each one choice of two numbers, which the compiler makes with no branch.
+pub(crate) fn few_count(n: u32) -> usize
+    requires { ⌜ n < 100 ⌝ }
+    ensures { λ r. ⌜ (r ≡ pick (ltb n 10) 1 2) × (r ≤ 2) ⌝ }
+{
+    if n < 10 { 1 } else { 2 }
+}
+
+pub(crate) fn few_first(n: u32) -> u32
+    requires { ⌜ n < 100 ⌝ }
+    ensures { λ r. ⌜ (r ≡ pick (ltb n 10) n (n / 10)) × (r < 10) ⌝ }
+{
+    if n < 10 { n } else { n / 10 }
 }
 
 // How many decimal digits n has; 9 where it has more.

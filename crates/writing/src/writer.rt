@@ -1,6 +1,8 @@
 // Lines written at the front of a lent sheet: each writer is lent the part that starts where the last one ended.
 use crate::Written;
 use crate::decimal::digit_count;
+use crate::decimal::few_count;
+use crate::decimal::few_first;
 use crate::decimal::put_digits;
 use crate::decimal::put_nine;
 use crate::decimal::put_one;
@@ -75,6 +77,41 @@ fn end_pair(sheet: &mut [u8], n: u32) -> usize
 {
     let c = put_pair(sheet, n);
     c + put_byte(&mut sheet[c..], 10)
+}
+
+// The line `key=n`, as `write_number_line` writes it, for a number that has one digit about as often as two, as a pot's chips: these are written with no
+// branch, which would often be foretold wrongly.
+pub fn write_amount_line(sheet: &mut [u8], key: &[u8], n: u32) -> usize
+    requires { ⌜ (n < 10 ^ 9) × (length (numberLine (now key) n) ≤ length (now sheet)) ⌝ }
+    ensures { λ r. ⌜ Wrote (numberLine (now (key .entry)) n) (now (sheet .entry)) (now (sheet .exit)) r ⌝ }
+{
+    let a = put_bytes(sheet, key);
+    let b = a + put_byte(&mut sheet[a..], 61);
+    b + end_amount(&mut sheet[b..], n)
+}
+
+fn end_amount(sheet: &mut [u8], n: u32) -> usize
+    requires { ⌜ (n < 10 ^ 9) × (length (digits n) < length (now sheet)) ⌝ }
+    ensures { λ r. ⌜ Wrote (digits n ++ (10 ∷ [])) (now (sheet .entry)) (now (sheet .exit)) r ⌝ }
+{
+    if n < 100 {
+        return end_few(sheet, n);
+    }
+    let c = put_digits(sheet, n);
+    c + put_byte(&mut sheet[c..], 10)
+}
+
+// One digit or two and the LF, which takes the second one's place where there is one digit.
+fn end_few(sheet: &mut [u8], n: u32) -> usize
+    requires { ⌜ (n < 100) × (length (digits n) < length (now sheet)) ⌝ }
+    ensures { λ r. ⌜ Wrote (digits n ++ (10 ∷ [])) (now (sheet .entry)) (now (sheet .exit)) r ⌝ }
+{
+    let k = few_count(n);
+    let first = few_first(n);
+    sheet[0] = (48 + first) as u8;
+    sheet[1] = (48 + n % 10) as u8;
+    sheet[k] = 10;
+    k + 1
 }
 
 // The line `key=n` with n in nine digits, zeros in front, and its LF at the front of the sheet.
