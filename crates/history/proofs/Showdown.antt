@@ -19,7 +19,7 @@ use Rattle.paper.proofs.Sheets.{game-is, good-ranged}
 use Rattle.cards.specs.Order.{rankingOf, beatsBy, bestAmong}
 use Rattle.cards.specs.Omaha.{allowed}
 use Rattle.cards.specs.declared.Hand.{Hand}
-use Rattle.ladder.proofs.Showdown.{Dealt, kept-compare}
+use Rattle.places.proofs.Showdown.{Dealt, kept-compare}
 use Rattle.chairs.specs.Chairs.{chairAt, holeOf, isFull}
 use Rattle.chairs.specs.declared.Chair.{Chair}
 use Rattle.table.specs.State.{seatOf}

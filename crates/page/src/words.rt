@@ -3,7 +3,6 @@ use crate::pen::Pen;
 use crate::pen::put;
 use crate::pen::put_number;
 use crate::pen::put_one_of;
-use crate::pen::say;
 
 // Up to the style's end. The evening and the sittings come last in the bytes, and first on the page by `order`.
 pub fn put_head(out: &mut [u8], p: Pen) -> Pen {
@@ -136,9 +135,4 @@ pub fn put_hand(out: &mut [u8], p: Pen, class: u8, ranks: [u8; 5]) -> Pen {
     let a = put_class(out, p, class);
     let b = put(out, a, b":");
     put_ranks(out, b, ranks)
-}
-
-// A number in a cell of a table.
-pub fn put_cell(out: &mut [u8], p: Pen, n: u64) -> Pen {
-    say(out, p, b"<td>", n, b"</td>")
 }

@@ -1,19 +1,19 @@
 // A log in every cut into two and into three parts, empty ones too, at every room for an answer from 0 to the log's longest answer: what the library's start,
 // feed and close answer, and the clerk before the close, are held to those of the whole log fed at once with the same room.
 // Reads a log on standard input, and says how many cuts and rooms were tried, how many of them together came out alike, and the first place that did not.
-mod same;
 mod served;
 
 use laws::both;
 use libc::STDIN_FILENO;
 use libc::STDOUT_FILENO;
-use same::same_clerk;
+use packed::FIELDS;
+use packed::pack;
 use served::Ended;
-use served::Heard;
 use served::end;
 use served::kept;
 use served::longest;
 use served::serve;
+use stream::Clerk;
 use text::sheet::ROOM;
 ghost use mathlib.Core.Path.{_≡_};
 ghost use mathlib.Core.Bool.{true};
@@ -22,10 +22,11 @@ ghost use lib.ListN.{length};
 ghost use Rattle.lines.specs.Kept.{keptMost};
 ghost use Rattle.stream.specs.Feeding.{Held};
 
-// The whole log with one room: the clerk before the close, and the trace with it.
+// The whole log with one room, beside its clerk's bytes: how many bytes the clerk keeps before the close, and the trace with it.
 struct Whole {
-    heard: Heard,
-    ended: Ended,
+    kept: usize,
+    at: usize,
+    ok: bool,
 }
 
 // Where a log is cut, with how much room.
@@ -70,29 +71,54 @@ fn counted(t: Tally, alike: bool, p: Place) -> Tally {
     u
 }
 
-// Whether a cut log came out as the whole: the clerk, what it keeps, and the answers with each 12 in its place.
-fn alike(h: Heard, buf: &[u8], e: Ended, trace: &[u8], w: Whole, wbuf: &[u8], wtrace: &[u8]) -> bool
-    requires { ⌜ Held (h .clerk) × Held (w .heard .clerk) × (keptMost ≤ length (now buf)) × (keptMost ≤ length (now wbuf)) × (e .at ≤ length (now trace)) × (w .ended .at ≤ length (now wtrace)) ⌝ }
+// A clerk in bytes: every field of it, and nothing else (packed/specs/Layout).
+fn state_of(c: Clerk) -> [u8; FIELDS]
+    requires { ⌜ Held c ⌝ }
 {
-    let c = h.clerk;
-    let d = w.heard.clerk;
+    let mut bytes = [0u8; FIELDS];
+    pack(&mut bytes, c);
+    bytes
+}
+
+// Whether the clerk of a cut log, and what it keeps, are those of the whole.
+fn same_state(c: Clerk, buf: &[u8], whole: usize, wstate: &[u8], wbuf: &[u8]) -> bool
+    requires { ⌜ Held c × (keptMost ≤ length (now buf)) × (whole ≤ length (now wbuf)) ⌝ }
+{
     let k = kept(c);
-    let l = kept(d);
+    let state = state_of(c);
+    both(
+        check::same(&state, wstate),
+        check::same(&buf[0..k], &wbuf[0..whole]),
+    )
+}
+
+// Whether the answers are those of the whole, with each 12 in its place.
+fn same_trace(e: Ended, trace: &[u8], w: Whole, wtrace: &[u8]) -> bool
+    requires { ⌜ (e .at ≤ length (now trace)) × (w .at ≤ length (now wtrace)) ⌝ }
+{
     let n = e.at;
-    let m = w.ended.at;
-    let state = both(same_clerk(c, d), check::same(&buf[0..k], &wbuf[0..l]));
-    let said = check::same(&trace[0..n], &wtrace[0..m]);
-    both(both(e.ok, w.ended.ok), both(state, said))
+    let m = w.at;
+    both(both(e.ok, w.ok), check::same(&trace[0..n], &wtrace[0..m]))
 }
 
 // One cut, held to the whole.
-fn try_cut(log: &[u8], p: Place, w: Whole, wbuf: &[u8], wtrace: &[u8], trace: &mut [u8]) -> bool
-    requires { ⌜ (p .first ≤ p .second) × (p .second ≤ length (now log)) × Held (w .heard .clerk) × (keptMost ≤ length (now wbuf)) × (w .ended .at ≤ length (now wtrace)) ⌝ }
+fn try_cut(
+    log: &[u8],
+    p: Place,
+    w: Whole,
+    wstate: &[u8],
+    wbuf: &[u8],
+    wtrace: &[u8],
+    trace: &mut [u8],
+) -> bool
+    requires { ⌜ (p .first ≤ p .second) × (p .second ≤ length (now log)) × (w .kept ≤ length (now wbuf)) × (w .at ≤ length (now wtrace)) ⌝ }
 {
     let mut buf = [0u8; ROOM];
     let h = serve(log, p.first, p.second, p.room, &mut buf, trace);
     let e = end(h, &buf, p.room, trace);
-    alike(h, &buf, e, trace, w, wbuf, wtrace)
+    let c = h.clerk;
+    let state = same_state(c, &buf, w.kept, wstate, wbuf);
+    both(state, same_trace(e, trace, w, wtrace))
 }
 
 // Every second place behind the first.
@@ -101,12 +127,13 @@ fn try_seconds(
     room: usize,
     first: usize,
     w: Whole,
+    wstate: &[u8],
     wbuf: &[u8],
     wtrace: &[u8],
     trace: &mut [u8],
     t: Tally,
 ) -> Tally
-    requires { ⌜ (first ≤ length (now log)) × Held (w .heard .clerk) × (keptMost ≤ length (now wbuf)) × (w .ended .at ≤ length (now wtrace)) ⌝ }
+    requires { ⌜ (first ≤ length (now log)) × (w .kept ≤ length (now wbuf)) × (w .at ≤ length (now wtrace)) ⌝ }
 {
     let mut tally = t;
     let mut second = first;
@@ -116,7 +143,7 @@ fn try_seconds(
             first,
             second,
         };
-        let good = try_cut(log, p, w, wbuf, wtrace, trace);
+        let good = try_cut(log, p, w, wstate, wbuf, wtrace, trace);
         let u = counted(tally, good, p);
         tally = u;
         second += 1;
@@ -129,17 +156,18 @@ fn try_firsts(
     log: &[u8],
     room: usize,
     w: Whole,
+    wstate: &[u8],
     wbuf: &[u8],
     wtrace: &[u8],
     trace: &mut [u8],
     t: Tally,
 ) -> Tally
-    requires { ⌜ Held (w .heard .clerk) × (keptMost ≤ length (now wbuf)) × (w .ended .at ≤ length (now wtrace)) ⌝ }
+    requires { ⌜ (w .kept ≤ length (now wbuf)) × (w .at ≤ length (now wtrace)) ⌝ }
 {
     let mut tally = t;
     let mut first: usize = 0;
     while first <= log.len() {
-        let u = try_seconds(log, room, first, w, wbuf, wtrace, trace, tally);
+        let u = try_seconds(log, room, first, w, wstate, wbuf, wtrace, trace, tally);
         tally = u;
         first += 1;
     }
@@ -156,11 +184,17 @@ fn try_room(log: &[u8], room: usize, extra: usize, trace: &mut [u8], t: Tally) -
     let wide = room + extra;
     let h = serve(log, n, n, wide, &mut wbuf, &mut wtrace);
     let e = end(h, &wbuf, wide, &mut wtrace);
-    let w = Whole { heard: h, ended: e };
+    let c = h.clerk;
+    let state = state_of(c);
+    let w = Whole {
+        kept: kept(c),
+        at: e.at,
+        ok: e.ok,
+    };
     let mut u = t;
     u.cuts = 0;
     u.rooms = more(t.rooms, 1);
-    try_firsts(log, room, w, &wbuf, &wtrace, trace, u)
+    try_firsts(log, room, w, &state, &wbuf, &wtrace, trace, u)
 }
 
 // Every room up to the longest answer.

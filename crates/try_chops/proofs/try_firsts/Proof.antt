@@ -9,19 +9,19 @@ use Rattle.try_chops.proofs.try_firsts.Statement.{statement}
 use Rattle.try_chops.proofs.try_firsts.Tie as tie
 
 abbrev Inv-loop : tie.InvT-loop
-Inv-loop log room w wbuf wtrace trace₀ tally₀ first₀ trace tally first = length trace ≡ length trace₀
+Inv-loop log room w wstate wbuf wtrace trace₀ tally₀ first₀ trace tally first = length trace ≡ length trace₀
 
 abbrev μ-loop : tie.MeasureT-loop
-μ-loop log room w wbuf wtrace trace₀ tally₀ first₀ trace tally first = length log + 1 - first
+μ-loop log room w wstate wbuf wtrace trace₀ tally₀ first₀ trace tally first = length log + 1 - first
 
 loop-holds : tie.Need-loop-holds Inv-loop μ-loop
 loop-holds c = refl
 
 try-seconds-requires : tie.Need-try-seconds-requires Inv-loop μ-loop
-try-seconds-requires c κs = let s = (c .before .before .before .before .before .before .before) in (c .before .loop-test .taken, s .pre .0, s .pre .1, s .pre .2)
+try-seconds-requires c κs = let s = (c .before .before .before .before .before .before .before .before) in (c .before .loop-test .taken, s .pre .0, s .pre .1)
 
 add-first : tie.Need-add-first Inv-loop μ-loop
-add-first c = omega (arith, (c .before .before .before .before .before .before .before .before .before .before) .good, c .before .before .before .before .loop-test .taken)
+add-first c = omega (arith, (c .before .before .before .before .before .before .before .before .before .before .before) .good, c .before .before .before .before .loop-test .taken)
 
 loop-less : tie.Need-loop-less Inv-loop μ-loop
 loop-less c = omega (arith, c .before .before .before .before .loop-test .taken)

@@ -9,22 +9,22 @@ use Rattle.try_chops.proofs.try_seconds.Statement.{statement}
 use Rattle.try_chops.proofs.try_seconds.Tie as tie
 
 abbrev Inv-loop : tie.InvT-loop
-Inv-loop log room first w wbuf wtrace trace₀ tally₀ second₀ trace tally second = (length trace ≡ length trace₀) × (first ≤ second)
+Inv-loop log room first w wstate wbuf wtrace trace₀ tally₀ second₀ trace tally second = (length trace ≡ length trace₀) × (first ≤ second)
 
 abbrev μ-loop : tie.MeasureT-loop
-μ-loop log room first w wbuf wtrace trace₀ tally₀ second₀ trace tally second = length log + 1 - second
+μ-loop log room first w wstate wbuf wtrace trace₀ tally₀ second₀ trace tally second = length log + 1 - second
 
 loop-holds : tie.Need-loop-holds Inv-loop μ-loop
 loop-holds c = (refl, omega arith)
 
 try-cut-requires : tie.Need-try-cut-requires Inv-loop μ-loop
-try-cut-requires c κs = let s = (c .before .before .before .before .before .before .before) in (c .before .before .loop .inv .1, c .before .loop-test .taken, s .pre .1, s .pre .2, s .pre .3)
+try-cut-requires c κs = let s = (c .before .before .before .before .before .before .before .before) in (c .before .before .loop .inv .1, c .before .loop-test .taken, s .pre .1, s .pre .2)
 
 counted-requires : tie.Need-counted-requires Inv-loop μ-loop
 counted-requires c κs = search needs
 
 add-second : tie.Need-add-second Inv-loop μ-loop
-add-second c = omega (arith, (c .before .before .before .before .before .before .before .before .before .before .before) .good, c .before .before .before .before .before .loop-test .taken)
+add-second c = omega (arith, (c .before .before .before .before .before .before .before .before .before .before .before .before) .good, c .before .before .before .before .before .loop-test .taken)
 
 loop-less : tie.Need-loop-less Inv-loop μ-loop
 loop-less c = omega (arith, c .before .before .before .before .before .loop-test .taken)

@@ -15,13 +15,13 @@ use Rattle.cards.specs.Hands.{hand}
 use Rattle.cards.specs.Order.{ranking52, key, above}
 use Rattle.cards.specs.declared.Hand.{Hand}
 use Rattle.cards.proofs.Above.{tie-same}
-use Rattle.ladder.specs.Ladder.{ladder, isOn, beats52, Tie52, worth52, FiveCards, Valid, placeOf}
+use Rattle.ladder.specs.Ladder.{ladder, beats52, Tie52, worth52, FiveCards, Valid, placeOf}
 use Rattle.ladder.specs.Reckoned.{rowPlace, reckonedAs}
 use Rattle.laws.proofs.Standing.{more, fewer, occurs}
 use Rattle.ladder.proofs.Laid.{ladder-length, hands-order, ladder-falls}
-use Rattle.ladder.proofs.Reckons.{is-on, on-place, off-place, reckons}
-use Rattle.ladder.proofs.Dealt.{dealt}
-use Rattle.ladder.proofs.Fives.{valid-stands}
+use Rattle.ladder.proofs.Reckons.{on-place, reckons}
+use Rattle.places.proofs.Dealt.{dealt}
+use Rattle.places.proofs.Fives.{valid-stands}
 
 module _ (h g : Hand) (v : Valid h) (w : Valid g) where
   -- the better hand has the higher place
@@ -67,14 +67,6 @@ pub place-range : (h : Hand) → Valid h → (1 ≤ placeOf h) × (placeOf h ≤
 place-range h v =
     let i = valid-stands h v in
     (omega (arith, on-place h i), omega (arith, on-place h i, ladder-length, fewer beats52 hands-order h ladder i))
-
--- and no `Hand` has a higher one: what is no hand has the place 0
-pub place-most : (h : Hand) → placeOf h ≤ 7462
-place-most h =
-    ⊎-elim
-    (λ (e : isOn h ≡ true). let i = is-on h e in omega (arith, on-place h i, ladder-length, fewer beats52 hands-order h ladder i))
-    (λ (e : isOn h ≡ false). omega (arith, off-place h e))
-    (test (isOn h))
 
 royal : reckonedAs 0 (hand 0 (14 ∷ 13 ∷ 12 ∷ 11 ∷ 10 ∷ [])) ≡ 7462
 unfolding reckonedAs rowPlace inRow

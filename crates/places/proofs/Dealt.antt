@@ -12,14 +12,14 @@ use Rattle.laws.proofs.Tests.{both-true}
 use Rattle.cards.specs.Cards.{rank, sameList, isWheel, lowered, inRow, allAlike, oneSuit}
 use Rattle.cards.specs.Hands.{classOf}
 use Rattle.cards.specs.Falls.{fall}
-use Rattle.ladder.specs.Weigh.{weigh}
+use Rattle.places.specs.Weigh.{weigh}
 use Rattle.cards.specs.Order.{choices}
 use Rattle.cards.specs.Reading.{anyAbove, anyTwice}
 use Rattle.cards.specs.declared.Hand.{Hand}
 use Rattle.ladder.specs.Ladder.{ladder, listed, Valid}
 use Rattle.laws.proofs.Members.{allPass, pass-at, same-list}
-use Rattle.ladder.proofs.Worth.{worthAs, worthBy, worthOf, worth-is}
+use Rattle.places.proofs.Worth.{worthAs, worthBy, worthOf, worth-is}
 use Rattle.ladder.proofs.Reckons.{listed-same}
 
 -- the card of a rank and a suit; the lowest rank of 5-4-3-2-A is the ace's
 abbrev cardOf : ℕ → ℕ → ℕ

@@ -14,11 +14,11 @@ use Rattle.laws.proofs.Tests.{test}
 use Rattle.cards.specs.Cards.{rank, ordered, lowered, inRow, oneSuit}
 use Rattle.cards.specs.Hands.{ranking52, hand, holdings, classOf, ranksOf, classOfCards, valueOf}
 use Rattle.cards.specs.Falls.{fall}
-use Rattle.ladder.specs.Weigh.{weigh, rankIn, timesIn, SmallRanks}
+use Rattle.places.specs.Weigh.{weigh, rankIn, timesIn, SmallRanks}
 use Rattle.cards.specs.Reading.{anyAbove}
 use Rattle.cards.specs.declared.Hand.{Hand}
-use Rattle.ladder.proofs.Weighed.{fall-ordered, ranks-ordered, times-ordered}
+use Rattle.places.proofs.Weighed.{fall-ordered, ranks-ordered, times-ordered}
 use Rattle.ladder.specs.Ladder.{worth52}
 use Rattle.laws.proofs.Members.{at-all, has-some}
 
 -- from the ranks in order, and how often each is held

@@ -20,16 +20,16 @@ use Rattle.cards.specs.Cards.{isWheel, lowered, inRow, allAre, allAlike, oneSui
 use Rattle.cards.specs.Hands.{ranking52, classOf}
 use Rattle.cards.specs.Reading.{anyAbove, isAmong, anyTwice}
 use Rattle.cards.specs.Falls.{fall}
-use Rattle.ladder.specs.Weigh.{weigh}
+use Rattle.places.specs.Weigh.{weigh}
 use Rattle.cards.specs.declared.Hand.{Hand}
 use Rattle.cards.proofs.Mixed.{value-same}
 use Rattle.cards.proofs.Mixing.{Within, within-choice}
 use Rattle.ladder.specs.Ladder.{ladder, worth52, FiveCards, Valid}
 use Rattle.ladder.specs.Reckoned.{chosenOf, less, twoBelow, threeBelow, fiveBelow, rowPlace, besidePlace, fourPlace, fullPlace, rowsBelow, oddPlace, threePlace, twoPairPlace, pairPlace, reckonedAs, reckoned}
 use Rattle.laws.proofs.Members.{count-has, has-some}
 use Rattle.laws.proofs.Choosing.{Drops, choice-drops}
-use Rattle.ladder.proofs.Worth.{worthAs, worthBy, worthOf, worth-is}
+use Rattle.places.proofs.Worth.{worthAs, worthBy, worthOf, worth-is}
 use Rattle.ladder.proofs.Shapes.{on-ladder}
 
 -- ---- every list of numbers that sinks
 -- none is above the one before, and the first is below b

@@ -1,0 +1,3 @@
+-- No section of the paper: what the theorems compute with.
+
+pub mod Weigh
