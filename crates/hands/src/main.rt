@@ -16,7 +16,7 @@ use output::flush;
 ghost use mathlib.Core.Path.{_≡_};
 ghost use mathlib.Core.List.{[], _∷_};
 ghost use Prim.Native.Nat.{_+_, _-_, _≤_, _<_};
-ghost use lib.ListN.{length, set};
+ghost use lib.ListN.{length};
 ghost use Rattle.cards.specs.Reading.{readingOf};
 ghost use Rattle.hands.specs.Lines.{noLine, grownOf, endedTo, cardsTo, takenTo, cardsWith, fiveOf, readBy, answerOf};
 ghost use Rattle.hands.specs.Answers.{Wrote, numberBytes, rankBytes, handBytes, fourBytes, keyBytes, placeBytes, knownBytes, readingBytes};
