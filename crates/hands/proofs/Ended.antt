@@ -22,7 +22,7 @@ use Rattle.ladder.specs.Ladder.{ladder, isOn, beats52, placeOf}
 use Rattle.ladder.proofs.Laid.{ladder-length}
 use Rattle.counts.specs.HandOrder.{countedReading}
 use Rattle.counts.proofs.Agree.{readers-agree}
-use Rattle.hands.specs.Answers.{Wrote, numberBytes, handBytes, placeBytes, knownBytes, readingBytes}
+use Rattle.hands.specs.Answers.{WroteAt, numberBytes, handBytes, placeBytes, knownBytes, readingBytes}
 use Rattle.hands.specs.Lines.{lineOf, endedTo, cardsTo, fiveOf, readBy, answerOf}
 use Rattle.hands.specs.declared.Line.{Line}
 use Rattle.hands.proofs.Written.{next}
@@ -54,32 +54,32 @@ module _ (l : Line) (cs : List ℕ) where
 
 -- ---- the answer
 module _ {at s : ℕ} {o m : List ℕ} (place : Bool) (h : Hand) where
-  pub known-place : place ≡ true → Wrote (placeBytes h) at o m s → Wrote (knownBytes place h) at o m s
+  pub known-place : place ≡ true → WroteAt (placeBytes h) at o m s → WroteAt (knownBytes place h) at o m s
   unfolding knownBytes
-  known-place e w = subst (λ (b : Bool). Wrote (pick b (placeBytes h) (handBytes h)) at o m s) (sym e) w
+  known-place e w = subst (λ (b : Bool). WroteAt (pick b (placeBytes h) (handBytes h)) at o m s) (sym e) w
 
-  pub known-hand : place ≡ false → Wrote (handBytes h) at o m s → Wrote (knownBytes place h) at o m s
+  pub known-hand : place ≡ false → WroteAt (handBytes h) at o m s → WroteAt (knownBytes place h) at o m s
   unfolding knownBytes
-  known-hand e w = subst (λ (b : Bool). Wrote (pick b (placeBytes h) (handBytes h)) at o m s) (sym e) w
+  known-hand e w = subst (λ (b : Bool). WroteAt (pick b (placeBytes h) (handBytes h)) at o m s) (sym e) w
 
 module _ {at s : ℕ} {o m : List ℕ} (place : Bool) where
-  pub known-bytes : (r : Reading) (h : Hand) → r ≡ Known h → Wrote (knownBytes place h) at o m s → Wrote (readingBytes place r) at o m s
+  pub known-bytes : (r : Reading) (h : Hand) → r ≡ Known h → WroteAt (knownBytes place h) at o m s → WroteAt (readingBytes place r) at o m s
   unfolding readingBytes
-  known-bytes r h e w = subst (λ (x : Reading). Wrote (readingBytes place x) at o m s) (sym e) w
+  known-bytes r h e w = subst (λ (x : Reading). WroteAt (readingBytes place x) at o m s) (sym e) w
 
   pub refused-bytes : (r v : Reading) (k : ℕ) → r ≡ v → readingBytes place v ≡ numberBytes (codeOfReading v) → k ≡ codeOfReading r
-      → Wrote (numberBytes k) at o m s → Wrote (readingBytes place r) at o m s
+      → WroteAt (numberBytes k) at o m s → WroteAt (readingBytes place r) at o m s
   refused-bytes r v k e q c w =
-      subst (λ (bs : List ℕ). Wrote bs at o m s) (ap numberBytes (c ∙ ap codeOfReading e) ∙ sym q ∙ ap (readingBytes place) (sym e)) w
+      subst (λ (bs : List ℕ). WroteAt bs at o m s) (ap numberBytes (c ∙ ap codeOfReading e) ∙ sym q ∙ ap (readingBytes place) (sym e)) w
 
 pub answer-is : {at r s : ℕ} {o m p : List ℕ} (five : Bool) (deck : ℕ) (place : Bool) (l e : Line) (cs ds : List ℕ) (a : Reading) → e ≡ endedTo l (length cs)
-    → ds ≡ cardsTo l cs → a ≡ readBy five deck (take (e .have - 0) (drop 0 ds)) → Wrote (readingBytes place a) at o m r → Wrote (10 ∷ []) r m p s
-    → Wrote (answerOf five deck place l cs) at o p s
+    → ds ≡ cardsTo l cs → a ≡ readBy five deck (take (e .have - 0) (drop 0 ds)) → WroteAt (readingBytes place a) at o m r → WroteAt (10 ∷ []) r m p s
+    → WroteAt (answerOf five deck place l cs) at o p s
 unfolding answerOf
 answer-is {at} {r} {s} {o} {m} {p} five deck place l e cs ds a f g q w v =
     let z : e .have - 0 ≡ e .have = omega arith in
     next
-    (subst (λ (x : Reading). Wrote (readingBytes place x) at o m r)
+    (subst (λ (x : Reading). WroteAt (readingBytes place x) at o m r)
     (q ∙ ap (λ (n : ℕ). readBy five deck (take n ds)) z ∙ ap₂ (λ (x : Line) (y : List ℕ). readBy five deck (take (x .have) y)) f g) w)
     v
 

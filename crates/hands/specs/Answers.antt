@@ -18,7 +18,7 @@ written l at [] = l
 written l at (b ∷ bs) = written (set l at b) (at + 1) bs
 
 -- the bytes were written from a place on, and r is the place behind them
-pub record Wrote (bs : List ℕ) (at : ℕ) (old new : List ℕ) (r : ℕ) : Type 0 where
+pub record WroteAt (bs : List ℕ) (at : ℕ) (old new : List ℕ) (r : ℕ) : Type 0 where
   pub end : r ≡ at + length bs
   pub sheet : new ≡ written old at bs
 

@@ -16,10 +16,10 @@ use output::flush;
 ghost use mathlib.Core.Path.{_≡_};
 ghost use mathlib.Core.List.{[], _∷_};
 ghost use Prim.Native.Nat.{_+_, _-_, _≤_, _<_};
-ghost use lib.ListN.{length, set};
+ghost use lib.ListN.{length};
 ghost use Rattle.cards.specs.Reading.{readingOf};
 ghost use Rattle.hands.specs.Lines.{noLine, grownOf, endedTo, cardsTo, takenTo, cardsWith, fiveOf, readBy, answerOf};
-ghost use Rattle.hands.specs.Answers.{Wrote, numberBytes, rankBytes, handBytes, fourBytes, keyBytes, placeBytes, knownBytes, readingBytes};
+ghost use Rattle.hands.specs.Answers.{WroteAt, numberBytes, rankBytes, handBytes, fourBytes, keyBytes, placeBytes, knownBytes, readingBytes};
 
 // Answers are written out where less than an answer's room, 18 bytes, is left behind them.
 const ENOUGH: usize = 65500;
@@ -105,7 +105,7 @@ fn take_byte(l: Line, cards: &mut [u8], b: u8) -> Line
 
 fn put(out: &mut [u8], at: usize, b: u8) -> usize
     requires { ⌜ at < length (now out) ⌝ }
-    ensures wrote { λ r. ⌜ Wrote (b ∷ []) at (now (out .entry)) (now (out .exit)) r ⌝ }
+    ensures wrote { λ r. ⌜ WroteAt (b ∷ []) at (now (out .entry)) (now (out .exit)) r ⌝ }
     ensures room { λ r. ⌜ r ≡ at + 1 ⌝ }
 {
     out[at] = b;
@@ -115,7 +115,7 @@ fn put(out: &mut [u8], at: usize, b: u8) -> usize
 // A number of one digit or two.
 fn put_number(out: &mut [u8], at: usize, n: u8) -> usize
     requires { ⌜ at + 2 ≤ length (now out) ⌝ }
-    ensures wrote { λ r. ⌜ Wrote (numberBytes n) at (now (out .entry)) (now (out .exit)) r ⌝ }
+    ensures wrote { λ r. ⌜ WroteAt (numberBytes n) at (now (out .entry)) (now (out .exit)) r ⌝ }
     ensures room { λ r. ⌜ r ≤ at + 2 ⌝ }
 {
     if n < 10 {
@@ -128,7 +128,7 @@ fn put_number(out: &mut [u8], at: usize, n: u8) -> usize
 // A rank, behind a blank.
 fn put_rank(out: &mut [u8], at: usize, n: u8) -> usize
     requires { ⌜ at + 3 ≤ length (now out) ⌝ }
-    ensures wrote { λ r. ⌜ Wrote (rankBytes n) at (now (out .entry)) (now (out .exit)) r ⌝ }
+    ensures wrote { λ r. ⌜ WroteAt (rankBytes n) at (now (out .entry)) (now (out .exit)) r ⌝ }
     ensures room { λ r. ⌜ r ≤ at + 3 ⌝ }
 {
     let next = put(out, at, 32);
@@ -144,7 +144,7 @@ fn from_lowest(class: u8) -> u8
 
 fn put_hand(h: Hand, out: &mut [u8], at: usize) -> usize
     requires { ⌜ at + 17 ≤ length (now out) ⌝ }
-    ensures wrote { λ r. ⌜ Wrote (handBytes h) at (now (out .entry)) (now (out .exit)) r ⌝ }
+    ensures wrote { λ r. ⌜ WroteAt (handBytes h) at (now (out .entry)) (now (out .exit)) r ⌝ }
     ensures room { λ r. ⌜ r ≤ at + 17 ⌝ }
 {
     let a = put_number(out, at, from_lowest(h.class));
@@ -158,7 +158,7 @@ fn put_hand(h: Hand, out: &mut [u8], at: usize) -> usize
 // A number of at most four digits.
 fn put_four(out: &mut [u8], at: usize, n: u32) -> usize
     requires { ⌜ (at + 4 ≤ length (now out)) × (n < 10000) ⌝ }
-    ensures wrote { λ r. ⌜ Wrote (fourBytes n) at (now (out .entry)) (now (out .exit)) r ⌝ }
+    ensures wrote { λ r. ⌜ WroteAt (fourBytes n) at (now (out .entry)) (now (out .exit)) r ⌝ }
     ensures room { λ r. ⌜ r ≤ at + 4 ⌝ }
 {
     if n < 100 {
@@ -172,7 +172,7 @@ fn put_four(out: &mut [u8], at: usize, n: u32) -> usize
 // `place=`
 fn put_key(out: &mut [u8], at: usize) -> usize
     requires { ⌜ at + 6 ≤ length (now out) ⌝ }
-    ensures wrote { λ r. ⌜ Wrote keyBytes at (now (out .entry)) (now (out .exit)) r ⌝ }
+    ensures wrote { λ r. ⌜ WroteAt keyBytes at (now (out .entry)) (now (out .exit)) r ⌝ }
     ensures room { λ r. ⌜ r ≡ at + 6 ⌝ }
 {
     let a = put(out, at, 112);
@@ -185,7 +185,7 @@ fn put_key(out: &mut [u8], at: usize) -> usize
 
 fn put_place(h: Hand, out: &mut [u8], at: usize) -> usize
     requires { ⌜ at + 10 ≤ length (now out) ⌝ }
-    ensures wrote { λ r. ⌜ Wrote (placeBytes h) at (now (out .entry)) (now (out .exit)) r ⌝ }
+    ensures wrote { λ r. ⌜ WroteAt (placeBytes h) at (now (out .entry)) (now (out .exit)) r ⌝ }
     ensures room { λ r. ⌜ r ≤ at + 10 ⌝ }
 {
     let next = put_key(out, at);
@@ -195,7 +195,7 @@ fn put_place(h: Hand, out: &mut [u8], at: usize) -> usize
 // A hand by its place, or by its class and ranks.
 fn put_known(place: bool, h: Hand, out: &mut [u8], at: usize) -> usize
     requires { ⌜ at + 17 ≤ length (now out) ⌝ }
-    ensures wrote { λ r. ⌜ Wrote (knownBytes place h) at (now (out .entry)) (now (out .exit)) r ⌝ }
+    ensures wrote { λ r. ⌜ WroteAt (knownBytes place h) at (now (out .entry)) (now (out .exit)) r ⌝ }
     ensures room { λ r. ⌜ r ≤ at + 17 ⌝ }
 {
     if place {
@@ -206,7 +206,7 @@ fn put_known(place: bool, h: Hand, out: &mut [u8], at: usize) -> usize
 
 fn put_reading(place: bool, r: Reading, out: &mut [u8], at: usize) -> usize
     requires { ⌜ at + 17 ≤ length (now out) ⌝ }
-    ensures wrote { λ n. ⌜ Wrote (readingBytes place r) at (now (out .entry)) (now (out .exit)) n ⌝ }
+    ensures wrote { λ n. ⌜ WroteAt (readingBytes place r) at (now (out .entry)) (now (out .exit)) n ⌝ }
     ensures room { λ n. ⌜ n ≤ at + 17 ⌝ }
 {
     match r {
@@ -271,7 +271,7 @@ fn read_by(w: Wish, cards: &[u8]) -> Reading
 // The answer to the line, in a line of its own.
 fn answer(w: Wish, l: Line, cards: &mut [u8], out: &mut [u8], at: usize) -> usize
     requires { ⌜ (l .have ≤ length (now cards)) × (at + 18 ≤ length (now out)) ⌝ }
-    ensures wrote { λ r. ⌜ Wrote (answerOf (w .five) (w .deck) (w .place) l (now (cards .entry))) at (now (out .entry)) (now (out .exit)) r ⌝ }
+    ensures wrote { λ r. ⌜ WroteAt (answerOf (w .five) (w .deck) (w .place) l (now (cards .entry))) at (now (out .entry)) (now (out .exit)) r ⌝ }
     ensures room { λ r. ⌜ r ≤ at + 18 ⌝ }
 {
     let ended = end_word(l, cards);

@@ -1,5 +1,6 @@
 // Two tables that share a jackpot pool: their blocks on standard input, the answers on standard output. With the argument --table and 1 or 2 only that table's answers
 // are written, for its screen.
+use argument::is_argument;
 use couple::Pair;
 use couple::last_lines;
 use frames::Frame;
@@ -10,7 +11,7 @@ use pairs::close;
 use pairs::feed_on;
 ghost use mathlib.Core.Path.{_≡_};
 ghost use mathlib.Core.Bool.{false};
-ghost use Prim.Native.Nat.{_+_, _≤_, _<_};
+ghost use Prim.Native.Nat.{_≤_, _<_};
 ghost use lib.ListN.{length};
 ghost use Rattle.lines.specs.Kept.{keptMost};
 ghost use Rattle.frames.specs.Frames.{Held};
@@ -139,19 +140,12 @@ fn read_all(only: u8, buf: &mut [u8]) -> Lap
     }
 }
 
-// Whether the argument at this place is this word.
-fn says(place: usize, word: &[u8]) -> bool {
-    let mut said = [0u8; 16];
-    let n = os::arg(place, &mut said);
-    check::same(&said[..n], word)
-}
-
 // The table whose screen is written, 0 for both tables.
 fn only_table() -> u8
     ensures { λ r. ⌜ r ≤ 2 ⌝ }
 {
-    if says(1, b"--table") {
-        if says(2, b"1") {
+    if is_argument(1, b"--table") {
+        if is_argument(2, b"1") {
             return 1;
         }
         return 2;

@@ -18,7 +18,7 @@ use Rattle.laws.proofs.Sums.{map-length, map-same}
 use Rattle.pots.specs.Heights.{has, chipsAt, liveOf, maskAt, contenders, contested, contest, over, backAt, backOf, returnedOf}
 use Rattle.pots.specs.declared.Pot.{Pot}
 use Rattle.pots.specs.declared.Commission.{Commission}
-use Rattle.pots.specs.Runs.{pot, join, runs, keyed, potsOf}
+use Rattle.pots.specs.Runs.{join, runs, keyed, potsOf}
 use Rattle.pots.specs.Settle.{feeOf, sole, sharesOf}
 use Rattle.pots.specs.Hand.{rated, bestOf, winnersOf, plus, wonOf, feeOfHand, dropOf, dropOfHand, dueOf}
 use Rattle.pots.proofs.Chips.{has-none, over-same, chips-append}

@@ -12,9 +12,6 @@ use table::table::Table;
 use table::take::new_table;
 use text::sheet::SheetRead;
 use text::sheet::after_sheet;
-ghost use mathlib.Core.Path.{_≡_};
-ghost use Prim.Native.Nat.{_≤_};
-ghost use lib.ListN.{length};
 ghost use Rattle.table.specs.Take.{Sound};
 
 // What stands in a sheet before anything is written there: no answer has this byte.

@@ -1,5 +1,6 @@
 // The dealer's table: a log on standard input, and the table as it stands after each entry on standard output, as it comes. With --standing one picture that is
 // drawn again in its place, its lamp amber and a refusal red; with --plain before it, without colours.
+use argument::is_argument;
 use drawn::MOST;
 use drawn::draw;
 use libc::STDIN_FILENO;
@@ -10,8 +11,7 @@ use seen::feed::ends_open;
 use seen::feed::feed;
 use seen::feed::start;
 use text::sheet::ROOM;
-ghost use mathlib.Core.Path.{_≡_};
-ghost use Prim.Native.Nat.{_+_, _-_, _≤_, _<_};
+ghost use Prim.Native.Nat.{_-_, _≤_, _<_};
 ghost use lib.ListN.{length};
 ghost use Rattle.lines.specs.Kept.{keptMost};
 ghost use Rattle.seen.specs.Seen.{Held};
@@ -145,14 +145,7 @@ fn end(form: Form, s: Seen, buf: &[u8])
 
 // Whether one of the first two arguments is this word.
 fn has_word(want: &[u8]) -> bool {
-    let mut first = [0u8; 16];
-    let mut second = [0u8; 16];
-    let n = os::arg(1, &mut first);
-    let m = os::arg(2, &mut second);
-    laws::either(
-        check::same(&first[..n], want),
-        check::same(&second[..m], want),
-    )
+    laws::either(is_argument(1, want), is_argument(2, want))
 }
 
 fn main() {

@@ -5,12 +5,6 @@ use lib.ListN.{length}
 use borrow.Author.Needs.{needs}
 use Rattle.fair_copy.proofs.end_sheet.Statement.{statement}
 use Rattle.fair_copy.proofs.end_sheet.Tie as tie
-use Rattle.fair_copy.proofs.end_sheet.Reads as reads
-use Rattle.fair_copy.proofs.end_sheet.Lts as lts
-use Rattle.fair_copy.proofs.note_added.Reads as note-added-reads
-use Rattle.fair_copy.proofs.serve.Reads as serve-reads
-use Rattle.laws.proofs.both.Reads as both-reads
-use Rattle.renewal.proofs.close.Reads as close-reads
 
 slice-aggregate-close : tie.Need-slice-aggregate-close
 slice-aggregate-close c = search needs

@@ -5,11 +5,6 @@ use lib.ListN.{length}
 use borrow.Author.Needs.{needs}
 use Rattle.fair_copy.proofs.note_added.Statement.{statement}
 use Rattle.fair_copy.proofs.note_added.Tie as tie
-use Rattle.fair_copy.proofs.note_added.Reads as reads
-use Rattle.fair_copy.proofs.note_added.Lts as lts
-use Rattle.io.proofs.write_all.Reads as write-all-reads
-use Rattle.laws.proofs.both.Reads as both-reads
-use Rattle.renewal.proofs.write_added.Reads as write-added-reads
 
 both-requires : tie.Need-both-requires
 both-requires c κs = search needs

@@ -3,13 +3,6 @@ use Rattle.text.proofs.Parts.{goes-further}
 use borrow.Author.Needs.{needs}
 use Rattle.fair_copy.proofs.open_one.Statement.{statement}
 use Rattle.fair_copy.proofs.open_one.Tie as tie
-use Rattle.fair_copy.proofs.open_one.Reads as reads
-use Rattle.fair_copy.proofs.open_one.Lts as lts
-use Rattle.fair_copy.proofs.note_added.Reads as note-added-reads
-use Rattle.fair_copy.proofs.serve.Reads as serve-reads
-use Rattle.laws.proofs.both.Reads as both-reads
-use Rattle.output.proofs.ahead.Reads as ahead-reads
-use Rattle.renewal.proofs.renew_on.Reads as renew-on-reads
 
 sub-renew-on : tie.Need-sub-renew-on
 sub-renew-on c = search needs

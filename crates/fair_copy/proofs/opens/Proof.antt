@@ -2,8 +2,6 @@
 use borrow.Author.Needs.{needs}
 use Rattle.fair_copy.proofs.opens.Statement.{statement}
 use Rattle.fair_copy.proofs.opens.Tie as tie
-use Rattle.fair_copy.proofs.opens.Reads as reads
-use Rattle.fair_copy.proofs.opens.Lts as lts
 
 returns : tie.Need-returns
 returns c = search needs

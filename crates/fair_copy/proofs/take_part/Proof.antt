@@ -10,12 +10,6 @@ use mathlib.Core.Path.{_≡_, refl}
 use borrow.Author.Needs.{needs}
 use Rattle.fair_copy.proofs.take_part.Statement.{statement}
 use Rattle.fair_copy.proofs.take_part.Tie as tie
-use Rattle.fair_copy.proofs.take_part.Reads as reads
-use Rattle.fair_copy.proofs.take_part.Lts as lts
-use Rattle.fair_copy.proofs.open_one.Reads as open-one-reads
-use Rattle.fair_copy.proofs.opens.Reads as opens-reads
-use Rattle.fair_copy.proofs.serve.Reads as serve-reads
-use Rattle.io.proofs.large_buffer.Reads as large-buffer-reads
 
 abbrev Inv-loop : tie.InvT-loop
 Inv-loop buf₀ part fresh₀ renewal₀ copier₀ from₀ buf fresh renewal copier from = (length buf ≡ length buf₀) × (length fresh ≡ 65536) × InSheet renewal × Held copier × (from ≤ length part)

@@ -1,6 +1,6 @@
 -- `pots::sum_above` meets its contract. The invariant: what is summed is what the totals from place i on hold above the top.
 -- Assumes nothing.
-use Prim.Native.Nat.{ℕ, zero, suc, _+_, _≤_, _-_, zero-le}
+use Prim.Native.Nat.{ℕ, _≤_, _-_, zero-le}
 use mathlib.Core.Path.{_≡_, sym, _∙_}
 use mathlib.Core.List.{List, [], _∷_, map}
 use native.Mathlib.Omega.{arith}
@@ -33,14 +33,14 @@ loop-holds c = (search needs, sym (last-start (high (c .args .top)) (c .args .t1
 sub-i : tie.Need-sub-i Inv-loop μ-loop
 sub-i c = search needs
 
-mul-above : tie.Need-mul-above Inv-loop μ-loop
-mul-above c = search needs
+mul-short-of : tie.Need-mul-short-of Inv-loop μ-loop
+mul-short-of c = search needs
 
-array-read-above : tie.Need-array-read-above Inv-loop μ-loop
-array-read-above c = search needs
+array-read-short-of : tie.Need-array-read-short-of Inv-loop μ-loop
+array-read-short-of c = search needs
 
-above-requires : tie.Need-above-requires Inv-loop μ-loop
-above-requires c κs = search needs
+short-of-requires : tie.Need-short-of-requires Inv-loop μ-loop
+short-of-requires c κs = search needs
 
 add-s : tie.Need-add-s Inv-loop μ-loop
 unfolding sumOf
@@ -48,7 +48,7 @@ add-s c =
     let a = c .before .before .before .args in
     let i = c .before .before .loop .i in
     let t = last-turn (high (a .top)) (a .t1) i (search needs) (search needs) in
-    record { fits = omega (arith, t, high-most (a .top) (drop (i - 1) (a .t1)), drop-sum (a .t1) (i - 1), c .above .ensures, c .before .before .loop .inv .1, c .before .before .before .pre) }
+    record { fits = omega (arith, t, high-most (a .top) (drop (i - 1) (a .t1)), drop-sum (a .t1) (i - 1), c .short-of .ensures, c .before .before .loop .inv .1, c .before .before .before .pre) }
 
 loop-less : tie.Need-loop-less Inv-loop μ-loop
 loop-less c = search needs
@@ -59,7 +59,7 @@ loop-again c =
     let a = c .before .before .before .args in
     let i = c .before .before .loop .i in
     let t = last-turn (high (a .top)) (a .t1) i (search needs) (search needs) in
-    (search needs, omega (arith, t, c .above .ensures, c .before .before .loop .inv .1))
+    (search needs, omega (arith, t, c .short-of .ensures, c .before .before .loop .inv .1))
 
 returns : tie.Need-returns Inv-loop μ-loop
 returns c = c .before .loop .inv .1 ∙ last-done (high (c .before .before .args .top)) (c .before .before .args .t1) (c .before .loop .i) (search needs)
@@ -72,9 +72,9 @@ sum-above-spec =
     μ-loop
     loop-holds
     sub-i
-    mul-above
-    array-read-above
-    above-requires
+    mul-short-of
+    array-read-short-of
+    short-of-requires
     add-s
     loop-less
     loop-again
