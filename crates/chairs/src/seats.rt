@@ -55,6 +55,28 @@ pub fn lives(cs: [Chair; 10], seats: u32) -> LiveCount
     LiveCount { hands, stacks }
 }
 
+// How many hands one card was entered for, and how many another.
+pub struct Holders {
+    pub one: u32,
+    pub two: u32,
+}
+
+// Both counts in one pass, since a pair of hole cards needs both.
+pub fn holders(cs: [Chair; 10], seats: u32, a: u32, b: u32) -> Holders
+{
+    let last = seats as usize;
+    let mut one: u32 = 0;
+    let mut two: u32 = 0;
+    let mut i: usize = 0;
+    while i < last {
+        let c = cs[i];
+        one += laws::one(crate::holds(c, a));
+        two += laws::one(crate::holds(c, b));
+        i += 1;
+    }
+    Holders { one, two }
+}
+
 // The chair of a seat; a chair that nobody ever had for a seat that is not there.
 pub fn chair_at(cs: [Chair; 10], s: u32) -> Chair
     ensures { λ r. ⌜ r ≡ chairAt cs s ⌝ }

@@ -20,11 +20,10 @@ ghost use Rattle.table.specs.Betting.{liveHands, firstOwing, nobodyOwes,
 ghost use Rattle.table.specs.Standing.{Standing, Seated};
 
 // The codes that stop an act out of its moment, at a seat that is not live, or out of turn.
-pub(crate) fn turn_code(t: Table, s: u32) -> u8
+pub(crate) fn turn_code(t: Table, c: Chair, s: u32) -> u8
     requires { ⌜ Standing t ⌝ }
     ensures { λ r. ⌜ r ≡ turnCode t s ⌝ }
 {
-    let c = table::seat_of(t, s);
     let none = nobody_owes(t);
     let out = !c.dealt.live;
     let other = t.play.turn != s;
@@ -34,6 +33,12 @@ pub(crate) fn turn_code(t: Table, s: u32) -> u8
     )
 }
 
+pub(crate) fn fold_code(t: Table, s: u32) -> u8
+{
+    let c = table::seat_of(t, s);
+    turn_code(t, c, s)
+}
+
 // The round total equals the mark.
 pub(crate) fn check_code(t: Table, s: u32) -> u8
     requires { ⌜ Standing t ⌝ }
@@ -41,7 +46,7 @@ pub(crate) fn check_code(t: Table, s: u32) -> u8
 {
     let c = table::seat_of(t, s);
     let short = chairs::round_of(c) != t.play.mark;
-    or_else(turn_code(t, s), when(short, NOT_ALLOWED))
+    or_else(turn_code(t, c, s), when(short, NOT_ALLOWED))
 }
 
 // The round total is below the mark.
@@ -51,7 +56,7 @@ pub(crate) fn call_code(t: Table, s: u32) -> u8
 {
     let c = table::seat_of(t, s);
     let below = chairs::round_of(c) < t.play.mark;
-    or_else(turn_code(t, s), when(!below, NOT_ALLOWED))
+    or_else(turn_code(t, c, s), when(!below, NOT_ALLOWED))
 }
 
 pub(crate) fn folded(t: Table, s: u32) -> Table
@@ -112,7 +117,7 @@ pub(crate) fn wager_code(t: Table, s: u32, a: u32) -> u8
 {
     let c = table::seat_of(t, s);
     let ok = may_wager(t, c, a);
-    or_else(turn_code(t, s), when(!ok, NOT_ALLOWED))
+    or_else(turn_code(t, c, s), when(!ok, NOT_ALLOWED))
 }
 
 // Whether a wager to a, above the mark, is a full lift.

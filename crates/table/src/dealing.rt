@@ -2,7 +2,6 @@
 use crate::betting;
 use crate::table;
 use crate::table::Table;
-use chairs::Who;
 use laws::either;
 use paper::CARD_TWICE;
 use paper::WRONG_MOMENT;
@@ -24,7 +23,7 @@ pub(crate) fn hole_code(t: Table, s: u32, a: u32, b: u32) -> u8
     let out = !c.dealt.live;
     let full = c.hole.count as u32 == t.sheet.game;
     let same = a == b;
-    let old = either(used(t, a), used(t, b));
+    let old = used(t, a, b);
     or_else(
         when(off, WRONG_MOMENT),
         or_else(
@@ -51,7 +50,7 @@ pub(crate) fn board_code(t: Table, k: u32) -> u8
     let owed = !betting::nobody_owes(t);
     let few = betting::lives(t) < 2;
     let full = 5 <= t.board.count;
-    let old = used(t, k);
+    let old = used(t, k, k);
     or_else(
         when(either(off, either(owed, either(few, full))), WRONG_MOMENT),
         when(old, CARD_TWICE),
@@ -68,13 +67,14 @@ pub(crate) fn boarded(t: Table, k: u32) -> Table
 }
 
 // Whether a card lies on the board or was entered for a hand.
-fn used(t: Table, card: u32) -> bool
+fn used(t: Table, a: u32, b: u32) -> bool
     requires { ⌜ Standing t ⌝ }
     ensures { λ r. ⌜ r ≡ inThisHand t card ⌝ }
 {
     let cs = t.chairs;
     let bs = t.board.cards;
-    let lies = chairs::has_card(&bs, t.board.count, card);
-    let held = chairs::seats::count(cs, t.sheet.seats, Who::Holding(card)) != 0;
-    laws::either(lies, held)
+    let k = chairs::seats::holders(cs, t.sheet.seats, a, b);
+    let first = either(chairs::has_card(&bs, t.board.count, a), k.one != 0);
+    let second = either(chairs::has_card(&bs, t.board.count, b), k.two != 0);
+    either(first, second)
 }
