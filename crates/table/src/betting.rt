@@ -6,6 +6,8 @@ use chairs::Sweep;
 use chairs::Who;
 use laws::both;
 use laws::either;
+use paper::Entry;
+use paper::Numbers;
 use paper::NOT_ALLOWED;
 use paper::NOT_IN_TURN;
 use paper::WRONG_MOMENT;
@@ -59,31 +61,30 @@ pub(crate) fn call_code(t: Table, s: u32) -> u8
     or_else(turn_code(t, c, s), when(!below, NOT_ALLOWED))
 }
 
-pub(crate) fn folded(t: Table, s: u32) -> Table
-    requires { ⌜ Seated t × (s ≤ t .sheet .seats) ⌝ }
-    ensures { λ r. ⌜ r ≡ foldedTo t s ⌝ }
-{
-    let c = chairs::folded(table::seat_of(t, s));
-    after_act(t, s, c)
+fn act_chair(t: Table, c: Chair, e: Entry) -> Chair {
+    match e {
+        Entry::Fold(s) => chairs::folded(c),
+        Entry::Check(s) => chairs::acting(c),
+        Entry::Call(s) => chairs::acting(chairs::paid(c, laws::short_of(t.play.mark, chairs::round_of(c)))),
+        Entry::Wager(s, a) => chairs::acting(chairs::paid(c, laws::short_of(a, chairs::round_of(c)))),
+        _ => c,
+    }
 }
 
-pub(crate) fn checked(t: Table, s: u32) -> Table
-    requires { ⌜ Seated t × (s ≤ t .sheet .seats) ⌝ }
-    ensures { λ r. ⌜ r ≡ checkedTo t s ⌝ }
-{
-    let c = chairs::acting(table::seat_of(t, s));
-    after_act(t, s, c)
+fn lifted(t: Table, x: Numbers) -> Table {
+    if x.kind != 7 { return t; }
+    let cs = t.chairs;
+    let full = is_full_lift(t, x.a);
+    let ds = chairs::seats::sweep_all(cs, t.sheet.seats, Sweep::Again { full });
+    table::with_mark(table::with_chairs(t, ds), x.a, lift_after(t, x.a))
 }
 
-// The seat pays the difference or its whole stack.
-pub(crate) fn called(t: Table, s: u32) -> Table
-    requires { ⌜ (chipsOf (t .chairs) ≤ 100000000) × Seated t × (s ≤ t .sheet .seats) ⌝ }
-    ensures { λ r. ⌜ r ≡ calledTo t s ⌝ }
-{
-    let c = table::seat_of(t, s);
-    let due = laws::short_of(t.play.mark, chairs::round_of(c));
-    let d = chairs::acting(chairs::paid(c, due));
-    after_act(t, s, d)
+pub(crate) fn acted(t: Table, e: Entry) -> Table {
+    let x = paper::numbers_of(e);
+    let c = table::seat_of(t, x.seat);
+    let d = act_chair(t, c, e);
+    let u = lifted(t, x);
+    after_act(u, x.seat, d)
 }
 
 // "a is at least mark plus lift".
@@ -133,21 +134,6 @@ fn lift_after(t: Table, a: u32) -> u32
 {
     let rise = laws::short_of(a, t.play.mark);
     laws::chosen(is_full_lift(t, a), rise, t.play.lift)
-}
-
-// The mark becomes a, and every other live seat with chips owes again; a short lift leaves a spent right to raise spent.
-pub(crate) fn wagered(t: Table, s: u32, a: u32) -> Table
-    requires { ⌜ (chipsOf (t .chairs) ≤ 100000000) × Seated t × (s ≤ t .sheet .seats) ⌝ }
-    ensures { λ r. ⌜ r ≡ wageredTo t s a ⌝ }
-{
-    let c = table::seat_of(t, s);
-    let put = laws::short_of(a, chairs::round_of(c));
-    let d = chairs::acting(chairs::paid(c, put));
-    let cs = t.chairs;
-    let full = is_full_lift(t, a);
-    let ds = chairs::seats::sweep_all(cs, t.sheet.seats, Sweep::Again { full });
-    let u = table::with_mark(table::with_chairs(t, ds), a, lift_after(t, a));
-    after_act(u, s, d)
 }
 
 // The seat is live, in a hand with two live or more.
