@@ -137,6 +137,59 @@ pub fn first_from(cs: [Chair; 10], seats: u32, w: Who, s: u32) -> u32
     0
 }
 
+// The turn.
+pub struct Owed {
+    pub hands: u32,
+    pub stacks: u32,
+    pub first: u32,
+    pub over: u32,
+}
+
+pub fn owed(cs: [Chair; 10], seats: u32, s: u32) -> Owed
+{
+    let from = s as usize;
+    let mut hands: u32 = 0;
+    let mut stacks: u32 = 0;
+    let mut first: u32 = 0;
+    let mut over: u32 = 0;
+    let mut j: usize = seats as usize;
+    while 0 < j {
+        j -= 1;
+        let c = cs[j];
+        hands += laws::one(c.dealt.live);
+        stacks += laws::one(crate::live_with_chips(c));
+        first = laws::chosen(crate::owes_any(c), j as u32 + 1, first);
+        over = laws::chosen(j == from, first, over);
+    }
+    Owed { hands, stacks, first, over }
+}
+
+pub fn owing_from(cs: [Chair; 10], seats: u32, mark: u32, s: u32) -> u32
+{
+    let mut k: u32 = 0;
+    while k < seats {
+        let i = place_on(s, k, seats);
+        let c = cs[i];
+        if crate::owes(c, mark, true) {
+            return i as u32 + 1;
+        }
+        k += 1;
+    }
+    0
+}
+
+pub fn turn_from(cs: [Chair; 10], seats: u32, mark: u32, s: u32) -> u32
+{
+    let k = owed(cs, seats, s);
+    if k.hands < 2 {
+        return 0;
+    }
+    if k.stacks <= 1 {
+        return owing_from(cs, seats, mark, s);
+    }
+    laws::chosen(k.over == 0, k.first, k.over)
+}
+
 // All chips: the stacks and what lies in the open hand.
 pub fn chips(cs: [Chair; 10], seats: u32) -> u64
     requires { ⌜ Seats seats cs ⌝ }
