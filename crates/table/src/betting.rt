@@ -3,7 +3,6 @@ use crate::table;
 use crate::table::Table;
 use chairs::Chair;
 use chairs::Sweep;
-use chairs::Who;
 use laws::both;
 use laws::either;
 use paper::NOT_ALLOWED;
@@ -216,15 +215,7 @@ pub(crate) fn first_owing(t: Table, s: u32) -> u32
     ensures { λ r. ⌜ r ≡ firstOwing t s ⌝ }
 {
     let cs = t.chairs;
-    let k = chairs::seats::lives(cs, t.sheet.seats);
-    if k.hands < 2 {
-        return 0;
-    }
-    let w = Who::Owing {
-        mark: t.play.mark,
-        alone: k.stacks <= 1,
-    };
-    chairs::seats::first_from(cs, t.sheet.seats, w, s)
+    chairs::seats::turn_from(cs, t.sheet.seats, t.play.mark, s)
 }
 
 // Whether nobody owes: then, and only then, it is nobody's turn.
@@ -240,7 +231,11 @@ fn after_act(t: Table, s: u32, c: Chair) -> Table
     requires { ⌜ Seated t × (s ≤ t .sheet .seats) ⌝ }
     ensures { λ r. ⌜ r ≡ afterAct t s c ⌝ }
 {
-    let u = table::with_chair(t, s, c);
-    let next = first_owing(u, s);
-    table::with_turn(u, next)
+    let cs = t.chairs;
+    let ds = chairs::seats::put_chair(cs, s, c);
+    let next = chairs::seats::turn_from(ds, t.sheet.seats, t.play.mark, s);
+    let mut u = t;
+    u.chairs = ds;
+    u.play.turn = next;
+    u
 }
