@@ -1,16 +1,15 @@
 -- Request No. 6: what holds of the order of hands, shown once for any ranking and cited for both decks; the ace with the four lowest ranks is the lowest
 -- straight, whatever the lowest rank; and what only the 32 cards have: no 5-4-3-2-A, and a flush above a full house. Assumes nothing.
-use mathlib.Core.Path.{_≡_, refl, sym, ap, ap₂, _∙_, subst}
+use mathlib.Core.Path.{_≡_, refl, sym, ap, _∙_, subst}
 use mathlib.Core.Bool.{Bool, true, false, false≢true, _||_}
 use mathlib.Core.Logic.{_↔_}
 use mathlib.Core.List.{List, [], _∷_, map}
-use Prim.Native.Nat.{ℕ, suc, _+_, _<_, _≤_}
+use Prim.Native.Nat.{ℕ, suc, _+_, _≤_}
 use native.Mathlib.Omega.{arith}
 use lib.Dec.{eqb, ltb}
 use lib.ListN.{length, getD}
 use borrow.Author.Tests.{eqb-true, ltb-false}
 use Rattle.laws.specs.Lists.{All}
-use Rattle.laws.specs.Tests.{both}
 use Rattle.laws.specs.Some.{some}
 use Rattle.laws.proofs.Tests.{both-true}
 use Rattle.laws.proofs.Often.{same-length}

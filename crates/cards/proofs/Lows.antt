@@ -6,7 +6,6 @@ use Prim.Native.Nat.{ℕ, zero, suc, _+_, _*_, _/_, _%_, _<_}
 use native.Mathlib.Nat.{mul-left-comm, zero-add, suc-add}
 use native.Mathlib.Omega.{arith}
 use lib.ListN.{length}
-use Rattle.laws.specs.Tests.{one}
 use Rattle.laws.specs.Often.{count, SameNumbers}
 use Rattle.cards.specs.Packed.{digits}
 use Rattle.cards.specs.Searching.{lows, units}

@@ -6,7 +6,6 @@ use native.Mathlib.Nat.{div-add-mod, mod-lt, mul-comm}
 use native.Mathlib.Omega.{arith}
 use lib.ListN.{length, drop, getD, length-drop, drop-of-length-le}
 use lib.Seq.{drop-cons}
-use Rattle.laws.specs.Tests.{one}
 use Rattle.laws.specs.Often.{count, SameNumbers}
 use Rattle.cards.specs.Falls.{fall}
 use Rattle.cards.specs.Hands.{valueOf}

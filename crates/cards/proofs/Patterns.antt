@@ -10,7 +10,7 @@ use native.Mathlib.Decide.{decLe, decLt}
 use lib.Dec.{eqb, ltb, leb}
 use lib.ListN.{length, getD}
 use borrow.Author.Tests.{eqb-true, ne-eqb, le-leb, lt-leb, le-ltb, eqb-false}
-use Rattle.laws.specs.Tests.{one, both, pick}
+use Rattle.laws.specs.Tests.{both, pick}
 use Rattle.laws.specs.Lists.{All}
 use Rattle.laws.proofs.Tests.{test, both-true}
 use Rattle.cards.specs.Cards.{sameList, before, put, inOrder, ordered, isWheel, lowered, inRow}
@@ -19,7 +19,7 @@ use Rattle.cards.specs.Patterns.{neighbours, binary, rows, ranksAt, clas
 use Rattle.cards.specs.declared.Hand.{Hand}
 use Rattle.cards.proofs.Falls.{Falling}
 use Rattle.cards.proofs.Scaled.{carried-at, carried-ordered, same-holdings}
-use Rattle.cards.proofs.Steps.{same-list}
+use Rattle.laws.proofs.Members.{same-list}
 use Rattle.laws.proofs.Five.{five-list}
 
 -- the ranks of a pattern without gaps, the last of them 1

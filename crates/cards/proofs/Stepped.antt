@@ -15,7 +15,7 @@ use Rattle.cards.specs.Cards.{rank, suit, isWheel, lowered, inRow, allAl
 use Rattle.cards.specs.Packed.{digits}
 use Rattle.cards.specs.Patterns.{neighbours, binary}
 use Rattle.cards.specs.Steps.{ranksIn, suitsIn, stepsIn, marksIn, gathered, patternIn, lowestRow}
-use Rattle.cards.proofs.Steps.{same-list}
+use Rattle.laws.proofs.Members.{same-list}
 
 abbrev spelled : ℕ → ℕ → ℕ → ℕ → ℕ → ℕ
 spelled v w x y z = (((v * 256 + w) * 256 + x) * 256 + y) * 256 + z
