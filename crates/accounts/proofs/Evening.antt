@@ -1,10 +1,10 @@
 -- The evening's sums over any number of blocks and sittings: below the bound, which no evening comes near, a sum is the sum; every block is counted once, so the blocks
 -- by code sum to all blocks; and where each sitting's account comes out, the sums over the sittings come out. Assumes nothing.
 use Prim.Native.Nat.{ℕ, zero, suc, _+_, _≤_, _<_, min}
-use mathlib.Core.Path.{_≡_, refl, sym, ap, _∙_}
+use mathlib.Core.Path.{_≡_, refl}
 use mathlib.Core.List.{List, [], _∷_}
 use native.Mathlib.Omega.{arith}
-use lib.ListN.{length, getD, set, replicate, length-set}
+use lib.ListN.{length, getD, set, length-set}
 use borrow.Author.Tests.{le-ltb}
 use Rattle.laws.specs.Lists.{sumOf}
 use Rattle.accounts.specs.Sums.{bound, addedTo, counted, countedAll, totalled, ComesOut, SumsComeOut, Below}

@@ -2,22 +2,20 @@
 -- the count, the log and the index as they were (refused-same, fifteen-same). Assumes nothing beside `Stored`, where it is named.
 use mathlib.Core.Path.{_≡_, refl, sym, ap, ap₂, _∙_, subst}
 use mathlib.Core.Bool.{Bool, true, false}
-use mathlib.Core.List.{List, [], _∷_, _++_}
+use mathlib.Core.List.{List, [], _∷_}
 use Prim.Native.Nat.{ℕ, _+_, _-_, _*_, _≤_, _<_}
 use native.Mathlib.Omega.{arith}
 use lib.ListN.{length}
 use lib.Dec.{eqb, ltb, leb}
 use borrow.Author.Tests.{eq-eqb, ne-eqb, leb-false, ltb-false}
 use Rattle.laws.specs.Tests.{pick, both, either, one}
-use Rattle.paper.specs.Paper.{isSheet}
 use Rattle.paper.specs.SheetAndEntries.{made, numbersOf}
 use Rattle.paper.specs.declared.Sheet.{Sheet}
 use Rattle.paper.specs.declared.Numbers.{Numbers}
 use Rattle.paper.specs.declared.Entry.{Entry}
-use Rattle.blocks.specs.Entry.{parsedOf, entryAt}
+use Rattle.blocks.specs.Entry.{parsedOf}
 use Rattle.blocks.specs.declared.Block.{Block}
 use Rattle.blocks.specs.declared.Block.the-variants.{Raw}
-use Rattle.blocks.specs.declared.Parsed.{Parsed}
 use Rattle.blocks.specs.declared.Parsed.the-variants.{Read}
 use Rattle.blocks.proofs.Entries.{read-is, numbers-back}
 use Rattle.writing.specs.AnswerSheet.{over, writtenOf}
@@ -29,13 +27,12 @@ use Rattle.table.proofs.Refusals.{taken-counted}
 use Rattle.table.proofs.Sounds.{passed}
 use Rattle.records.specs.Bytes.{putAt}
 use Rattle.records.specs.Stored.{recordBytes, putRecord}
-use Rattle.fresh.specs.Reading.{isHand, indexAfter, rowedOf}
+use Rattle.fresh.specs.Reading.{isHand, indexAfter}
 use Rattle.desk.specs.Desk.{judgeParsed, judgeBlock, refusedAt, judgedBytes}
 use Rattle.desk.specs.declared.Judged.{Judged}
 use Rattle.ledger.specs.Keeping.{wasTaken, answeredAs, handsAfter, logAfter, indexKept}
-use Rattle.ledger.specs.Entering.{isFull, numbersIn, heldBack, judgedEntry, judgedHere, takenHere, enteredOf, logEntered, indexEntered}
+use Rattle.ledger.specs.Entering.{isFull, numbersIn, heldBack, judgedEntry, judgedHere, enteredOf, logEntered, indexEntered}
 use Rattle.ledger.specs.declared.Book.{Book}
-use Rattle.ledger.specs.declared.Answered.{Answered}
 use Rattle.ledger.proofs.Holding.{entry-counts}
 use Rattle.history.specs.History.{run, AllTaken}
 use Rattle.archive.specs.Archive.{recordsOf, handsIn, rowsOf, Stored}

@@ -1,9 +1,9 @@
 -- The index that a fresh reading writes is the rows of its entries, joined, before what lay behind them; and the rows before a corrected entry are the same ones.
 -- Assumes nothing.
-use mathlib.Core.Path.{_≡_, refl, sym, ap, ap₂, _∙_, subst}
+use mathlib.Core.Path.{_≡_, refl, sym, ap, _∙_}
 use mathlib.Core.Bool.{Bool, true, false}
 use mathlib.Core.List.{List, [], _∷_, _++_, append-assoc, append-nil, map}
-use Prim.Native.Nat.{ℕ, zero, suc, _+_, _-_, _*_, _≤_, _<_}
+use Prim.Native.Nat.{ℕ, zero, suc, _+_, _-_, _*_, _≤_}
 use native.Mathlib.Omega.{arith}
 use lib.ListN.{length, take, drop, length-append, length-drop}
 use lib.Seq.{take-append-seam, drop-append-seam}
@@ -21,8 +21,7 @@ use Rattle.records.specs.Bytes.{putAt}
 use Rattle.records.specs.Stored.{rowBytes, putRow}
 use Rattle.records.proofs.Words.{row-length}
 use Rattle.records.proofs.Puts.{put-room}
-use Rattle.fresh.specs.Reading.{isHand, stackOf, rowedOf, indexAfter, rowsBegun, rowedFrom, indexFrom, indexTo}
-use Rattle.fresh.specs.declared.Rowed.{Rowed}
+use Rattle.fresh.specs.Reading.{isHand, stackOf, indexAfter, rowsBegun, rowedFrom, indexTo}
 use Rattle.history.specs.History.{run, AllTaken}
 use Rattle.history.proofs.Reached.{reached-standing}
 use Rattle.archive.specs.Archive.{handsIn, rowIf, rowsOf, replaced, before}

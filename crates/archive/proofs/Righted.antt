@@ -5,15 +5,14 @@ use mathlib.Core.Path.{_≡_, refl, sym, ap, ap₂, _∙_, subst}
 use mathlib.Core.Bool.{Bool, true, false, not}
 use mathlib.Core.Logic.{_⊎_, inl, inr}
 use mathlib.Core.List.{List, [], _∷_, _++_}
-use Prim.Native.Nat.{ℕ, zero, suc, _+_, _-_, _*_, _≤_, _<_}
+use Prim.Native.Nat.{ℕ, zero, suc, _+_, _-_, _*_, _≤_}
 use native.Mathlib.Omega.{arith}
 use lib.ListN.{length, take, drop}
-use lib.Dec.{eqb, leb}
-use borrow.Author.Tests.{eq-eqb, ne-eqb, eqb-true, eqb-false, not-false}
-use Rattle.laws.specs.Tests.{pick, both, either, one}
+use lib.Dec.{eqb}
+use borrow.Author.Tests.{eq-eqb, ne-eqb, eqb-true, not-false}
+use Rattle.laws.specs.Tests.{pick, either, one}
 use Rattle.laws.proofs.Tests.{test}
-use Rattle.paper.specs.Paper.{isSheet}
-use Rattle.paper.specs.RefusalNumbers.{when, orElse}
+use Rattle.paper.specs.RefusalNumbers.{when}
 use Rattle.paper.specs.SheetAndEntries.{between, made, numbersOf}
 use Rattle.paper.specs.declared.Sheet.{Sheet}
 use Rattle.paper.specs.declared.Numbers.{Numbers}
@@ -24,8 +23,6 @@ use Rattle.text.specs.declared.Number.{Number}
 use Rattle.text.specs.declared.Number.the-variants.{Value, Bad}
 use Rattle.blocks.specs.Block.{lineKind, blockFrom}
 use Rattle.blocks.specs.Entry.{parsedOf, entryAt}
-use Rattle.blocks.specs.declared.Block.{Block}
-use Rattle.blocks.specs.declared.Block.the-variants.{Raw}
 use Rattle.blocks.specs.declared.Parsed.{Parsed}
 use Rattle.blocks.specs.declared.Parsed.the-variants.{Read, OutOfRange}
 use Rattle.blocks.proofs.Entries.{read-is, numbers-back}
@@ -39,16 +36,15 @@ use Rattle.fresh.specs.Reading.{isHand, replacing, playedTo, indexTo}
 use Rattle.fresh.specs.declared.Played.{Played}
 use Rattle.desk.specs.Desk.{refusedAt, judgedBytes}
 use Rattle.desk.specs.declared.Judged.{Judged}
-use Rattle.amends.specs.Righting.{rightKey, rightOf, numberOf, isSix, outside, rightCode, parsedIn, rightedBy, replayedOf, codeBefore, judgedRight}
+use Rattle.amends.specs.Righting.{rightKey, rightOf, numberOf, isSix, outside, parsedIn, rightedBy, replayedOf, codeBefore, judgedRight}
 use Rattle.amends.specs.declared.Right.{Right}
 use Rattle.ledger.specs.Keeping.{wasTaken, answeredAs}
 use Rattle.ledger.specs.Entering.{numbersIn}
-use Rattle.ledger.specs.Righting.{takenRight, rightedOf, logRighted, indexRighted}
+use Rattle.ledger.specs.Righting.{rightedOf, logRighted, indexRighted}
 use Rattle.ledger.specs.declared.Book.{Book}
-use Rattle.ledger.specs.declared.Answered.{Answered}
 use Rattle.history.specs.History.{run, AllTaken}
 use Rattle.archive.specs.Archive.{recordsOf, handsIn, rowsOf, Stored, replaced, before}
-use Rattle.archive.proofs.Lists.{run-sheet, all-fit, entriesTo, entries-length, entries-back, entries-replaced, replaced-length, put-replaced, played-run, played-all, all-played}
+use Rattle.archive.proofs.Lists.{run-sheet, all-fit, entriesTo, entries-back, entries-replaced, replaced-length, put-replaced, played-run, played-all, all-played}
 use Rattle.archive.proofs.Index.{front-over, over-room, rows-length, index-rows, rows-before, rows-replaced, same-front}
 use Rattle.archive.proofs.Entered.{told-zero, run-count}
 use Rattle.ledger.specs.Righting as righting

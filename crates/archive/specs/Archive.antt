@@ -2,7 +2,7 @@
 -- only the box writes there between calls is a stated premise": it is `Stored` before a call, which the call before it has left behind.
 -- Lists of entries have the newest first, as in history. Assumes nothing.
 use Prim.Native.Nat.{ℕ, _+_, _≤_}
-use mathlib.Core.Bool.{Bool, true, false}
+use mathlib.Core.Bool.{true}
 use mathlib.Core.Path.{_≡_}
 use mathlib.Core.List.{List, [], _∷_, _++_, map}
 use lib.Dec.{eqb}

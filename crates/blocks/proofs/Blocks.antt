@@ -11,7 +11,7 @@ use lib.Seq.{drop-cons, drop-drop}
 use borrow.Author.Tests.{eq-eqb, ne-eqb, le-leb, lt-leb}
 use Rattle.laws.specs.Tests.{pick}
 use Rattle.laws.proofs.Sums.{le-or-lt}
-use Rattle.text.specs.Bytes.{eqList}
+use Rattle.laws.specs.Listing.{sameList}
 use Rattle.text.specs.Line.{lineLen, afterLine, afterLines, lineNumber}
 use Rattle.text.specs.declared.Number.{Number}
 use Rattle.text.specs.declared.Number.the-variants.{Value, Bad}
@@ -22,10 +22,10 @@ use Rattle.blocks.specs.Block.{restOf, placeIn, kindNames, allLetters, k
 
 -- ---- the place of a word in a table, from the k-th row on
 
-pub place-here : (ts : List (List ℕ)) (w : List ℕ) (k : ℕ) → k < length ts → eqList w (getD ts k []) ≡ true → k + placeIn (drop k ts) w ≡ k
+pub place-here : (ts : List (List ℕ)) (w : List ℕ) (k : ℕ) → k < length ts → sameList w (getD ts k []) ≡ true → k + placeIn (drop k ts) w ≡ k
 place-here ts w k h e = rw (drop-cons ts k [], e) (omega arith)
 
-pub place-on : (ts : List (List ℕ)) (w : List ℕ) (k : ℕ) → k < length ts → eqList w (getD ts k []) ≡ false
+pub place-on : (ts : List (List ℕ)) (w : List ℕ) (k : ℕ) → k < length ts → sameList w (getD ts k []) ≡ false
     → k + placeIn (drop k ts) w ≡ k + 1 + placeIn (drop (k + 1) ts) w
 place-on ts w k h e = rw (add-one k, drop-cons ts k [], e) (omega arith)
 
@@ -34,7 +34,7 @@ place-end ts w k h = rw (drop-of-length-le ts h) (omega arith)
 
 pub place-within : (ts : List (List ℕ)) (w : List ℕ) → placeIn ts w ≤ length ts
 place-within [] w = omega arith
-place-within (t ∷ ts) w = go (eqList w t) (place-within ts w)
+place-within (t ∷ ts) w = go (sameList w t) (place-within ts w)
   where
     go : (b : Bool) → placeIn ts w ≤ length ts → pick b 0 (suc (placeIn ts w)) ≤ suc (length ts)
     go true h = omega arith

@@ -18,9 +18,10 @@ use Rattle.laws.proofs.Places.{last-turn}
 use Rattle.laws.proofs.Rules.{allBelow, below-all}
 use Rattle.paper.specs.SheetAndEntries.{between}
 use Rattle.paper.proofs.Codes.{between-in}
-use Rattle.text.specs.Bytes.{allWithin, packOf, eqList}
+use Rattle.text.specs.Bytes.{allWithin, packOf}
+use Rattle.laws.specs.Listing.{sameList}
 use Rattle.blocks.specs.Block.{kindNames, allLetters, placeIn}
-use Rattle.text.proofs.Bytes.{eq-list}
+use Rattle.laws.proofs.Members.{same-list}
 
 -- k bytes make a number below 256 ^ k; at most eight of them one that fits 64 bits
 pub pack-step : (v d k : ℕ) → v < 256 ^ k → d ≤ 255 → v * 256 + d < 256 ^ suc k
@@ -61,7 +62,7 @@ bytes-same (a ∷ x) (b ∷ y) n p q e =
     let t : x ≡ y = bytes-same x y (omega arith) (g .1) (h .1) (omega arith) in
     cc
 
-same-self : (x : List ℕ) → eqList x x ≡ true
+same-self : (x : List ℕ) → sameList x x ≡ true
 same-self [] = refl
 same-self (a ∷ x) = rw (eq-eqb a a refl) (same-self x)
 
@@ -82,16 +83,16 @@ row k h =
 
 module _ (w : List ℕ) (k : ℕ) (h : k < 12) where
   -- equal numbers, equal words
-  pub word-here : allLetters w ≡ true → getD packs k 0 ≡ packOf w → eqList w (getD kindNames k []) ≡ true
+  pub word-here : allLetters w ≡ true → getD packs k 0 ≡ packOf w → sameList w (getD kindNames k []) ≡ true
   word-here l e =
       let r = row k h in
       let s : w ≡ getD kindNames k [] = pack-same w (getD kindNames k []) l (r .1) (sym e ∙ r .0) in
-      ap (λ (x : List ℕ). eqList w x) (sym s) ∙ same-self w
+      ap (λ (x : List ℕ). sameList w x) (sym s) ∙ same-self w
 
   -- other numbers, other words
-  pub word-other : (getD packs k 0 ≡ packOf w → ⊥) → eqList w (getD kindNames k []) ≡ false
+  pub word-other : (getD packs k 0 ≡ packOf w → ⊥) → sameList w (getD kindNames k []) ≡ false
   word-other n =
-      ⊎-elim (λ t. absurd (n (row k h .0 ∙ ap packOf (sym (eq-list w (getD kindNames k []) t))))) (λ t. t) (test (eqList w (getD kindNames k [])))
+      ⊎-elim (λ t. absurd (n (row k h .0 ∙ ap packOf (sym (same-list w (getD kindNames k []) t))))) (λ t. t) (test (sameList w (getD kindNames k [])))
 
 -- ---- a word of the table
 

@@ -7,7 +7,8 @@ use lib.ListN.{length}
 use lib.Dec.{eqb, leb}
 use Rattle.laws.specs.Tests.{pick, both}
 pub use Rattle.paper.specs.SheetAndEntries.{kindNames}
-use Rattle.text.specs.Bytes.{allWithin, eqList}
+use Rattle.text.specs.Bytes.{allWithin}
+use Rattle.laws.specs.Listing.{sameList}
 use Rattle.text.specs.Line.{afterLine, afterLines, valueOf, lineNumber}
 use Rattle.text.specs.declared.Number.{Number}
 use Rattle.text.specs.declared.Number.the-variants.{Value, Bad}
@@ -25,7 +26,7 @@ restOf log = afterLines blockLines log
 -- the place of a word in a table of words, counted from 0; the table's length where it is not in it
 abbrev pub placeIn : List (List ℕ) → List ℕ → ℕ
 placeIn [] w = 0
-placeIn (t ∷ ts) w = pick (eqList w t) 0 (suc (placeIn ts w))
+placeIn (t ∷ ts) w = pick (sameList w t) 0 (suc (placeIn ts w))
 
 -- small letters: `a` is 97 and `z` is 122
 abbrev pub allLetters : List ℕ → Bool

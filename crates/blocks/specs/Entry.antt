@@ -2,7 +2,7 @@
 -- reading sees "unknown kind" and "an unused number not 0": such numbers make no entry. The ranges of the used numbers, by the same row of the paper's
 -- table, are tested where the entry is taken (paper, `inRange`); together they are paper's `blockFits` (proofs/Entries, `read-fits` and `unread`).
 use Prim.Native.Nat.{ℕ}
-use mathlib.Core.List.{List, [], _∷_}
+use mathlib.Core.List.{[], _∷_}
 use lib.ListN.{getD}
 use Rattle.laws.specs.Tests.{pick}
 use Rattle.paper.specs.SheetAndEntries.{made, makesEntry}

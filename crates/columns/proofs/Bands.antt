@@ -2,19 +2,17 @@
 -- contenders say that it reaches. For any number of sittings and any live ones. Assumes nothing.
 use Prim.Native.Nat.{ℕ, zero, suc, _+_, _-_, _*_, _/_, _%_, _≤_, _<_, min}
 use mathlib.Core.Bool.{Bool, true, false}
-use mathlib.Core.Path.{_≡_, refl, sym, ap, ap₂, subst, _∙_}
+use mathlib.Core.Path.{_≡_, refl, ap, subst, _∙_}
 use mathlib.Core.List.{List, [], _∷_}
 use mathlib.Core.Logic.{⊎-elim}
 use native.Mathlib.Omega.{arith}
 use lib.Dec.{eqb}
-use borrow.Author.Tests.{eq-eqb, ne-eqb}
 use Rattle.laws.specs.Lists.{maxOf}
 use Rattle.laws.specs.Tests.{pick}
 use Rattle.laws.proofs.Sums.{le-or-lt}
 use Rattle.pots.specs.Heights.{has, chipsAt, chipsOver, liveOf, maskAt}
 use Rattle.pots.specs.Levels.{secondOf, topOf, nextOf}
-use Rattle.pots.specs.Runs.{pot, potsOf}
-use Rattle.pots.specs.declared.Pot.{Pot}
+use Rattle.pots.specs.Runs.{potsOf}
 use Rattle.pots.proofs.Chips.{has-one, has-none, chips-cons, chips-none}
 use Rattle.pots.proofs.Contest.{chips-above, chips-one, next-drops}
 use Rattle.pots.proofs.PotLevels.{potsFrom, pots-start, pots-end, pots-next, next-lo, next-top}

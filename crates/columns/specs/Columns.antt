@@ -1,7 +1,7 @@
 -- Document 01, "Chip heights and pots", for the eye: "The h-th chip put in by a sitting lies at height h", so a sitting is a column of its chips, and a pot, a longest run
 -- of heights with the same contenders, is a band across the columns. Over any number of sittings. Assumes nothing.
 use Prim.Native.Nat.{ℕ, zero, suc, _+_, _-_, _*_, _/_, _%_, min, max}
-use mathlib.Core.Bool.{Bool, true, false}
+use mathlib.Core.Bool.{Bool}
 use mathlib.Core.List.{List, [], _∷_}
 use mathlib.Core.Path.{_≡_}
 use lib.Dec.{eqb}

@@ -5,12 +5,12 @@ use mathlib.Core.Bool.{Bool, true, false}
 use mathlib.Core.Path.{_≡_, refl, sym, ap, subst, _∙_}
 use mathlib.Core.List.{List, [], _∷_, _++_}
 use native.Mathlib.Omega.{arith}
-use lib.ListN.{length, getD, set, length-set, length-append}
+use lib.ListN.{length, getD, set, length-set}
 use lib.Seq.{getD-set-same, getD-set-other}
 use lib.Dec.{eqb, ltb}
-use borrow.Author.Tests.{eq-eqb, ne-eqb, lt-ltb, le-ltb, ltb-false}
+use borrow.Author.Tests.{eq-eqb, ne-eqb, ltb-false}
 use Rattle.laws.specs.Tests.{pick}
-use Rattle.paper.specs.Paper.{standIn, isSheet}
+use Rattle.paper.specs.Paper.{standIn}
 use Rattle.paper.specs.RefusalNumbers.{taken}
 use Rattle.paper.specs.declared.Sheet.{Sheet}
 use Rattle.text.specs.Line.{numberLine}
@@ -21,7 +21,7 @@ use Rattle.text.specs.declared.sheet.SheetRead.{SheetRead}
 use Rattle.text.specs.declared.sheet.SheetRead.the-variants as read-as
 use Rattle.text.proofs.Lines.{line-count}
 use Rattle.text.proofs.Numbers.{count-most}
-use Rattle.writing.specs.AnswerSheet.{Wrote, over}
+use Rattle.writing.specs.AnswerSheet.{Wrote}
 use Rattle.table.specs.declared.table.Table.{Table}
 use Rattle.table.specs.Take.{freshTable, Sound}
 use Rattle.pool.specs.Jackpot.{most, fitsIn, fedBy, openedWith}
@@ -31,8 +31,7 @@ use Rattle.laws.proofs.Tests.{test}
 use mathlib.Core.Logic.{_⊎_, inl, inr}
 use Rattle.frames.specs.Frames.{tableKey}
 use Rattle.couple.specs.declared.Pair.{Pair}
-use Rattle.couple.specs.declared.PairAfter.{PairAfter}
-use Rattle.couple.specs.Couple.{isSecond, placeOf, tableAt, withTable, startOf, shownBytes, poolKey, houseKey, lastBytes, Given, still, refused, poolDone, sheetDone, Gave, Good}
+use Rattle.couple.specs.Couple.{isSecond, tableAt, withTable, startOf, shownBytes, poolKey, houseKey, lastBytes, still, refused, poolDone, sheetDone, Gave, Good}
 
 -- ---- a table by its place
 

@@ -10,9 +10,8 @@ use lib.Dec.{eqb}
 use Rattle.laws.specs.Tests.{pick, either}
 use Rattle.paper.specs.Paper.{standIn}
 use Rattle.paper.specs.RefusalNumbers.{taken}
-use Rattle.text.specs.Line.{lineNumber, numberLine}
+use Rattle.text.specs.Line.{numberLine}
 use Rattle.text.specs.Codes.{eleven}
-use Rattle.text.specs.TableSheet.{sheetOf}
 use Rattle.text.specs.declared.Number.{Number}
 use Rattle.text.specs.declared.Number.the-variants.{Value, Bad}
 use Rattle.text.specs.declared.sheet.SheetRead.{SheetRead}
@@ -20,7 +19,6 @@ use Rattle.writing.specs.AnswerSheet.{Wrote}
 use Rattle.table.specs.declared.table.Table.{Table}
 use Rattle.table.specs.Take.{freshTable, Sound}
 use Rattle.pool.specs.Jackpot.{most, fedBy, openedWith}
-use Rattle.pool.specs.declared.Pool.{Pool}
 use Rattle.frames.specs.Frames.{tableKey, strayDue}
 use Rattle.couple.specs.declared.Pair.{Pair}
 use Rattle.text.specs.declared.sheet.SheetRead.the-variants as read-as

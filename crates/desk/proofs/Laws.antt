@@ -31,14 +31,14 @@ use Rattle.chairs.specs.Chairs.{columnOf, Numbered}
 use Rattle.laws.specs.Lists.{All, sumOf}
 use Rattle.chairs.specs.declared.Chair.{Chair}
 use Rattle.table.specs.Settle.{totalsOf, livesOf, hereOf, scoresOf, dueNow, potsNow, backNow, payoutNow, noPayout, commissionOf}
-use Rattle.table.specs.Take.{Sound, codeOf, nextOf, payoutOf, payoutBy, takenOf}
+use Rattle.table.specs.Take.{Sound, codeOf, payoutOf, payoutBy, takenOf}
 use Rattle.table.specs.declared.table.Taken.{Taken}
 use Rattle.table.proofs.Laws.{totals-within, paid-at, due-small, sheet-rate}
 use Rattle.table.proofs.Refusals.{codes, refused-same}
 use Rattle.table.specs.declared.table.Table.{Table}
 use Rattle.table.specs.declared.table.Payout.{Payout as Paid}
 use Rattle.pots.specs.Heights.{backOf}
-use Rattle.pots.specs.Runs.{pot, potSum, potsOf, padded}
+use Rattle.pots.specs.Runs.{potSum, potsOf, padded}
 use Rattle.pots.specs.declared.Pot.{Pot}
 use Rattle.pots.specs.declared.Pots.{Pots}
 use Rattle.pots.proofs.PotLevels.{pots-and-back}

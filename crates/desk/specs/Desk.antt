@@ -1,6 +1,6 @@
 -- Document 01, "The answer block" and "Refusal numbers": one block read, taken and answered.
 -- "12 stands in place of any of 0 to 10. After any of 1 to 10, or 12, the table and the count of taken entries equal those before."
-use Prim.Native.Nat.{ℕ, _≤_, _<_, _^_}
+use Prim.Native.Nat.{ℕ, _<_, _^_}
 use mathlib.Core.Bool.{true, false}
 use mathlib.Core.Path.{_≡_}
 use mathlib.Core.List.{List, [], _∷_}
@@ -8,7 +8,7 @@ use lib.ListN.{length, getD}
 use Rattle.laws.specs.Tests.{pick}
 use Rattle.blocks.specs.Block.{blockOf}
 use Rattle.blocks.specs.Entry.{parsedOf}
-use Rattle.writing.specs.AnswerSheet.{writtenOf, sheetAfter}
+use Rattle.writing.specs.AnswerSheet.{writtenOf}
 use Rattle.blocks.specs.declared.Block.{Block}
 use Rattle.blocks.specs.declared.Block.the-variants.{Raw, Malformed, Nothing}
 use Rattle.blocks.specs.declared.Parsed.{Parsed}

@@ -8,7 +8,7 @@ use lib.ListN.{length, take, drop, set}
 use lib.Seq.{drop-append-seam, length-take-le}
 use borrow.Rule.Slice.PartMut.{putMid}
 use Rattle.text.proofs.Parts.{part-back}
-use Rattle.writing.specs.AnswerSheet.{over, Wrote}
+use Rattle.writing.specs.AnswerSheet.{Wrote}
 use Rattle.stream.specs.declared.Clerk.{Clerk}
 use Rattle.stream.specs.declared.Fed.{Fed}
 use Rattle.stream.specs.Onward.{closing}

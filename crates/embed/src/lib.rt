@@ -9,11 +9,10 @@ use text::sheet::ROOM;
 ghost use mathlib.Core.Path.{_≡_};
 ghost use Prim.Native.Nat.{_+_, _≤_};
 ghost use lib.ListN.{length};
-ghost use Rattle.writing.specs.AnswerSheet.{over, Wrote};
-ghost use Rattle.stream.specs.Feeding.{Held, longestAnswer};
-ghost use Rattle.packed.specs.Layout.{clerkFrom};
+ghost use Rattle.writing.specs.AnswerSheet.{Wrote};
+ghost use Rattle.stream.specs.Feeding.{longestAnswer};
 ghost use Rattle.desk.specs.Log.{outputIn};
-ghost use Rattle.embed.specs.Lent.{stateSize, KeptState, bufferIn, startCode, callCode, StartedIn, CalledIn, FedIn, closingIn, ClosedIn};
+ghost use Rattle.embed.specs.Lent.{stateSize, KeptState, startCode, callCode, StartedIn, CalledIn, FedIn, closingIn, ClosedIn};
 
 // A whole log, sheet and entries: its answers at the front of the lent bytes, and how many bytes they are. A block whose answer finds no room is refused with 12:
 // nothing is written for it and the table stays.

@@ -1,29 +1,28 @@
 -- What a line makes whole, case by case, and that a frame stays one that can go on. For the proofs of the functions. Assumes nothing.
 use Prim.Native.Nat.{ℕ, _+_, _-_, _≤_, _<_}
 use mathlib.Core.Bool.{Bool, true, false, false≢true}
-use mathlib.Core.Path.{_≡_, refl, sym, ap, subst, _∙_}
+use mathlib.Core.Path.{_≡_, sym, ap, subst, _∙_}
 use mathlib.Core.List.{List}
 use mathlib.Core.Logic.{⊎-elim}
 use native.Mathlib.Omega.{arith}
 use lib.ListN.{length, take, drop, length-append, length-take, length-drop}
 use lib.Seq.{drop-append-le, take-at}
 use lib.Dec.{eqb, ltb}
-use borrow.Author.Tests.{ltb-true, ltb-false, lt-ltb, le-ltb, eq-eqb, ne-eqb, eqb-true}
+use borrow.Author.Tests.{ltb-true, lt-ltb, le-ltb, eq-eqb, ne-eqb}
 use Rattle.laws.specs.Tests.{pick}
 use Rattle.laws.proofs.Tests.{test}
 use Rattle.writing.specs.AnswerSheet.{over}
 use Rattle.text.specs.declared.Number.{Number}
-use Rattle.text.specs.declared.Number.the-variants.{Value, Bad}
+use Rattle.text.specs.declared.Number.the-variants.{Value}
 use Rattle.text.specs.TableSheet.{sheetLines}
 use Rattle.lines.specs.declared.Fill.{Fill}
 use Rattle.lines.specs.declared.Progress.{Progress}
-use Rattle.lines.specs.Kept.{Kept, nothing, Gathered, gatherOf, keepAll, keptIn, fillOf, progressOf, Room, keptMost}
+use Rattle.lines.specs.Kept.{Kept, nothing, Gathered, gatherOf, keptIn, fillOf, progressOf, Room, keptMost}
 use Rattle.lines.proofs.Keeps.{empty-room}
 use Rattle.lines.proofs.Cut.{cap, kept-bytes}
 use Rattle.lines.proofs.Gathers.{gather-keeps}
 use Rattle.frames.specs.declared.Frame.{Frame}
 use Rattle.frames.specs.declared.Next.{Next}
-use Rattle.frames.specs.declared.Heard.{Heard}
 use Rattle.frames.specs.Frames.{tableIn, tableOf, wanted, keptNext, tableNext, otherNext, lineNext, lastLine, endWhat, startOf, Held, wholeHeard, keptHeard, heardAs}
 
 -- ---- the table of a number

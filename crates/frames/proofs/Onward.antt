@@ -8,7 +8,7 @@ use mathlib.Core.Logic.{⊎-elim}
 use native.Mathlib.Omega.{arith}
 use lib.ListN.{length, take, drop, length-append, length-take}
 use lib.Seq.{take-append-seam}
-use lib.Dec.{eqb, ltb, leb}
+use lib.Dec.{eqb, ltb}
 use borrow.Author.Tests.{ltb-true, ltb-false, lt-ltb, le-ltb, le-leb, lt-leb}
 use Rattle.laws.specs.Tests.{pick}
 use Rattle.laws.specs.Lists.{whole}
@@ -16,7 +16,7 @@ use Rattle.laws.proofs.Tests.{test}
 use Rattle.writing.specs.AnswerSheet.{over}
 use Rattle.lines.specs.Kept.{Kept, nothing, keepOf, Gathered, gatherOf, keptIn, fillOf}
 use Rattle.lines.proofs.Keeps.{kept-back}
-use Rattle.lines.proofs.Cut.{keep-lf, keep-in, keep-out}
+use Rattle.lines.proofs.Cut.{keep-in, keep-out}
 use Rattle.lines.proofs.Gathers.{gather-ends, gather-goes, lines-lf, lines-on}
 use Rattle.frames.specs.declared.Frame.{Frame}
 use Rattle.frames.specs.declared.Next.{Next}

@@ -5,7 +5,7 @@
 -- What any bytes are cut into, as they come, oldest first. Of each line 33 bytes are kept, as at a lone table. Assumes nothing.
 use Prim.Native.Nat.{ℕ, _+_, _-_, _≤_, _<_}
 use mathlib.Core.List.{List, [], _∷_, _++_}
-use mathlib.Core.Bool.{Bool, true, false}
+use mathlib.Core.Bool.{true, false}
 use lib.ListN.{length, drop}
 use lib.Dec.{eqb, ltb}
 use Rattle.laws.specs.Tests.{pick}
@@ -13,7 +13,6 @@ use Rattle.text.specs.declared.Number.{Number}
 use Rattle.text.specs.declared.Number.the-variants.{Value, Bad}
 use Rattle.text.specs.Line.{lineNumber}
 use Rattle.text.specs.TableSheet.{sheetLines}
-use Rattle.lines.specs.declared.Fill.{Fill}
 use Rattle.lines.specs.Kept.{Kept, nothing, keepOf, Gathered, fillOf, Room}
 use Rattle.frames.specs.declared.Frame.{Frame}
 use Rattle.frames.specs.declared.Next.{Next}

@@ -11,7 +11,7 @@ ghost use Prim.Native.Nat.{_+_, _-_, _≤_, _<_};
 ghost use lib.ListN.{length};
 ghost use Rattle.laws.specs.Tests.{pick};
 ghost use Rattle.writing.specs.AnswerSheet.{over};
-ghost use Rattle.lines.specs.Kept.{nothing, fillOf, gatherOf, keptIn, Room, keptMost};
+ghost use Rattle.lines.specs.Kept.{nothing, fillOf, gatherOf, keptIn, keptMost};
 ghost use Rattle.frames.specs.Frames.{tableIn, tableOf, wanted, lastDue, keptNext, tableNext, otherNext, lineNext, endWhat, startOf, Held, heardAs};
 
 // What is due: 0 the pool's line, 1 and 2 the sheets of the tables, 3 a `table` line, 4 a `table` line within a run of lines of no table, 5 and 6 the lines of a block

@@ -1,5 +1,5 @@
 -- What every table of a fresh reading has: the sheet, and where every entry was taken their count. Assumes nothing.
-use mathlib.Core.Path.{_≡_, refl, sym, ap, _∙_}
+use mathlib.Core.Path.{_≡_, refl, ap, _∙_}
 use mathlib.Core.Bool.{Bool, true, false}
 use Prim.Native.Nat.{ℕ, zero, suc, _+_}
 use native.Mathlib.Omega.{arith}
@@ -14,7 +14,7 @@ use Rattle.table.specs.Take.{codeOf, nextOf, appliedTo}
 use Rattle.table.specs.declared.table.Table.{Table}
 use Rattle.table.proofs.Standing.{sheet-applied}
 use Rattle.table.proofs.Refusals.{taken-counted}
-use Rattle.fresh.specs.Reading.{begunOf, playedOf, playedFrom, playedTo}
+use Rattle.fresh.specs.Reading.{playedOf, playedTo}
 use Rattle.fresh.specs.declared.Played.{Played}
 
 pub next-sheet : (t : Table) (n : ℕ) (e : Entry) → nextOf t n e .sheet ≡ t .sheet

@@ -18,7 +18,6 @@ use Rattle.cards.specs.Cards.{inRow}
 use Rattle.cards.specs.Hands.{hand}
 use Rattle.cards.specs.Order.{choices}
 use Rattle.cards.specs.declared.Hand.{Hand}
-use Rattle.laws.specs.Listing.{those}
 use Rattle.ladder.specs.Ladder.{ranks, besides, rows, isStraight, odds, twice, ranksIn, classes, ladder, tops, rowFrom, straightFlushes, fours, fulls, flushes, straights, threes, twoPairs, pairs, oddCards}
 use Rattle.ladder.specs.Reckoned.{up, less, twoBelow, threeBelow, fallingFrom, falling, apart, rowPlace, besidePlace, fourPlace, fullPlace, oddPlace, threePlace, twoPairPlace, pairPlace, reckonedAs, reckoned}
 use Rattle.laws.proofs.Members.{count-has, those-has, each-has}

@@ -12,7 +12,7 @@ ghost use Prim.Native.Nat.{_+_, _-_, _≤_};
 ghost use lib.Dec.{eqb};
 ghost use Rattle.cards.specs.Cards.{inRow};
 ghost use Rattle.ladder.specs.Ladder.{ranksIn, isStraight, placeOf, keptOf};
-ghost use Rattle.ladder.specs.Reckoned.{chosenOf, up, less, twoBelow, threeBelow, fiveBelow, falling, apart, rowPlace, besidePlace, fourPlace, fullPlace, rowsBelow, oddPlace, threePlace, twoPairPlace, pairPlace, reckoned};
+ghost use Rattle.ladder.specs.Reckoned.{chosenOf, up, less, twoBelow, threeBelow, fiveBelow, falling, apart, rowPlace, besidePlace, fourPlace, fullPlace, rowsBelow, oddPlace, threePlace, twoPairPlace, pairPlace};
 
 // How many choices of one, two, three, four and five there are of n; 0 where n is above 12. By products: a table of them would be laid on the stack at each
 // reading.

@@ -1,11 +1,11 @@
 -- A block judged, answered and kept, step by step. Assumes nothing.
 use mathlib.Core.Path.{_≡_, refl, sym, ap, _∙_, subst}
-use mathlib.Core.Bool.{Bool, true, false, not}
-use mathlib.Core.List.{List, [], _∷_}
-use Prim.Native.Nat.{ℕ, _+_, _-_, _≤_, _<_, _^_}
+use mathlib.Core.Bool.{Bool, true, false}
+use mathlib.Core.List.{List, []}
+use Prim.Native.Nat.{ℕ, _+_, _-_, _≤_}
 use native.Mathlib.Omega.{arith}
 use lib.ListN.{length}
-use lib.Dec.{eqb, ltb, leb}
+use lib.Dec.{eqb, leb}
 use borrow.Author.Tests.{le-leb, leb-true}
 use Rattle.laws.specs.Tests.{pick, both, either}
 use Rattle.paper.specs.SheetAndEntries.{made}
@@ -27,7 +27,6 @@ use Rattle.desk.proofs.Laws.{small-none}
 use Rattle.ledger.specs.Keeping.{wasTaken, answeredAs, handsAfter, logAfter, indexKept}
 use Rattle.ledger.specs.Entering.{isFull, numbersIn, heldBack, judgedEntry}
 use Rattle.ledger.specs.declared.Book.{Book}
-use Rattle.ledger.specs.declared.Answered.{Answered}
 use Rattle.ledger.specs.Righting as righting
 
 -- ---- an entry judged

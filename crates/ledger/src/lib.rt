@@ -33,7 +33,7 @@ ghost use Rattle.writing.specs.AnswerSheet.{sheetAfter, writtenOf};
 ghost use Rattle.table.specs.Take.{Sound};
 ghost use Rattle.desk.specs.Desk.{judgedBytes, numberOfBlock, SmallPaid, Closed};
 ghost use Rattle.ledger.specs.Keeping.{openedOf, Held, wasTaken, handsAfter, logAfter, indexKept, answeredAs};
-ghost use Rattle.ledger.specs.Entering.{judgedEntry, numbersIn, enteredOf, logEntered, indexEntered, sheetEntered};
+ghost use Rattle.ledger.specs.Entering.{enteredOf, logEntered, indexEntered, sheetEntered};
 ghost use Rattle.amends.specs.Righting.{numberOf};
 ghost use Rattle.ledger.specs.Righting.{logRighted, indexRighted, sheetRighted, rightedOf, answerOf, logOf, indexOf, sheetOf};
 ghost use Rattle.ledger.specs.Righting as righting;

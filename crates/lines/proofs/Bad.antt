@@ -1,7 +1,7 @@
 -- Request No. 9, "A line that grows past 32 bytes is marked bad": what is marked so has a line of more than 32 bytes, so a block of it is malformed and a sheet of it is bad.
 -- For any bytes. Assumes nothing.
 use mathlib.Core.Path.{_≡_, refl, sym, ap, subst, _∙_}
-use mathlib.Core.List.{List, [], _∷_, _++_}
+use mathlib.Core.List.{List, [], _∷_}
 use mathlib.Core.Bool.{Bool, true, false, true≢false}
 use mathlib.Core.Logic.{⊎-elim}
 use Prim.Native.Nat.{ℕ, zero, suc, _+_, _≤_, _<_}
@@ -11,7 +11,7 @@ use lib.Dec.{eqb, ltb}
 use borrow.Author.Tests.{ne-eqb, eqb-true, eqb-false}
 use Rattle.laws.specs.Tests.{pick}
 use Rattle.laws.proofs.Tests.{test}
-use Rattle.text.specs.Line.{lineLen, afterLine, afterLines, valueOf, lineNumber}
+use Rattle.text.specs.Line.{lineLen, afterLine, afterLines, lineNumber}
 use Rattle.text.specs.Number.{numberOf, wellFormed}
 use Rattle.text.specs.TableSheet.{sheetLines, sheetKeys, sheetNumber, isValue, sheetOf}
 use Rattle.text.specs.declared.Number.{Number}
@@ -19,9 +19,9 @@ use Rattle.text.specs.declared.Number.the-variants as number
 use Rattle.text.specs.declared.sheet.SheetRead.the-variants as read-as
 use Rattle.text.proofs.SheetLaws.{good-not, sheet-bad}
 use Rattle.blocks.specs.Block.{kindOf, lineKind, blockFrom, blockOf}
-use Rattle.blocks.specs.declared.Block.the-variants.{Raw, Malformed, Nothing}
+use Rattle.blocks.specs.declared.Block.the-variants.{Malformed}
 use Rattle.lines.specs.Kept.{Kept, nothing, badOf, keepOf, keepAll}
-use Rattle.lines.proofs.Cut.{lfs, keep-lf, keep-in, keep-out, lfs-lf, lfs-on, len-lf, len-on, after-lf, after-on, value-long}
+use Rattle.lines.proofs.Cut.{lfs, keep-lf, keep-in, keep-out, lfs-lf, lfs-on, len-on, after-lf, after-on, value-long}
 
 -- ---- a line that is too long
 

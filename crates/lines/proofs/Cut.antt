@@ -12,7 +12,7 @@ use borrow.Author.Tests.{ne-eqb, ltb-true, ltb-false, lt-ltb, le-ltb, leb-true, 
 use Rattle.laws.specs.Tests.{pick, both}
 use Rattle.text.specs.Line.{lineLen, lineOf, afterLine, lineEnded, hasKey, valueOf, afterLines}
 use Rattle.blocks.specs.Block.{blockOf}
-use Rattle.lines.specs.Kept.{Kept, nothing, badOf, keepOf, keepAll}
+use Rattle.lines.specs.Kept.{Kept, badOf, keepOf, keepAll}
 use Rattle.laws.proofs.Tests.{test}
 
 -- ---- what is kept, as a function of the bytes since the block began

@@ -1,7 +1,7 @@
 -- What is gathered of a part, for any count of lines: what its bytes do one by one; all of it where it ends no lines; else up to the LF of the last.
 -- For any bytes and any cut. Assumes nothing.
 use mathlib.Core.Path.{_≡_, refl, sym, ap, subst, _∙_}
-use mathlib.Core.List.{List, [], _∷_, _++_}
+use mathlib.Core.List.{List, [], _∷_}
 use mathlib.Core.Bool.{Bool, true, false}
 use mathlib.Core.Logic.{⊎-elim}
 use Prim.Native.Nat.{ℕ, zero, suc, _+_, _≤_, _<_}

@@ -56,7 +56,8 @@ front-sheet xs rest h = sheet-same (xs ++ rest) xs (λ k i. number k i)
 
 -- ---- a sheet without the LFs of all its lines is bad
 
-value-open : (key x : List ℕ) → ended x ≡ false → valueOf key x ≡ []
+-- a line without its LF has no value
+pub value-open : (key x : List ℕ) → ended x ≡ false → valueOf key x ≡ []
 unfolding valueOf
 value-open key x h =
     let e : lineEnded x ≡ false = ap (λ (t : Bool). both t (leb (lineLen x) 32)) (ended-is x ∙ h) in

@@ -19,13 +19,13 @@ use Rattle.paper.specs.declared.Entry.{Entry}
 use Rattle.paper.proofs.Codes.{between-in}
 use Rattle.text.specs.Line.{afterLine, lineNumber, numberLine, valueOf, afterLines}
 use Rattle.blocks.specs.Block.{restOf, placeIn, allLetters, isWord, kindOf, lineKind, blockFrom, blockOf}
-use Rattle.text.specs.Bytes.{eqList}
+use Rattle.laws.specs.Listing.{sameList}
 use Rattle.blocks.specs.Entry.{parsedOf}
 use Rattle.text.specs.declared.Number.{Number}
 use Rattle.text.specs.declared.Number.the-variants.{Value, Bad}
 use Rattle.blocks.specs.declared.Block.the-variants.{Raw, Nothing}
 use Rattle.blocks.specs.declared.Parsed.the-variants.{Read}
-use Rattle.text.proofs.Bytes.{eq-list}
+use Rattle.laws.proofs.Members.{same-list}
 use Rattle.blocks.proofs.Blocks.{block-five}
 use Rattle.text.proofs.Lines.{line-count}
 use Rattle.blocks.proofs.Bounds.{numbers-bounded}
@@ -101,11 +101,11 @@ module _ (k : ℕ) (rest : List ℕ) (h : k < 12) where
 -- a word that has a place in a table is the word there
 place-is : (ts : List (List ℕ)) (w : List ℕ) → placeIn ts w < length ts → getD ts (placeIn ts w) [] ≡ w
 place-is [] w h = absurd (omega arith)
-place-is (t ∷ ts) w h = go (eqList w t) refl h (λ i. place-is ts w i)
+place-is (t ∷ ts) w h = go (sameList w t) refl h (λ i. place-is ts w i)
   where
-    go : (b : Bool) → eqList w t ≡ b → pick b 0 (suc (placeIn ts w)) < suc (length ts) → (placeIn ts w < length ts → getD ts (placeIn ts w) [] ≡ w)
+    go : (b : Bool) → sameList w t ≡ b → pick b 0 (suc (placeIn ts w)) < suc (length ts) → (placeIn ts w < length ts → getD ts (placeIn ts w) [] ≡ w)
         → getD (t ∷ ts) (pick b 0 (suc (placeIn ts w))) [] ≡ w
-    go true e i r = sym (eq-list w t e)
+    go true e i r = sym (same-list w t e)
     go false e i r = r (omega arith)
 
 -- the word of a kind that was read

@@ -15,8 +15,8 @@ use Rattle.paper.specs.SheetAndEntries.{kindNames}
 use Rattle.paper.specs.declared.Numbers.{Numbers}
 use Rattle.text.specs.Number.{digits}
 use Rattle.text.specs.Line.{numberLine}
-use Rattle.text.specs.Bytes.{eqList}
-use Rattle.text.proofs.Bytes.{eq-list}
+use Rattle.laws.specs.Listing.{sameList}
+use Rattle.laws.proofs.Members.{same-list}
 use Rattle.text.proofs.Lines.{line-count}
 use Rattle.logs.specs.LogText.{wordLine, blockText}
 use Rattle.logs.specs.declared.entry.KindLine.{KindLine}
@@ -47,7 +47,7 @@ abbrev pub word : ℕ → List ℕ
 word k = wordLine (getD kindNames k [])
 
 abbrev right : ℕ → Bool
-right k = both (leb (at k .bytes) (length (at k .line))) (both (eqList (take (at k .bytes - 0) (at k .line)) (word k)) (leb (at k .bytes) 10))
+right k = both (leb (at k .bytes) (length (at k .line))) (both (sameList (take (at k .bytes - 0) (at k .line)) (word k)) (leb (at k .bytes) 10))
 
 all-right : allBelow 12 right ≡ true
 all-right = refl
@@ -56,12 +56,12 @@ all-right = refl
 pub kind-row : (k : ℕ) → k < 12 → (at k .bytes ≤ length (at k .line)) × (take (at k .bytes - 0) (at k .line) ≡ word k) × (at k .bytes ≡ length (word k)) × (at k .bytes ≤ 10)
 kind-row k h =
     let in-place = leb (at k .bytes) (length (at k .line)) in
-    let same = eqList (take (at k .bytes - 0) (at k .line)) (word k) in
+    let same = sameList (take (at k .bytes - 0) (at k .line)) (word k) in
     let few = leb (at k .bytes) 10 in
     let p = both-true in-place (both same few) (below-all 12 right all-right k h) in
     let q = both-true same few (p .1) in
     let fit : at k .bytes ≤ length (at k .line) = leb-true _ _ (p .0) in
-    let is = eq-list (take (at k .bytes - 0) (at k .line)) (word k) (q .0) in
+    let is = same-list (take (at k .bytes - 0) (at k .line)) (word k) (q .0) in
     let e : at k .bytes - 0 ≡ at k .bytes = omega arith in
     (fit, is, sym (length-take-le (at k .bytes) (at k .line) fit) ∙ ap (λ (i : ℕ). length (take i (at k .line))) (sym e) ∙ ap length is, leb-true _ _ (q .1))
 

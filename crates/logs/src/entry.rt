@@ -12,10 +12,9 @@ use writing::put_bytes;
 use writing::write_number_line;
 ghost use mathlib.Core.Path.{_≡_};
 ghost use mathlib.Core.List.{[]};
-ghost use Prim.Native.Nat.{_≤_, _<_, _^_};
+ghost use Prim.Native.Nat.{_≤_, _<_};
 ghost use lib.ListN.{length, getD};
-ghost use Rattle.paper.specs.SheetAndEntries.{kindNames, numbersOf};
-ghost use Rattle.text.specs.Line.{numberLine};
+ghost use Rattle.paper.specs.SheetAndEntries.{kindNames};
 ghost use Rattle.writing.specs.AnswerSheet.{Wrote};
 ghost use Rattle.logs.specs.LogText.{wordLine, blockText, entryText, isEntry, putOf, putAfter, SmallEntry};
 

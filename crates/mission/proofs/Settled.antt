@@ -1,6 +1,6 @@
 -- Demand 3 at settlement, by sitting: payments, commission, drop and unclaimed chips make up all that was put in; no sitting is paid more than the sum of
 -- min(its total, theirs); and what the table shows as returned is what the clerk finds. For every sheet and every list of taken entries. Assumes nothing.
-use Prim.Native.Nat.{ℕ, suc, _+_, _≤_, _<_, min, max}
+use Prim.Native.Nat.{ℕ, suc, _+_, _≤_, _<_, max}
 use mathlib.Core.Bool.{Bool, true, false}
 use mathlib.Core.Path.{_≡_, refl, sym, ap, _∙_}
 use mathlib.Core.List.{List, [], _∷_, map}
@@ -28,7 +28,7 @@ use Rattle.table.specs.Take.{codeOf, payoutOf}
 use Rattle.history.specs.History.{run, AllTaken, noteOf, sittingsTo, putIn, liveIn, puts, clerkBack}
 use Rattle.table.specs.declared.table.Table.{Table}
 use Rattle.chairs.proofs.Over.{sumOver, keyed-at}
-use Rattle.history.proofs.Told.{dealer, deals, totals}
+use Rattle.history.proofs.Told.{dealer, deals}
 use Rattle.history.proofs.Clerk.{after}
 use Rattle.table.proofs.Closing.{col-at}
 use Rattle.history.proofs.BySitting.{totals-told, stakes-told}

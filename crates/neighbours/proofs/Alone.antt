@@ -25,7 +25,7 @@ use Rattle.pool.specs.Jackpot.{openedWith}
 use Rattle.shared.specs.Shared.{bytesAt}
 use Rattle.frames.specs.Frames.{Piece, Whole, Cut, OfNone, Missing, piecesOf}
 use Rattle.couple.specs.declared.Pair.{Pair}
-use Rattle.couple.specs.Couple.{isSecond, tableAt, startOf, shownBytes, lastBytes, Given, still, refused, poolKey, houseKey, poolDone, sheetDone}
+use Rattle.couple.specs.Couple.{isSecond, tableAt, startOf, shownBytes, lastBytes, Given, still, poolKey, houseKey, poolDone, sheetDone}
 use Rattle.pairs.specs.Pairs.{answered, cutLines, wholeDone, pieceDone, pieceIn, ran, outputOf}
 use Rattle.pairs.specs.Alone.{sameTable}
 use Rattle.neighbours.specs.Blanked.{blankedIn, blanked}

@@ -1,6 +1,6 @@
 -- What the supervisor's page keeps between two blocks, and what each block does to it: for each sitting what it has brought, put in and been paid, what it takes home;
 -- what each seat put in by round and how its hand ended; the blocks by code; hands, fees, drops and what nobody claimed. Assumes nothing.
-use Prim.Native.Nat.{ℕ, zero, suc, _+_, _-_}
+use Prim.Native.Nat.{ℕ, suc, _+_, _-_}
 use mathlib.Core.Bool.{Bool, true, false}
 use mathlib.Core.List.{List, [], _∷_, map}
 use lib.Dec.{ltb, eqb}

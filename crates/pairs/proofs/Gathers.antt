@@ -15,7 +15,7 @@ use lib.ListN.{length, take, drop, length-drop}
 use borrow.Rule.Slice.PartMut.{midOf}
 use Rattle.text.proofs.Parts.{part-is}
 use Rattle.writing.specs.AnswerSheet.{over}
-use Rattle.lines.specs.Kept.{Gathered, gatherOf, keptIn, keptMost}
+use Rattle.lines.specs.Kept.{gatherOf, keptIn, keptMost}
 use Rattle.frames.specs.declared.Frame.{Frame}
 use Rattle.frames.specs.declared.Heard.{Heard}
 use Rattle.frames.specs.Frames.{Piece, Framed, pieceOf, Held, heardAs}

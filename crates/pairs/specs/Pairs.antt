@@ -9,7 +9,7 @@ use Rattle.laws.specs.Tests.{pick, both}
 use Rattle.text.specs.Line.{lineNumber}
 use Rattle.text.specs.TableSheet.{sheetOf}
 use Rattle.table.specs.declared.table.Table.{Table}
-use Rattle.lines.specs.Kept.{Kept, keptIn}
+use Rattle.lines.specs.Kept.{keptIn}
 use Rattle.shared.specs.Shared.{judgedAt, settledAt, bytesAt}
 use Rattle.frames.specs.declared.Frame.{Frame}
 use Rattle.frames.specs.declared.Heard.{Heard}

@@ -1,6 +1,5 @@
 -- The refusal numbers are those of document 01's table, from 0 at its top to 12: a name with another number is refused here. Assumes nothing.
-use Prim.Native.Nat.{ℕ}
-use mathlib.Core.List.{List, [], _∷_}
+use mathlib.Core.List.{[], _∷_}
 use mathlib.Core.Path.{_≡_, refl}
 use Rattle.paper.specs.RefusalNumbers.{column}
 

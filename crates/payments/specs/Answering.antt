@@ -2,7 +2,7 @@
 -- line that is no `give` line"; "the first line that is no `give` line ends it and is then read as any other"; "each block has one answer, behind its `give` lines, also a
 -- faulty one"; "a fault here: `code=2` and the end"; "Bytes behind the last LF are no line; in the tray they are a fault". Assumes nothing.
 use Prim.Native.Nat.{ℕ}
-use mathlib.Core.Bool.{Bool, true, false, not}
+use mathlib.Core.Bool.{Bool, true, not}
 use mathlib.Core.List.{List, [], _++_}
 use lib.ListN.{set}
 use lib.Dec.{eqb, ltb}

@@ -10,10 +10,10 @@ use borrow.Author.Tests.{leb-true, eqb-true}
 use Rattle.laws.specs.Tests.{both}
 use Rattle.laws.proofs.Tests.{both-true}
 use Rattle.laws.proofs.Rules.{allBelow, below-all}
-use Rattle.text.specs.Bytes.{eqList}
+use Rattle.laws.specs.Listing.{sameList}
 use Rattle.text.specs.Line.{valueOf}
 use Rattle.text.specs.declared.Number.{Number}
-use Rattle.text.proofs.Bytes.{eq-list}
+use Rattle.laws.proofs.Members.{same-list}
 use Rattle.figures.specs.Words.{bytes, refusals}
 use Rattle.picture.specs.Lines.{keys, lineKinds, mosts, numberAs, lineWith, lineAt, Answering, noLine}
 use Rattle.picture.specs.declared.Line.{Line}
@@ -43,7 +43,7 @@ keyAt k = getD keyTable k (key [] 0 0)
 abbrev key-right : ℕ → Bool
 key-right k =
     both (leb (keyAt k .count) (length (keyAt k .letters)))
-    (both (eqList (take (keyAt k .count - 0) (keyAt k .letters)) (getD keys k []))
+    (both (sameList (take (keyAt k .count - 0) (keyAt k .letters)) (getD keys k []))
     (both (eqb (keyAt k .most) (getD mosts k 0)) (leb (getD mosts k 0) 999_999_999)))
 
 keys-right : allBelow lineKinds key-right ≡ true
@@ -55,7 +55,7 @@ key-row k h =
     let p = both-true _ _ (below-all lineKinds key-right keys-right k h) in
     let q = both-true _ _ (p .1) in
     let r = both-true _ _ (q .1) in
-    (leb-true _ _ (p .0), eq-list _ _ (q .0), eqb-true _ _ (r .0), leb-true _ _ (r .1))
+    (leb-true _ _ (p .0), same-list _ _ (q .0), eqb-true _ _ (r .0), leb-true _ _ (r .1))
 
 -- what the reading of a line by its key answered
 pub line-said : (k : ℕ) (bs : List ℕ) {x : Number} {r : Line} → k < lineKinds → x ≡ numberAs k (valueOf (take (keyAt k .count - 0) (keyAt k .letters)) bs)

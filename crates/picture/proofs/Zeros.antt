@@ -1,7 +1,7 @@
 -- The zeros in front of a number are passed one by one; and a number in nine digits, as the box writes it, is read back (`nine-read`). Assumes nothing.
 use mathlib.Core.Path.{_≡_, refl, sym, ap, _∙_}
 use mathlib.Core.List.{List, [], _∷_, _++_, append-assoc}
-use mathlib.Core.Bool.{Bool, true, false, not, true≢false}
+use mathlib.Core.Bool.{Bool, true, false, true≢false}
 use mathlib.Core.Logic.{⊎-elim}
 use Prim.Native.Nat.{ℕ, zero, suc, _+_, _-_, _≤_, _<_, _^_}
 use native.Mathlib.Numerals.{add-one}
@@ -10,11 +10,11 @@ use lib.ListN.{length, getD, drop, replicate, length-drop}
 use lib.Seq.{drop-cons}
 use lib.Dec.{eqb, leb, ltb}
 use borrow.Author.Tests.{eq-eqb, ne-eqb, eqb-true, eqb-false, lt-ltb, ltb-true, not-true}
-use Rattle.laws.specs.Tests.{pick, both}
+use Rattle.laws.specs.Tests.{both}
 use Rattle.laws.proofs.Tests.{both-true}
 use Rattle.laws.proofs.Sums.{le-or-lt}
 use Rattle.text.specs.Number.{allDigits, digits, leadsWell, wellFormed}
-use Rattle.text.specs.declared.Number.the-variants.{Value, Bad}
+use Rattle.text.specs.declared.Number.the-variants.{Value}
 use Rattle.text.proofs.Numbers.{digits-formed, read-digits}
 use Rattle.text.proofs.RoundTrip.{NoLF, no-append, no-number}
 use Rattle.writing.specs.Nine.{nineDigits, nineLine}

@@ -6,7 +6,7 @@ use laws::short_of;
 use paper::BAD_SHEET;
 use paper::when;
 ghost use mathlib.Core.Path.{_≡_};
-ghost use Rattle.pool.specs.Jackpot.{fitsIn, houseOf, fedBy, winOf, settledPool, openedWith};
+ghost use Rattle.pool.specs.Jackpot.{fitsIn, houseOf, fedBy, settledPool, openedWith};
 
 // The most that the pool may hold: nine digits.
 pub const MOST: u32 = 999999999;

@@ -4,7 +4,7 @@
 --     seventeen-iff        17 exactly if all is within its bounds and something stays unpaid
 --     silent               with any answer but 0 the lent list is as it was
 -- and the example where the proposer says 17 and another payment exists. Assumes nothing.
-use Prim.Native.Nat.{ℕ, zero, suc, _+_, _-_, _*_, _≤_, _<_, zero-le}
+use Prim.Native.Nat.{ℕ, zero, suc, _+_, _-_, _*_, _≤_, _<_}
 use mathlib.Core.Path.{_≡_, refl, sym, ap, _∙_}
 use mathlib.Core.Bool.{Bool, true, false}
 use mathlib.Core.Logic.{⊎-elim}
@@ -21,8 +21,8 @@ use Rattle.tray.specs.Counting.{sumTo, allTo, listTo}
 use Rattle.tray.specs.Proposal.{given, worthGiven, takenFrom, judged, accepted, fits, paysAll, holdsAll, outOfBounds}
 use Rattle.tray.proofs.Sums.{sum-same, all-at, list-long, list-at}
 use Rattle.tray.proofs.Within.{Within, within, without}
-use Rattle.tray.proofs.Accepts.{Exactly, accepts-back}
-use Rattle.proposer.specs.Proposer.{served, servedTo, leftTo, takes, unpaidOf, orderOf, proposalTo, proposal, allPaid, proposing, listAfter, unpaid, written, rowAt, placeOf, takeRow}
+use Rattle.tray.proofs.Accepts.{accepts-back}
+use Rattle.proposer.specs.Proposer.{served, leftTo, takes, unpaidOf, orderOf, proposalTo, proposal, allPaid, proposing, listAfter, unpaid, written, rowAt, placeOf, takeRow}
 use Rattle.proposer.proofs.Sittings.{lefts-long}
 use Rattle.proposer.proofs.Worths.{value, served-worth, served-less, value-split}
 

@@ -1,17 +1,15 @@
 -- The proposer's loop over the sittings, a turn at a time: what each takes is written behind what those before it take. Assumes nothing.
-use Prim.Native.Nat.{ℕ, zero, suc, _+_, _-_, _*_, _≤_, _<_}
+use Prim.Native.Nat.{ℕ, zero, suc, _+_, _-_, _*_, _≤_}
 use mathlib.Core.Path.{_≡_, refl, sym, ap, _∙_}
 use mathlib.Core.Bool.{Bool, true, false}
-use mathlib.Core.List.{List, [], _∷_, _++_, append-assoc}
-use native.Mathlib.Nat.{suc-mul, mul-le-mul-right}
+use mathlib.Core.List.{List, _++_}
+use native.Mathlib.Nat.{suc-mul}
 use native.Mathlib.Numerals.{add-one}
 use native.Mathlib.Omega.{arith}
-use lib.Dec.{eqb}
 use lib.ListN.{length, getD, take}
-use lib.Seq.{ext-getD, length-take-le, take-append-add, take-all}
+use lib.Seq.{ext-getD, length-take-le, take-append-add}
 use borrow.Rule.Slice.PartMut.{putMid}
-use Rattle.laws.specs.Tests.{pick}
-use Rattle.tray.specs.Counting.{listTo, eachBy, allTo}
+use Rattle.tray.specs.Counting.{listTo, eachBy}
 use Rattle.tray.specs.Proposal.{fits}
 use Rattle.tray.proofs.Front.{each-long, each-at}
 use Rattle.tray.proofs.Sums.{list-long, list-at}

@@ -11,7 +11,7 @@ use Rattle.laws.proofs.Sums.{le-or-lt}
 use Rattle.tray.specs.Counting.{sumTo}
 use Rattle.tray.proofs.Sums.{sum-same}
 use Rattle.proposer.specs.Proposer.{asMany, takeRow, servedTo, LeftAndOwed}
-use Rattle.proposer.proofs.Steps.{many-fits, row-long, served-long}
+use Rattle.proposer.proofs.Steps.{many-fits, served-long}
 
 -- two sums that differ at one place
 pub sum-but : (n : ℕ) (f g : ℕ → ℕ) (i : ℕ) → i < n → ((j : ℕ) → (j ≡ i → ⊥) → f j ≡ g j) → sumTo n g + f i ≡ sumTo n f + g i

@@ -1,8 +1,8 @@
 -- What is written is read back: the record of an entry's numbers, wherever it stands in a log (record-back). Assumes nothing.
 use mathlib.Core.Path.{_≡_, refl, sym, _∙_, ap}
-use Prim.Native.Nat.{ℕ, _+_, _-_, _*_, _/_, _%_, _≤_, _<_, _^_}
+use Prim.Native.Nat.{ℕ, _+_, _-_, _*_, _/_, _%_, _<_, _^_}
 use mathlib.Core.Bool.{true}
-use mathlib.Core.List.{List, [], _∷_, _++_}
+use mathlib.Core.List.{List, _++_}
 use lib.ListN.{length, getD, length-append}
 use lib.Seq.{getD-append-add}
 use native.Mathlib.Omega.{arith}
@@ -11,7 +11,6 @@ use Rattle.paper.specs.declared.Entry.{Entry}
 use Rattle.paper.specs.declared.Entry.the-variants.{Sit, Leave, Hand, Hole, Fold, Check, Call, Wager, Board, Dead, Settle, Void}
 use Rattle.paper.specs.SheetAndEntries.{numbersOf}
 use Rattle.blocks.specs.Entry.{entryAt}
-use Rattle.records.specs.declared.Record.{Record}
 use Rattle.records.specs.Bytes.{wordAt}
 use Rattle.records.specs.Stored.{recordAt, recordBytes, entryBy}
 use Rattle.records.proofs.Found.{present}

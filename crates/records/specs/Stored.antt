@@ -1,9 +1,9 @@
 -- Request No. 12: "Keep the log in a lent buffer of fixed-size records .. with an index beside it: for each hand, where it starts and each stack then."
 -- A record is 8 bytes: kind (0 to 11 in 01's order), seat, b, 0, a (four bytes, low first); the entry's n is its place, counted from 1. A row is 44 bytes: the n of
 -- the `hand` entry, then ten stacks before the blinds, four bytes each, low first. Assumes nothing.
-use Prim.Native.Nat.{ℕ, _+_, _-_, _*_, _/_, _%_}
+use Prim.Native.Nat.{ℕ, _+_, _-_, _*_, _%_}
 use mathlib.Core.Bool.{true, false}
-use mathlib.Core.List.{List, [], _∷_, _++_}
+use mathlib.Core.List.{List, _∷_, _++_}
 use lib.ListN.{length, getD}
 use lib.Dec.{ltb}
 use Rattle.laws.specs.Tests.{pick}

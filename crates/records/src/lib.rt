@@ -8,7 +8,7 @@ ghost use mathlib.Core.Path.{_≡_};
 ghost use Prim.Native.Nat.{_+_, _-_, _*_, _/_, _%_, _≤_, _<_};
 ghost use lib.ListN.{length};
 ghost use Rattle.writing.specs.AnswerSheet.{Wrote};
-ghost use Rattle.records.specs.Bytes.{wordBytes, wordsBytes, putAt};
+ghost use Rattle.records.specs.Bytes.{wordBytes, wordsBytes};
 ghost use Rattle.records.specs.Stored.{recordAt, recordIn, entryBy, entryIn, recordBytes, putRecord, rowBytes, putRow};
 ghost use Rattle.records.specs.Reading.{after, movedTo, laterOf, lastHand};
 

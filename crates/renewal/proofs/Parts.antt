@@ -12,14 +12,13 @@ use lib.Dec.{ltb, leb}
 use borrow.Author.Tests.{ltb-true, leb-true, leb-false, lt-ltb}
 use borrow.Rule.Slice.PartMut.{midOf, putMid, same-len-mid}
 use Rattle.laws.specs.Tests.{both, pick}
-use Rattle.laws.proofs.Tests.{test, both-true}
+use Rattle.laws.proofs.Tests.{both-true}
 use Rattle.laws.proofs.Sums.{le-or-lt}
 use Rattle.writing.proofs.Sheets.{then}
 use Rattle.renewal.proofs.Steps.{true-false}
 use Rattle.renewal.specs.declared.Renewal.{Renewal}
 use Rattle.renewal.specs.declared.Stepped.{Stepped}
-use Rattle.renewal.specs.declared.Given.{Given}
-use Rattle.renewal.specs.Renewing.{Step, still, andThen, stepOf, closeOf, givenOf, startOf, closed, renewed, InSheet, givenMost}
+use Rattle.renewal.specs.Renewing.{Step, still, andThen, stepOf, givenOf, startOf, closed, renewed, InSheet, givenMost}
 use Rattle.renewal.specs.Parts.{whole, partsGiven, givenBy, Gave, GivenOn, goesOn}
 
 then-assoc : (x y z : Step) → andThen (andThen x y) z ≡ andThen x (andThen y z)

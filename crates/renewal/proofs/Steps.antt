@@ -1,10 +1,10 @@
 -- The lines that a sheet lacks, byte for byte, and what a byte and the close give: what a test on the way decides. For the proofs of the functions. Assumes nothing.
 use Prim.Native.Nat.{ℕ, zero, suc, _+_, _-_, _≤_, _<_}
-use mathlib.Core.Bool.{Bool, true, false, not}
+use mathlib.Core.Bool.{Bool, true, false}
 use mathlib.Core.Path.{_≡_, refl, sym, ap, subst, _∙_}
 use mathlib.Core.List.{List, [], _∷_, _++_}
 use native.Mathlib.Omega.{arith}
-use lib.ListN.{length, drop, set, length-drop}
+use lib.ListN.{length, set, length-drop}
 use lib.Dec.{eqb, ltb, leb}
 use borrow.Author.Tests.{eq-eqb, ne-eqb, eqb-false, leb-false}
 use borrow.Rule.Slice.PartMut.{midOf, putMid}

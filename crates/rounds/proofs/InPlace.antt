@@ -7,29 +7,23 @@ use mathlib.Core.List.{List, [], _∷_, _++_, map, append-nil}
 use Prim.Native.Nat.{ℕ, _+_, _≤_, _<_}
 use native.Mathlib.Omega.{arith}
 use lib.Dec.{eqb, leb}
-use lib.ListN.{length, drop, length-take, drop-of-length-le}
+use lib.ListN.{length, drop}
 use borrow.Author.Tests.{eqb-true, eqb-false, le-ltb, leb-true, leb-false}
 use Rattle.laws.specs.Tests.{pick, both}
 use Rattle.laws.proofs.Tests.{both-true, test}
 use Rattle.laws.proofs.Sums.{le-or-lt}
 use Rattle.text.specs.Number.{numberOf, wellFormed}
-use Rattle.text.specs.Line.{lineLen, lineOf, lineEnded, hasKey, valueOf, afterLine, lineNumber, afterLines}
+use Rattle.text.specs.Line.{afterLine, lineNumber, afterLines}
 use Rattle.text.specs.TableSheet.{isValue, valueIn}
 use Rattle.writing.specs.AnswerSheet.{Wrote}
-use Rattle.cuts.proofs.Lines.{lfs, keepAll, keep-append, snoc, lfs-lf, lfs-on, kept-lines, ended, ended-is, lfs-append, lfs-after, lines-lfs, lines-last}
+use Rattle.lines.proofs.Whole.{value-open}
+use Rattle.cuts.proofs.Lines.{lfs, keepAll, keep-append, snoc, lfs-lf, lfs-on, kept-lines, ended, lfs-append, lfs-after, lines-lfs, lines-last}
 use Rattle.rounds.specs.RoundText.{keys, readings, allValues, goodForm, numbersOf, judgedOf}
 use Rattle.rounds.specs.RoundAnswer.{outcomeBytes, answerBytes}
 use Rattle.rounds.specs.RoundParts.{Kept, nothing, keepOf, Gathered, gatherOf, stateOf, keptAfter, bytesAfter}
 use Rattle.banked.specs.declared.judged.Outcome.{Outcome}
 use Rattle.rounds.specs.declared.parts.Fill.{Fill}
 use Rattle.rounds.proofs.Whole.{kept-cut, ended-answer, last-lf}
-
-value-open : (key x : List ℕ) → ended x ≡ false → valueOf key x ≡ []
-unfolding valueOf
-value-open key x h =
-    let e : lineEnded x ≡ false = ap (λ (t : Bool). both t (leb (lineLen x) 32)) (ended-is x ∙ h) in
-    ap (λ (t : Bool). drop (pick (both t (hasKey key (lineOf x))) (length key + 1) (lineLen x)) (lineOf x)) e
-    ∙ drop-of-length-le (lineOf x) {i = lineLen x} (omega (arith, length-take (lineLen x) x))
 
 ended-some : (l : List ℕ) → ended l ≡ true → 1 ≤ lfs l
 ended-some [] e = absurd (eqb-false 1 0 refl (ap (λ (t : Bool). pick t 0 1) e))

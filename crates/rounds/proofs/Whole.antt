@@ -17,7 +17,7 @@ use Rattle.text.specs.declared.Number.{Number}
 use Rattle.cuts.proofs.Lines.{cap, lfs, keepAll, keep-append, cap-lf, cap-in, snoc, kept-bytes, lfs-lf, lfs-on, kept-lines, value-same, cap-after, cap-value, lfs-append, after-front, lfs-after, front-line, lines-none, lines-last}
 use Rattle.rounds.specs.RoundText.{keys, readings, goodForm, numbersOf}
 use Rattle.rounds.specs.RoundAnswer.{answerBytes, outputFrom, outputOf}
-use Rattle.rounds.specs.RoundParts.{Kept, nothing, keepOf, closeBytes, heardFrom}
+use Rattle.rounds.specs.RoundParts.{Kept, nothing, closeBytes, heardFrom}
 
 -- ---- an answer depends on the readings of the lines alone
 answer-same : (x y : List ℕ) → readings keys x ≡ readings keys y → answerBytes x ≡ answerBytes y

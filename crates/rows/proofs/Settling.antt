@@ -15,7 +15,7 @@ use Rattle.laws.specs.Tests.{pick}
 use Rattle.laws.proofs.Tests.{test}
 use Rattle.laws.proofs.Sums.{le-or-lt}
 use Rattle.tray.specs.Counting.{eachBy}
-use Rattle.tray.specs.Proposal.{mostRows, outOfBounds, judged, countsAfter, takenFrom, lowered}
+use Rattle.tray.specs.Proposal.{mostRows, outOfBounds, judged, countsAfter, takenFrom}
 use Rattle.tray.proofs.Front.{each-long, each-at}
 use Rattle.tray.proofs.Within.{fits-many}
 use Rattle.tray.proofs.Judging.{judged-2, after-0, after-other}

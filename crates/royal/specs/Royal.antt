@@ -1,7 +1,7 @@
 -- Request No. 7: "A royal flush on five board cards in which two hole cards are needed, held by a live seat with all cards entered at `settle`". The five are two of
 -- the hole with three of the board: as all cards are different, neither of the two can be spared. Assumes nothing.
 use Prim.Native.Nat.{ℕ}
-use mathlib.Core.Bool.{Bool, true, false}
+use mathlib.Core.Bool.{Bool, false}
 use mathlib.Core.List.{List, [], _∷_}
 use lib.Dec.{eqb, ltb}
 use Rattle.laws.specs.Tests.{both, either}

@@ -11,12 +11,10 @@ use table::table::Table;
 ghost use mathlib.Core.Path.{_≡_};
 ghost use mathlib.Core.Bool.{true};
 ghost use mathlib.Core.List.{[], _∷_, _++_, map};
-ghost use Prim.Native.Nat.{_≤_};
 ghost use lib.ListN.{take};
 ghost use Rattle.paper.specs.Paper.{isGame};
 ghost use Rattle.cards.specs.Cards.{oneSuit};
 ghost use Rattle.cards.specs.Order.{choices};
-ghost use Rattle.cards.specs.Omaha.{fromBoth};
 ghost use Rattle.royal.specs.Royal.{isRoyal, anyRoyal, royalIn, holdsRoyal, royalSeats, royalNow};
 
 // Whether five cards are of one suit.

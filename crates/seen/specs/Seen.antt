@@ -1,8 +1,7 @@
 -- What is known after some bytes of a log, whole lines at a time: the sheet's, then a block's five. Assumes nothing.
 use Prim.Native.Nat.{ℕ, _<_}
-use mathlib.Core.Path.{_≡_}
 use mathlib.Core.Bool.{Bool, true, false, not}
-use mathlib.Core.List.{List, []}
+use mathlib.Core.List.{List}
 use lib.ListN.{length, take}
 use lib.Dec.{ltb, eqb}
 use Rattle.laws.specs.Tests.{pick, both, either}

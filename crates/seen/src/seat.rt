@@ -6,7 +6,7 @@ use table::table::Play;
 use table::table::Table;
 ghost use mathlib.Core.Path.{_≡_};
 ghost use Prim.Native.Nat.{_+_, _≤_};
-ghost use Rattle.chairs.specs.Chairs.{isHere, chipsOf};
+ghost use Rattle.chairs.specs.Chairs.{isHere};
 ghost use Rattle.table.specs.Take.{Sound};
 ghost use Rattle.seen.specs.Seats.{wordOf, leastFor, leastWager};
 

@@ -1,6 +1,6 @@
 -- Laws of a block at a table that shares a pool: how it is judged (`judged-right`, `judged-any`), what is shown of it (`shown-small`), and its answer (`answered-said`,
 -- `answered-kept`, `answered-none`). Assumes nothing.
-use mathlib.Core.Path.{_≡_, refl, sym, ap, subst, _∙_}
+use mathlib.Core.Path.{_≡_, sym, ap, subst, _∙_}
 use mathlib.Core.List.{List, []}
 use mathlib.Core.Bool.{Bool, true, false, false≢true}
 use Prim.Native.Nat.{ℕ, _≤_, _<_, _^_}
@@ -15,7 +15,6 @@ use Rattle.answers.specs.Answer.{SmallShown, answerBytes}
 use Rattle.answers.specs.declared.Shown.{Shown}
 use Rattle.table.specs.declared.table.Table.{Table}
 use Rattle.table.specs.Take.{Sound}
-use Rattle.table.specs.Settle.{noPayout}
 use Rattle.royal.specs.Royal.{royalNow}
 use Rattle.pool.specs.Jackpot.{most, settledPool, noHand}
 use Rattle.pool.specs.declared.Pool.{Pool}

@@ -1,7 +1,7 @@
 -- A table that shares a pool: no answer has more than 28 lines or 560 bytes (No. 8), the size reported beforehand is that of the bytes written, and nothing of the answer but
 -- the jackpot's nine digits hangs on the pool: not its length, so not code 12, nor the code, nor the table (No. 7). Assumes nothing.
 use mathlib.Core.Path.{_≡_, refl, sym, ap, _∙_}
-use mathlib.Core.List.{List, [], _++_}
+use mathlib.Core.List.{List, []}
 use mathlib.Core.Bool.{Bool, true, false}
 use Prim.Native.Nat.{ℕ, _+_, _≤_}
 use native.Mathlib.Omega.{arith}

@@ -23,12 +23,11 @@ use text::sheet::value_in;
 use writing::Written;
 ghost use mathlib.Core.Path.{_≡_};
 ghost use Prim.Native.Nat.{_≤_, _<_, _^_};
-ghost use lib.ListN.{length};
 ghost use Rattle.writing.specs.AnswerSheet.{sheetAfter, writtenOf};
 ghost use Rattle.answers.specs.Answer.{SmallShown};
 ghost use Rattle.table.specs.Take.{Sound};
-ghost use Rattle.pool.specs.Jackpot.{most, settledPool};
-ghost use Rattle.desk.specs.Desk.{shownOf, SmallPaid, Closed};
+ghost use Rattle.pool.specs.Jackpot.{most};
+ghost use Rattle.desk.specs.Desk.{SmallPaid, Closed};
 ghost use Rattle.shared.specs.Shared.{correctedNumber, judgedAt, handOf, withJackpot, shownAt, bytesAt, roomAt, said, kept, sharedFrom};
 
 // No answer at a table that shares a pool has more bytes; it has 28 lines at most.

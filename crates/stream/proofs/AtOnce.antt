@@ -2,28 +2,24 @@
 -- log, good sheet or bad, and any room for each answer. Assumes nothing.
 use Rattle.desk.specs.Log.{loneRead, openedOf}
 use mathlib.Core.Path.{_≡_, refl, sym, ap, subst, _∙_}
-use mathlib.Core.List.{List, [], _∷_, _++_}
-use mathlib.Core.Bool.{Bool, true, false}
+use mathlib.Core.List.{List, [], _∷_}
+use mathlib.Core.Bool.{Bool, false}
 use mathlib.Core.Logic.{⊎-elim}
-use Prim.Native.Nat.{ℕ, zero, suc, _+_, _-_, _≤_, _<_}
+use Prim.Native.Nat.{ℕ, zero, suc, _-_, _≤_, _<_}
 use native.Mathlib.Omega.{arith}
-use lib.ListN.{length, getD, take, drop, length-take, take-append-drop, drop-of-length-le}
+use lib.ListN.{length, take, drop, take-append-drop}
 use lib.Seq.{take-all}
-use lib.Dec.{eqb, leb}
+use lib.Dec.{eqb}
 use borrow.Author.Tests.{ne-eqb}
-use Rattle.laws.specs.Tests.{pick, both}
-use Rattle.laws.proofs.Tests.{test}
+use Rattle.laws.specs.Tests.{pick}
 use Rattle.laws.proofs.Sums.{le-or-lt}
-use Rattle.text.specs.Number.{numberOf, wellFormed}
-use Rattle.text.specs.Line.{lineLen, lineOf, lineEnded, hasKey, valueOf, afterLines}
-use Rattle.blocks.specs.Block.{restOf, blockOf}
-use Rattle.text.specs.TableSheet.{sheetLines, sheetKeys, sheetNumber, isValue, sheetOf, sheetEnd}
+use Rattle.blocks.specs.Block.{restOf}
+use Rattle.text.specs.TableSheet.{sheetLines, sheetOf, sheetEnd}
 use Rattle.text.specs.declared.sheet.SheetRead.{SheetRead}
 use Rattle.text.specs.declared.sheet.SheetRead.the-variants.{Read, Bad}
 use Rattle.blocks.proofs.Blocks.{rest-shorter}
-use Rattle.text.proofs.SheetLaws.{good-not, sheet-bad, sheet-same}
 use Rattle.lines.specs.Kept.{Kept, nothing, keepAll, Gathered, gatherOf}
-use Rattle.lines.proofs.Cut.{ended, cap, lfs, cap-lf, cap-in, kept-bytes, lfs-lf, lfs-on, ended-is, value-same, cap-lines, cap-value, lines-front, lines-lfs, front-line, lines-none}
+use Rattle.lines.proofs.Cut.{cap, lfs, lines-none}
 use Rattle.lines.proofs.Whole.{cut-block, kept-is, cut-some, cut-sheet, front-sheet, sheet-open}
 use Rattle.lines.proofs.Gathers.{gather-keeps, gather-lines, open-kept, whole-kept}
 use Rattle.table.specs.declared.table.Table.{Table}

@@ -4,7 +4,7 @@ use Rattle.desk.specs.Log.{openedOf}
 use Rattle.desk.proofs.Opened.{opened-is}
 use Prim.Native.Nat.{ℕ, _≤_}
 use mathlib.Core.Bool.{Bool, true, false, true≢false}
-use mathlib.Core.Path.{_≡_, refl, sym, ap, subst, _∙_}
+use mathlib.Core.Path.{_≡_, refl, sym, ap, _∙_}
 use mathlib.Core.List.{List, [], _∷_, _++_}
 use mathlib.Core.Logic.{⊎-elim}
 use native.Mathlib.Omega.{arith}
@@ -14,7 +14,6 @@ use borrow.Author.Tests.{eqb-true, le-leb, ne-eqb}
 use Rattle.laws.specs.Tests.{pick}
 use Rattle.laws.proofs.Tests.{test}
 use Rattle.paper.specs.declared.Entry.{Entry}
-use Rattle.paper.specs.declared.Sheet.{Sheet}
 use Rattle.blocks.specs.Block.{blockOf}
 use Rattle.blocks.specs.Entry.{parsedOf}
 use Rattle.blocks.specs.declared.Block.{Block}
@@ -25,7 +24,7 @@ use Rattle.text.specs.declared.sheet.SheetRead.{SheetRead}
 use Rattle.text.specs.declared.sheet.SheetRead.the-variants.{Read, Bad}
 use Rattle.lines.specs.Kept.{Kept, keepOf}
 use Rattle.table.specs.declared.table.Table.{Table}
-use Rattle.table.specs.Take.{Sound, codeOf, nextOf, freshTable}
+use Rattle.table.specs.Take.{Sound, codeOf, nextOf}
 use Rattle.table.proofs.Standing.{sound-taken, sound-fresh}
 use Rattle.desk.specs.Desk.{judgeParsed, judgeBlock, judgedOf, blockBytes}
 use Rattle.desk.specs.Log.{eleven, tableIn}

@@ -1,8 +1,8 @@
 -- A call of `feed`: shut, in place, or by way of the buffer, it does with the bytes that it uses up what they do one by one. For the proofs of the functions.
 use Rattle.desk.specs.Log.{openedOf}
 use mathlib.Core.Path.{_≡_, refl, sym, ap, subst, _∙_}
-use mathlib.Core.List.{List, []}
-use mathlib.Core.Bool.{Bool, true, false, true≢false}
+use mathlib.Core.List.{List}
+use mathlib.Core.Bool.{Bool, true, false}
 use mathlib.Core.Logic.{⊎-elim}
 use Prim.Native.Nat.{ℕ, _-_, _≤_, _<_}
 use native.Mathlib.Omega.{arith}
@@ -13,7 +13,7 @@ use borrow.Author.Tests.{eqb-true}
 use Rattle.laws.specs.Tests.{pick, both}
 use Rattle.laws.proofs.Tests.{test, both-true}
 use Rattle.laws.proofs.Conjunction.{both-none}
-use Rattle.writing.specs.AnswerSheet.{over, Wrote}
+use Rattle.writing.specs.AnswerSheet.{over}
 use Rattle.text.specs.declared.sheet.SheetRead.{SheetRead}
 use Rattle.text.specs.declared.sheet.SheetRead.the-variants.{Read, Bad}
 use Rattle.lines.specs.declared.Fill.{Fill}
@@ -25,9 +25,9 @@ use Rattle.stream.specs.declared.Clerk.{Clerk}
 use Rattle.stream.specs.declared.RanInPlace.{RanInPlace}
 use Rattle.stream.specs.declared.Fed.{Fed}
 use Rattle.stream.specs.declared.ClerkAfter.{ClerkAfter}
-use Rattle.stream.specs.Onward.{State, Unread, Open, Shut, Given, still, openOf, linesDone, linesOf, onward, anyShort}
+use Rattle.stream.specs.Onward.{State, Unread, Open, Shut, Given, still, openOf, linesDone, linesOf, onward}
 use Rattle.stream.specs.InPlace.{InPlace, answersFront, inPlaceOf, ranOf, awaitsBlock}
-use Rattle.stream.specs.Feeding.{stateAt, stateOf, keptBy, clerkIn, Held, Gave, heardOf, FedOn, goesInPlace, usedOf, bufferOf}
+use Rattle.stream.specs.Feeding.{stateAt, keptBy, clerkIn, Held, Gave, heardOf, FedOn, goesInPlace, usedOf, bufferOf}
 use Rattle.stream.proofs.Onward.{shut-onward, kept-onward, ends-onward}
 use Rattle.stream.proofs.Runs.{place-none, uses-some, uses-none}
 use Rattle.stream.proofs.InPlace.{placed, placed-front}

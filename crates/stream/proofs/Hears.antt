@@ -1,16 +1,16 @@
 -- Call after call with room for any answer, a program's clerk hears every byte of what it read. For the proofs of the programs. Assumes nothing.
-use Prim.Native.Nat.{ℕ, _+_, _-_, _≤_, _<_}
+use Prim.Native.Nat.{ℕ, _+_, _-_, _≤_}
 use mathlib.Core.Path.{_≡_, refl, sym, ap, subst, _∙_}
 use mathlib.Core.List.{List}
 use native.Mathlib.Omega.{arith}
-use lib.ListN.{length, take, drop, length-drop}
+use lib.ListN.{length, drop}
 use borrow.Rule.Slice.PartMut.{midOf}
 use Rattle.text.proofs.Parts.{part-is}
-use Rattle.lines.specs.Kept.{Kept, fillOf}
+use Rattle.lines.specs.Kept.{fillOf}
 use Rattle.stream.specs.declared.Clerk.{Clerk}
 use Rattle.stream.specs.declared.Fed.{Fed}
-use Rattle.stream.specs.Onward.{State, Given, andThen}
-use Rattle.stream.specs.Feeding.{longestAnswer, stateOf, keptBy, Held, heardOf, FedOn, HeardTo}
+use Rattle.stream.specs.Onward.{Given, andThen}
+use Rattle.stream.specs.Feeding.{longestAnswer, stateOf, heardOf, FedOn, HeardTo}
 use Rattle.stream.proofs.On.{state-in, heard-on}
 
 -- the state that a call leads to

@@ -13,7 +13,6 @@ use borrow.Rule.Slice.PartMut.{midOf, putMid, same-len-mid}
 use Rattle.laws.specs.Tests.{pick, both}
 use Rattle.laws.proofs.Tests.{test, both-true}
 use Rattle.laws.proofs.Sums.{le-or-lt}
-use Rattle.writing.specs.AnswerSheet.{Wrote}
 use Rattle.text.proofs.Parts.{part-is}
 use Rattle.writing.proofs.Sheets.{then}
 use Rattle.lines.specs.declared.Fill.{Fill}
@@ -22,7 +21,7 @@ use Rattle.lines.proofs.Keeps.{fill-back}
 use Rattle.table.specs.declared.table.Table.{Table}
 use Rattle.stream.specs.declared.Clerk.{Clerk}
 use Rattle.stream.specs.declared.Fed.{Fed}
-use Rattle.stream.specs.Onward.{State, Unread, Open, Shut, Given, still, andThen, linesDone, wanted, isShut, byteOf, onward, anyShort}
+use Rattle.stream.specs.Onward.{State, Unread, Open, Shut, Given, still, andThen, linesDone, wanted, byteOf, onward}
 use Rattle.stream.specs.Feeding.{longestAnswer, stateAt, stateOf, keptBy, clerkIn, Held, Gave, heardOf, FedOn, goesOn}
 use Rattle.stream.proofs.Onward.{onward-append}
 use Rattle.stream.proofs.Enough.{held-sound, onward-enough, never-short, any-append}

@@ -5,22 +5,23 @@ use mathlib.Core.Bool.{Bool, true, false}
 use mathlib.Core.Logic.{⊎-elim}
 use Prim.Native.Nat.{ℕ, _+_, _-_, _≤_, _<_}
 use native.Mathlib.Omega.{arith}
-use lib.ListN.{length, take, drop, length-append, length-take, drop-of-length-le, take-append-drop}
+use lib.ListN.{length, take, drop, length-append, take-append-drop}
 use lib.Dec.{eqb, leb, ltb}
 use borrow.Author.Tests.{ne-eqb, eq-eqb}
 use Rattle.laws.specs.Tests.{pick, both}
 use Rattle.laws.proofs.Tests.{test, both-true}
-use Rattle.text.specs.Line.{lineLen, lineOf, lineEnded, hasKey, lineNumber, valueOf, afterLine, afterLines}
+use Rattle.text.specs.Line.{lineLen, lineNumber, valueOf, afterLine, afterLines}
 use Rattle.text.specs.Number.{numberOf, wellFormed}
 use Rattle.text.specs.declared.Number.{Number}
 use Rattle.text.specs.declared.Number.the-variants.{Value, Bad}
+use Rattle.blocks.proofs.Blocks.{rest-drop}
 use Rattle.blocks.specs.Block.{blockOf, blockFrom, lineKind, restOf}
 use Rattle.blocks.specs.Front.{blockEnded}
 use Rattle.blocks.specs.declared.Block.{Block}
 use Rattle.blocks.specs.declared.Block.the-variants.{Malformed, Nothing}
 use Rattle.text.proofs.Lines.{after-lines-no-longer}
 use Rattle.lines.proofs.Cut.{ended, lfs, lfs-on, ended-is, lfs-append, lines-front, lines-lfs, front-block}
-use Rattle.lines.proofs.Whole.{five-lfs}
+use Rattle.lines.proofs.Whole.{five-lfs, value-open}
 use Rattle.lines.specs.declared.Fill.{Fill}
 use Rattle.lines.specs.Kept.{nothing, fillOf}
 use Rattle.writing.specs.declared.Written.the-variants.{Bytes, NoRoom}
@@ -36,7 +37,7 @@ use Rattle.stream.specs.Onward.{linesDone}
 use Rattle.stream.specs.InPlace.{InPlace, stopped, behind, answersFront, inPlaceOf, ranOf}
 use Rattle.stream.specs.Feeding.{stateAt, Held, Gave}
 use Rattle.stream.proofs.InPlace.{judged-same, bytes-same}
-use Rattle.stream.proofs.Runs.{front-some, empty-front, place-none, place-more, rest-drop}
+use Rattle.stream.proofs.Runs.{front-some, empty-front, place-none, place-more}
 use Rattle.stream.proofs.Steps.{block-gave}
 
 -- ---- for the proofs of small functions
@@ -51,13 +52,6 @@ pub after-is : (u : Table) (n : ℕ) (b : Bool) {m : Fill} → m ≡ fillOf noth
 after-is u n b e = ap (λ (m : Fill). record { clerk = record { opened = true; shut = false; table = u; fill = m }; written = n; short = b }) e
 
 -- ---- a block that is not whole is malformed
-
-value-open : (key x : List ℕ) → ended x ≡ false → valueOf key x ≡ []
-unfolding valueOf
-value-open key x h =
-    let e : lineEnded x ≡ false = ap (λ (t : Bool). both t (leb (lineLen x) 32)) (ended-is x ∙ h) in
-    ap (λ (t : Bool). drop (pick (both t (hasKey key (lineOf x))) (length key + 1) (lineLen x)) (lineOf x)) e
-    ∙ drop-of-length-le (lineOf x) {i = lineLen x} (omega (arith, length-take (lineLen x) x))
 
 number-open : (key x : List ℕ) → ended x ≡ false → lineNumber key x ≡ Bad
 unfolding numberOf wellFormed

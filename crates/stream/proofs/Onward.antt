@@ -13,7 +13,7 @@ use Rattle.laws.specs.Tests.{pick}
 use Rattle.laws.proofs.Tests.{test}
 use Rattle.lines.specs.Kept.{Kept, keepOf, Gathered, gatherOf}
 use Rattle.lines.proofs.Gathers.{gather-ends, gather-goes}
-use Rattle.stream.specs.Onward.{State, Unread, Open, Shut, Given, still, andThen, linesDone, wanted, isShut, byteOf, onward}
+use Rattle.stream.specs.Onward.{State, Shut, Given, still, andThen, linesDone, wanted, isShut, byteOf, onward}
 
 -- ---- one after another
 

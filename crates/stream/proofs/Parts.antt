@@ -3,13 +3,13 @@
 use Prim.Native.Nat.{ℕ, zero, suc, _+_, _-_, _≤_, _<_}
 use mathlib.Core.Bool.{Bool, true, false, true≢false}
 use mathlib.Core.Path.{_≡_, refl, sym, ap, subst, _∙_}
-use mathlib.Core.List.{List, [], _∷_, _++_, append-nil}
+use mathlib.Core.List.{List, [], _∷_, _++_}
 use mathlib.Core.Logic.{⊎-elim}
 use native.Mathlib.Omega.{arith}
 use lib.ListN.{length, take, drop, replicate, length-append, length-drop, length-replicate, take-append-drop}
-use lib.Dec.{eqb, leb}
-use borrow.Author.Tests.{eq-eqb, ne-eqb, leb-false}
-use Rattle.laws.specs.Tests.{pick, both}
+use lib.Dec.{leb}
+use borrow.Author.Tests.{ne-eqb, leb-false}
+use Rattle.laws.specs.Tests.{pick}
 use Rattle.laws.proofs.Tests.{test, both-true}
 use Rattle.laws.proofs.Sums.{le-or-lt}
 use Rattle.writing.specs.AnswerSheet.{over}
@@ -19,7 +19,7 @@ use Rattle.lines.specs.Kept.{Kept, nothing, keepOf, Gathered, gatherOf, keptIn,
 use Rattle.lines.proofs.Keeps.{fill-back, empty-room}
 use Rattle.lines.proofs.Gathers.{gather-some, keep-room, gather-room}
 use Rattle.table.specs.declared.table.Table.{Table}
-use Rattle.table.specs.Take.{Sound, freshTable}
+use Rattle.table.specs.Take.{Sound}
 use Rattle.table.proofs.Standing.{sound-fresh}
 use Rattle.paper.specs.Paper.{standIn}
 use Rattle.paper.proofs.Sheets.{stand-in-good}
@@ -28,9 +28,9 @@ use Rattle.stream.specs.declared.Fed.{Fed}
 use Rattle.stream.specs.declared.ClerkAfter.{ClerkAfter}
 use Rattle.stream.specs.Onward.{State, Unread, Open, Shut, Given, still, andThen, linesDone, linesOf, wanted, isShut, byteOf, onward, closing, closed, anyShort, atOnce}
 use Rattle.stream.specs.InPlace.{inPlaceOf, ranOf, awaitsBlock, answersFront}
-use Rattle.stream.specs.Feeding.{stateAt, stateOf, keptBy, clerkIn, Held, startOf, Gave, heardOf, FedOn, goesInPlace, gatheredBy, usedOf, bufferOf}
-use Rattle.stream.specs.Parts.{Served, idle, following, calledOf, callOf, partFrom, partsFrom, closedOf, servedOf, whole}
-use Rattle.stream.proofs.Onward.{onward-append, then-nothing, then-assoc}
+use Rattle.stream.specs.Feeding.{stateAt, stateOf, keptBy, clerkIn, Held, startOf, heardOf, FedOn, goesInPlace, gatheredBy, usedOf, bufferOf}
+use Rattle.stream.specs.Parts.{Served, idle, following, calledOf, callOf, partFrom, partsFrom, servedOf, whole}
+use Rattle.stream.proofs.Onward.{onward-append}
 use Rattle.stream.proofs.Runs.{uses-some}
 use Rattle.stream.proofs.Steps.{state-shut, state-else}
 use Rattle.stream.proofs.Feeds.{clerkAt, fed-kept, fed-whole, fed-shut, fed-placed, used-placed, used-shut, used-gathered, awaits-is, clerk-is, fill-in, done-nothing}

@@ -3,7 +3,7 @@ use Rattle.desk.specs.Log.{openedOf}
 use Rattle.desk.proofs.Opened.{opened-is}
 use Prim.Native.Nat.{ℕ, zero, suc, _≤_}
 use mathlib.Core.Bool.{Bool, true, false}
-use mathlib.Core.Path.{_≡_, refl, sym, ap, _∙_}
+use mathlib.Core.Path.{_≡_, refl, ap, _∙_}
 use mathlib.Core.List.{List, [], _++_}
 use native.Mathlib.Omega.{arith}
 use lib.ListN.{length}
@@ -20,7 +20,7 @@ use Rattle.table.proofs.Standing.{sound-fresh}
 use Rattle.lines.specs.Kept.{nothing, keptMost}
 use Rattle.desk.specs.Desk.{judgedOf, blockBytes}
 use Rattle.desk.specs.Log.{eleven, blocksFrom, outputFrom, outputOf, tableIn}
-use Rattle.stream.specs.Onward.{State, Open, Given, still, andThen, answerOf, eachFrom, atOnceFrom, atOnce}
+use Rattle.stream.specs.Onward.{Open, Given, still, andThen, answerOf, eachFrom, atOnceFrom, atOnce}
 use Rattle.stream.specs.Feeding.{longestAnswer}
 use Rattle.stream.specs.Parts.{servedOf, whole}
 use Rattle.stream.proofs.Longest.{longest}

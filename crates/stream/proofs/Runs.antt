@@ -5,7 +5,7 @@ use mathlib.Core.Bool.{Bool, true, false}
 use mathlib.Core.Logic.{⊎-elim}
 use Prim.Native.Nat.{ℕ, zero, suc, _+_, _-_, _≤_, _<_}
 use native.Mathlib.Omega.{arith}
-use lib.ListN.{length, drop, length-append, length-drop, drop-of-length-le}
+use lib.ListN.{length, drop, length-append, length-drop}
 use lib.Seq.{drop-drop}
 use lib.Dec.{leb}
 use borrow.Author.Tests.{ltb-true, le-leb}
@@ -14,7 +14,7 @@ use Rattle.laws.specs.Tests.{pick, both}
 use Rattle.laws.proofs.Tests.{test, both-true}
 use Rattle.laws.proofs.Conjunction.{both-none}
 use Rattle.laws.proofs.Sums.{le-or-lt}
-use Rattle.text.specs.Line.{lineLen, afterLine, afterLines}
+use Rattle.text.specs.Line.{lineLen, afterLines}
 use Rattle.blocks.specs.Block.{restOf}
 use Rattle.blocks.specs.Front.{blockEnded, frontOf}
 use Rattle.blocks.specs.declared.front.Front.{Front}
@@ -22,7 +22,7 @@ use Rattle.writing.specs.declared.Written.the-variants.{Bytes, NoRoom}
 use Rattle.writing.specs.AnswerSheet.{Wrote, over, sheetAfter, writtenOf}
 use Rattle.writing.proofs.Sheets.{then}
 use Rattle.text.proofs.Parts.{part-is}
-use Rattle.blocks.proofs.Blocks.{rest-shorter}
+use Rattle.blocks.proofs.Blocks.{rest-shorter, rest-drop}
 use Rattle.text.proofs.Lines.{after-lines-no-longer}
 use Rattle.table.specs.declared.table.Table.{Table}
 use Rattle.table.specs.Take.{Sound}
@@ -82,25 +82,6 @@ place-more t part room e =
     ap (λ (k : ℕ). inPlaceFrom k t part room) n
     ∙ from-more m t part room e
     ∙ ap (behind (blockBytes t part)) (bound-free m (length (restOf part)) (judgedOf t part .table) (restOf part) (room - length (blockBytes t part)) (omega arith) (omega arith))
-
--- ---- reading five lines uses up the bytes before the rest
-
--- what is left of a list, by its length
-drop-own : (n : ℕ) (l : List ℕ) → drop (length l - length (drop n l)) l ≡ drop n l
-drop-own n l = ⊎-elim
-    (λ h. let e : length l - length (drop n l) ≡ n = omega (arith, length-drop n l) in ap (λ (i : ℕ). drop i l) e)
-    (λ h. drop-of-length-le l {i = length l - length (drop n l)} (omega (arith, length-drop n l)) ∙ sym (drop-of-length-le l {i = n} (omega arith)))
-    (le-or-lt n (length l))
-
-lines-drop : (k : ℕ) (l : List ℕ) → (n : ℕ) × (afterLines k l ≡ drop n l)
-lines-drop zero l = (0, refl)
-lines-drop (suc k) l =
-    let r = lines-drop k (afterLine l) in
-    (suc (lineLen l) + r .0, r .1 ∙ drop-drop (r .0) (suc (lineLen l)) l)
-
-pub rest-drop : (l : List ℕ) → drop (length l - length (restOf l)) l ≡ restOf l
-unfolding restOf
-rest-drop l = let r = lines-drop 5 l in ap (λ (x : List ℕ). drop (length l - length x) l) (r .1) ∙ drop-own (r .0) l ∙ sym (r .1)
 
 -- ---- what is left of the part
 

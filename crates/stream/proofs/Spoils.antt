@@ -2,13 +2,13 @@
 -- the close, a sheet 11, and before the last LF nothing is answered. For any bytes. Assumes nothing.
 use Prim.Native.Nat.{ℕ, _≤_, _<_}
 use mathlib.Core.Bool.{true}
-use mathlib.Core.Path.{_≡_, refl, sym, ap, _∙_}
+use mathlib.Core.Path.{_≡_, refl, ap}
 use mathlib.Core.List.{List, []}
 use Rattle.text.specs.Line.{afterLines}
 use Rattle.blocks.specs.declared.Block.{Block}
 use Rattle.lines.specs.Kept.{nothing, keepAll}
 use Rattle.lines.proofs.Cut.{lfs}
-use Rattle.text.specs.TableSheet.{sheetLines, sheetOf}
+use Rattle.text.specs.TableSheet.{sheetLines}
 use Rattle.text.specs.declared.sheet.SheetRead.{SheetRead}
 use Rattle.text.specs.declared.sheet.SheetRead.the-variants.{Bad}
 use Rattle.desk.specs.Log.{loneRead, openedOf}

@@ -1,14 +1,14 @@
 -- What the clerk keeps between two calls, how far a call goes, and what it does with the bytes that it uses up: what they do one by one. Assumes nothing.
 use Prim.Native.Nat.{ℕ, _-_, _≤_, _<_}
 use mathlib.Core.Path.{_≡_}
-use mathlib.Core.List.{List, []}
+use mathlib.Core.List.{List}
 use mathlib.Core.Bool.{Bool, true, false}
 use lib.ListN.{length, take, drop}
 use lib.Dec.{ltb, leb}
 use Rattle.laws.specs.Tests.{pick, both}
 use Rattle.writing.specs.AnswerSheet.{over, Wrote}
 use Rattle.lines.specs.declared.Fill.{Fill}
-use Rattle.lines.specs.Kept.{Kept, nothing, Gathered, gatherOf, keptIn, fillOf, Room, keptMost}
+use Rattle.lines.specs.Kept.{Kept, nothing, Gathered, gatherOf, keptIn, fillOf, Room}
 use Rattle.table.specs.declared.table.Table.{Table}
 use Rattle.paper.specs.Paper.{standIn}
 use Rattle.answers.specs.Answer.{longest}

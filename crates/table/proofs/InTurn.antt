@@ -1,13 +1,13 @@
 -- The turn is 0 exactly when nobody owes, else it is an owing seat (`InTurn`): where the turn is looked for, where a chair changes that did not owe, and
 -- after `dead`. Assumes nothing.
-use Prim.Native.Nat.{ℕ, zero, suc, _+_, _-_, _≤_, _<_}
+use Prim.Native.Nat.{ℕ, zero, suc, _-_, _≤_, _<_}
 use mathlib.Core.Bool.{Bool, true, false, not, true≢false, false≢true}
 use mathlib.Core.Path.{_≡_, refl, sym, ap, _∙_}
 use mathlib.Core.List.{List, [], _∷_}
 use mathlib.Core.Logic.{⊎-elim}
 use native.Mathlib.Omega.{arith}
 use lib.Dec.{eqb, leb, ltb}
-use borrow.Author.Tests.{eqb-true, eqb-false, eq-eqb, le-leb, leb-true}
+use borrow.Author.Tests.{eqb-true, eqb-false, le-leb, leb-true}
 use Rattle.laws.specs.Tests.{both, pick}
 use Rattle.laws.proofs.Tests.{both-true, test}
 use Rattle.chairs.specs.Chairs.{isLiveWithChips, isOwing, wantOf, countOf, noChair, chairAt, putAt, clockwise, roundOf, foldedOf}

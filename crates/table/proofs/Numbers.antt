@@ -1,7 +1,6 @@
 -- The sittings at a table's chairs, and those dealt in there, are among the sittings handed out so far, whatever entry is taken. Assumes nothing.
 use Prim.Native.Nat.{ℕ, zero, suc, _+_, _-_, _≤_}
 use mathlib.Core.Bool.{Bool, true, false}
-use mathlib.Core.Path.{_≡_, refl}
 use mathlib.Core.List.{List, [], _∷_, map}
 use native.Mathlib.Omega.{arith}
 use lib.ListN.{replicate}
@@ -9,11 +8,10 @@ use lib.Dec.{leb, ltb}
 use Rattle.laws.specs.Tests.{pick}
 use Rattle.paper.specs.declared.Entry.{Entry}
 use Rattle.paper.specs.declared.Entry.the-variants.{Sit, Leave, Hand, Hole, Fold, Check, Call, Wager, Board, Dead, Settle, Void}
-use Rattle.chairs.specs.Chairs.{Numbered, noChair, chairAt, putAt, sweepOf, foldedOf, actedOf, againOf, paidOf, seatedOf, heldOf, dealtOf, roundedOf, roundOf, closeAll}
+use Rattle.chairs.specs.Chairs.{Numbered, noChair, chairAt, putAt, sweepOf, paidOf, dealtOf, closeAll}
 use Rattle.laws.specs.Lists.{All}
 use Rattle.chairs.specs.declared.Chair.{Chair}
 use Rattle.chairs.specs.declared.Sweep.the-variants.{Again, Round, Deal}
-use Rattle.table.specs.State.{seatOf, withCard}
 use Rattle.table.specs.Betting.{afterAct, isFullLift, foldedTo, checkedTo, calledTo, wageredTo, deadTo, newRound}
 use Rattle.table.specs.Sittings.{satTo, leftTo}
 use Rattle.table.specs.Opening.{nextDealtIn, openedTo, postedTo}

@@ -18,7 +18,7 @@ use Rattle.chairs.specs.Chairs.{chairAt, chipsOf, sweepOf, foldedOf, actedOf, p
 use Rattle.chairs.proofs.Laws.{chips-put, chips-paid, chips-sweep}
 use Rattle.chairs.specs.declared.Chair.{Chair}
 use Rattle.chairs.specs.declared.Sweep.the-variants.{Again, Round, Deal}
-use Rattle.table.specs.State.{withTaken, seatOf, withChair, withChairs, withMark, withCard}
+use Rattle.table.specs.State.{seatOf, withChair, withChairs, withMark, withCard}
 use Rattle.table.specs.Betting.{afterAct, isFullLift, liftAfter, foldedTo, checkedTo, calledTo, wageredTo, deadTo, newRound}
 use Rattle.table.specs.Sittings.{sitCode, satTo, leftTo}
 use Rattle.table.specs.Opening.{nextDealtIn, openedTo, postedTo}

@@ -1,12 +1,12 @@
 -- The mark stays at most 100,000,000 and the turn at most 10, whatever entry is taken. Assumes nothing.
 use Prim.Native.Nat.{ℕ, zero, suc, _+_, _-_, _≤_}
 use mathlib.Core.Bool.{Bool, true, false}
-use mathlib.Core.Path.{_≡_, refl}
-use mathlib.Core.List.{List, [], _∷_, _++_, map}
+use mathlib.Core.Path.{_≡_}
+use mathlib.Core.List.{List, _++_}
 use native.Mathlib.Omega.{arith}
 use lib.Dec.{eqb, leb}
 use Rattle.paper.specs.Paper.{between, isSeat, inKind}
-use Rattle.laws.specs.Tests.{both, pick}
+use Rattle.laws.specs.Tests.{pick}
 use Rattle.paper.proofs.Codes.{between-in}
 use Rattle.laws.proofs.Tests.{both-true}
 use Rattle.paper.specs.declared.Entry.{Entry}
@@ -14,7 +14,6 @@ use Rattle.paper.specs.declared.Entry.the-variants.{Sit, Leave, Hand, Hole, Fol
 use Rattle.chairs.specs.Chairs.{chairAt, firstOf, seatsFrom, clockwise, wantOf}
 use Rattle.chairs.specs.declared.Chair.{Chair}
 use Rattle.chairs.specs.declared.Who.the-variants.{Chips}
-use Rattle.table.specs.State.{withChair, withCard, seatOf}
 use Rattle.table.specs.Betting.{owes, firstOwing, afterAct, nobodyOwes, turnAfter, foldedTo, checkedTo, calledTo, wageredTo, deadTo, newRound}
 use Rattle.table.specs.Sittings.{satTo, leftTo}
 use Rattle.table.specs.Opening.{nextDealtIn, openedTo, postedTo}

@@ -1,6 +1,6 @@
 -- Document 01, "Betting", sentence by sentence; and "in turn" of the table of entries. Assumes nothing.
-use Prim.Native.Nat.{ℕ, zero, suc, _+_, _-_}
-use mathlib.Core.Bool.{Bool, true, false, not}
+use Prim.Native.Nat.{ℕ, _+_, _-_}
+use mathlib.Core.Bool.{Bool, not}
 use mathlib.Core.List.{map}
 use lib.Dec.{ltb, leb, eqb}
 use Rattle.paper.specs.Paper.{wrongMoment, wrongSeat, notInTurn, notAllowed, when, orElse}

@@ -1,15 +1,14 @@
 -- The code, the next table and the payout of any entry: document 01's table of refusals, in its order.
 -- Assumes nothing.
-use Prim.Native.Nat.{ℕ, zero, suc, _+_, _-_, _≤_}
-use mathlib.Core.Bool.{Bool, true, false, not}
-use mathlib.Core.Path.{_≡_}
-use lib.Dec.{ltb, leb, eqb}
+use Prim.Native.Nat.{ℕ, _+_, _≤_}
+use mathlib.Core.Bool.{false, not}
+use lib.Dec.{eqb}
 use lib.ListN.{replicate}
-use Rattle.paper.specs.Paper.{taken, outOfRange, notNext, wrongMoment, when, orElse, isSheet, inRange}
+use Rattle.paper.specs.Paper.{taken, outOfRange, notNext, wrongMoment, when, orElse, inRange}
 use Rattle.paper.specs.declared.Sheet.{Sheet}
 use Rattle.paper.specs.declared.Entry.{Entry}
 use Rattle.paper.specs.declared.Entry.the-variants.{Sit, Leave, Hand, Hole, Fold, Check, Call, Wager, Board, Dead, Settle, Void}
-use Rattle.chairs.specs.Chairs.{chipsOf, noChair, Numbered}
+use Rattle.chairs.specs.Chairs.{noChair, Numbered}
 use Rattle.laws.specs.Lists.{All}
 use Rattle.table.specs.State.{withTaken, noBoard}
 use Rattle.table.specs.Betting.{turnCode, checkCode, callCode, wagerCode, deadCode, foldedTo, checkedTo, calledTo, wageredTo, deadTo}

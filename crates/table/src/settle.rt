@@ -24,7 +24,7 @@ ghost use Prim.Native.Nat.{_+_, _-_, _≤_, _<_};
 ghost use lib.ListN.{length, replicate, take};
 ghost use mathlib.Core.Bool.{true};
 ghost use Rattle.paper.specs.Paper.{isGame};
-ghost use Rattle.chairs.specs.Chairs.{chipsOf, closeAll};
+ghost use Rattle.chairs.specs.Chairs.{chipsOf};
 ghost use Rattle.laws.specs.Tests.{pick};
 ghost use Rattle.pots.specs.Runs.{padded};
 ghost use Rattle.pots.specs.Settle.{sole};

@@ -17,7 +17,7 @@ use Rattle.text.specs.TableSheet.{valueIn}
 use Rattle.text.proofs.Numbers.{number-back}
 use Rattle.answers.specs.Answer.{keySitting, keyPaid, keyUnclaimed}
 use Rattle.teller.specs.declared.keys.Line.{Line}
-use Rattle.teller.specs.Lines.{keys, keyGive, keyRows, keyWorth, keyCount, otherLine, keyedLine, saidOf}
+use Rattle.teller.specs.Lines.{keyGive, keyRows, keyWorth, keyCount, otherLine, keyedLine, saidOf}
 
 -- a number has at most nine digits, and a bad one is 0
 pub value-small : (key line : List ℕ) → valueIn (lineNumber key line) < 10 ^ 9

@@ -1,16 +1,15 @@
--- Laws of bytes: that each is within a range, byte by byte, and that two lists of them are the same. Assumes nothing.
-use mathlib.Core.Path.{_≡_, refl, sym}
+-- Laws of bytes: that each is within a range, byte by byte. Assumes nothing.
+use mathlib.Core.Path.{_≡_}
 use mathlib.Core.List.{List, [], _∷_, _++_}
-use mathlib.Core.Bool.{true, false, true≢false}
+use mathlib.Core.Bool.{true, false}
 use Prim.Native.Nat.{ℕ, _+_, _≤_, _<_}
 use native.Mathlib.Numerals.{add-one}
 use lib.ListN.{length, getD, take, drop, drop-of-length-le}
 use lib.Seq.{take-suc, drop-cons}
-use lib.Dec.{eqb}
-use borrow.Author.Tests.{le-leb, lt-leb, eqb-true}
+use borrow.Author.Tests.{le-leb, lt-leb}
 use Rattle.laws.proofs.Tests.{both-true}
 use Rattle.paper.specs.SheetAndEntries.{between}
-use Rattle.text.specs.Bytes.{allWithin, eqList}
+use Rattle.text.specs.Bytes.{allWithin}
 
 module _ (lo hi : ℕ) (w : List ℕ) (i : ℕ) where
   pub within-end : length w ≤ i → allWithin lo hi (drop i w) ≡ true
@@ -36,13 +35,3 @@ pub run-on : (lo hi : ℕ) (l : List ℕ) (i : ℕ) → i < length l → lo ≤ 
 run-on lo hi l i h p q e =
     let t : between lo hi (getD l i 0) ≡ true = rw (le-leb lo (getD l i 0) p, le-leb (getD l i 0) hi q) in
     rw (add-one i, take-suc l i 0 h) (within-snoc lo hi (take i l) (getD l i 0) e t)
-
-pub eq-list : (x y : List ℕ) → eqList x y ≡ true → x ≡ y
-eq-list [] [] e = refl
-eq-list [] (b ∷ y) e = absurd (true≢false (sym e))
-eq-list (a ∷ x) [] e = absurd (true≢false (sym e))
-eq-list (a ∷ x) (b ∷ y) e =
-    let p = both-true (eqb a b) (eqList x y) e in
-    let h : a ≡ b = eqb-true a b (p .0) in
-    let t : x ≡ y = eq-list x y (p .1) in
-    cc

@@ -13,11 +13,11 @@ use Rattle.laws.proofs.Tests.{both-true}
 use Rattle.laws.proofs.Rules.{allBelow, below-all}
 use Rattle.text.specs.Line.{lineNumber, numberLine, afterLines}
 use Rattle.text.specs.Number.{digits}
-use Rattle.text.specs.Bytes.{eqList}
+use Rattle.laws.specs.Listing.{sameList}
 use Rattle.text.specs.declared.Number.{Number}
 use Rattle.text.specs.TableSheet.{sheetLines, sheetKeys, sheetNumber}
 use Rattle.text.specs.declared.sheet.Key.{Key}
-use Rattle.text.proofs.Bytes.{eq-list}
+use Rattle.laws.proofs.Members.{same-list}
 use Rattle.text.proofs.Lines.{line-count}
 use Rattle.text.proofs.Numbers.{count-most}
 
@@ -41,7 +41,7 @@ abbrev pub at : ℕ → Key
 at k = getD table k (line [] 0)
 
 abbrev right : ℕ → Bool
-right k = both (leb (at k .letters) (length (at k .bytes))) (eqList (take (at k .letters - 0) (at k .bytes)) (getD sheetKeys k []))
+right k = both (leb (at k .letters) (length (at k .bytes))) (sameList (take (at k .letters - 0) (at k .bytes)) (getD sheetKeys k []))
 
 all-right : allBelow sheetLines right ≡ true
 all-right = refl
@@ -50,7 +50,7 @@ all-right = refl
 pub row : (k : ℕ) → k < sheetLines → (at k .letters ≤ length (at k .bytes)) × (take (at k .letters - 0) (at k .bytes) ≡ getD sheetKeys k [])
 row k h =
     let p = both-true _ _ (below-all sheetLines right all-right k h) in
-    (leb-true _ _ (p .0), eq-list _ _ (p .1))
+    (leb-true _ _ (p .0), same-list _ _ (p .1))
 
 -- what the reading of a line answered
 pub number-said : (k : ℕ) (log : List ℕ) {rest : List ℕ} {x : Number} → k < sheetLines → rest ≡ afterLines k log

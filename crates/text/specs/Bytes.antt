@@ -1,8 +1,7 @@
 -- Document 01, "The table sheet and the entries": its digits and its small letters are bytes within a range. Assumes nothing.
 use Prim.Native.Nat.{ℕ, _+_, _*_}
 use mathlib.Core.List.{List, [], _∷_}
-use mathlib.Core.Bool.{Bool, true, false}
-use lib.Dec.{eqb}
+use mathlib.Core.Bool.{Bool, true}
 use Rattle.laws.specs.Tests.{both}
 use Rattle.paper.specs.SheetAndEntries.{between}
 
@@ -10,13 +9,6 @@ use Rattle.paper.specs.SheetAndEntries.{between}
 abbrev pub allWithin : ℕ → ℕ → List ℕ → Bool
 allWithin lo hi [] = true
 allWithin lo hi (b ∷ bs) = both (between lo hi b) (allWithin lo hi bs)
-
--- the same bytes
-abbrev pub eqList : List ℕ → List ℕ → Bool
-eqList [] [] = true
-eqList [] (y ∷ ys) = false
-eqList (x ∷ xs) [] = false
-eqList (x ∷ xs) (y ∷ ys) = both (eqb x y) (eqList xs ys)
 
 -- bytes as one number, the first byte the lowest: so the words of the kinds are compared at one go
 abbrev pub packOf : List ℕ → ℕ

@@ -15,9 +15,9 @@ use lib.ListN.{length, getD}
 use borrow.Author.Tests.{leb-true, le-leb, eqb-true, eq-eqb, eqb-false}
 use Rattle.laws.specs.Tests.{both, pick}
 use Rattle.laws.proofs.Tests.{both-true, test}
-use Rattle.tray.specs.Proposal.{accepted, refused, outOfBounds, worthGiven, takenFrom, fits, paysAll, holdsAll, judged, lowered, countsAfter}
+use Rattle.tray.specs.Proposal.{accepted, refused, outOfBounds, worthGiven, takenFrom, fits, paysAll, holdsAll, judged, countsAfter}
 use Rattle.tray.proofs.Sums.{all-at, all-made}
-use Rattle.tray.proofs.Front.{each-long, each-at}
+use Rattle.tray.proofs.Front.{each-at}
 use Rattle.tray.proofs.Within.{Within, within, without}
 use Rattle.tray.proofs.Judging.{tests-of, tests-make, after-0, after-other}
 

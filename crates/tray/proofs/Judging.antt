@@ -1,14 +1,11 @@
 -- The checker's answer by its two tests, and the counts after it. Assumes nothing.
 use Prim.Native.Nat.{ℕ}
-use mathlib.Core.Path.{_≡_, refl, sym, ap, _∙_}
+use mathlib.Core.Path.{_≡_, refl, sym}
 use mathlib.Core.Bool.{Bool, true, false}
-use mathlib.Core.Logic.{⊎-elim}
 use mathlib.Core.List.{List}
-use lib.Dec.{eqb}
 use lib.ListN.{length}
 use borrow.Author.Tests.{eq-eqb, ne-eqb, eqb-false}
 use Rattle.laws.specs.Tests.{both, pick}
-use Rattle.laws.proofs.Tests.{both-true, test}
 use Rattle.tray.specs.Proposal.{fits, paysAll, holdsAll, judged, lowered, countsAfter}
 
 module _ (ws cs ps p : List ℕ) where

@@ -4,7 +4,7 @@ use laws::both;
 ghost use mathlib.Core.Path.{_≡_};
 ghost use mathlib.Core.Bool.{true};
 ghost use Prim.Native.Nat.{ℕ, _+_, _-_, _*_, _≤_, _<_};
-ghost use lib.Dec.{eqb, leb};
+ghost use lib.Dec.{eqb};
 ghost use lib.ListN.{length, getD};
 ghost use Rattle.tray.specs.Counting.{allTo};
 ghost use Rattle.tray.specs.Proposal.{rowFits, fits, given, worthGiven, takenFrom, paysAll, holdsAll, judged, lowered, countsAfter};

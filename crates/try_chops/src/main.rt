@@ -15,7 +15,6 @@ use served::longest;
 use served::serve;
 use stream::Clerk;
 use text::sheet::ROOM;
-ghost use mathlib.Core.Path.{_≡_};
 ghost use mathlib.Core.Bool.{true};
 ghost use Prim.Native.Nat.{_+_, _≤_, _<_};
 ghost use lib.ListN.{length};

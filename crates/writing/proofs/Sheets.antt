@@ -1,12 +1,11 @@
 -- Laws of writing into a sheet: writers one behind the other, and with too little room. Assumes nothing.
 use mathlib.Core.Path.{_≡_, refl, sym, ap, _∙_}
-use mathlib.Core.List.{List, [], _∷_, _++_, append-assoc, append-nil}
+use mathlib.Core.List.{List, [], _∷_, _++_, append-assoc}
 use Prim.Native.Nat.{ℕ, suc, _+_, _-_, _≤_, _<_}
 use native.Mathlib.Numerals.{add-one}
 use native.Mathlib.Omega.{arith}
-use native.Mathlib.Nat.{le-refl}
-use lib.ListN.{length, getD, take, drop, set, length-append, length-drop, drop-of-length-le}
-use lib.Seq.{take-all, take-append-seam, drop-append-seam, drop-drop, drop-cons, set-append-seam, length-take-le, take-suc, set-split}
+use lib.ListN.{length, getD, take, drop, set, length-append}
+use lib.Seq.{take-append-seam, drop-append-seam, drop-drop, drop-cons, set-append-seam, length-take-le, take-suc, set-split}
 use borrow.Rule.Slice.PartMut.{midOf, putMid}
 use Rattle.writing.specs.AnswerSheet.{over, Wrote, fits, sheetAfter, writtenOf}
 use Rattle.writing.specs.declared.Written.the-variants.{Bytes, NoRoom}

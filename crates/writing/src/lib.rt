@@ -7,7 +7,6 @@ pub use decimal::digit_count;
 pub use decimal::put_digits;
 pub use writer::put_bytes;
 pub use writer::write_amount_line;
-pub use writer::write_line;
 pub use writer::write_nine_line;
 pub use writer::write_number_line;
 

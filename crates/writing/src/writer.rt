@@ -1,19 +1,16 @@
 // Lines written at the front of a lent sheet: each writer is lent the part that starts where the last one ended.
-use crate::Written;
-use crate::decimal::digit_count;
 use crate::decimal::few_count;
 use crate::decimal::few_first;
 use crate::decimal::put_digits;
 use crate::decimal::put_nine;
 use crate::decimal::put_one;
 use crate::decimal::put_pair;
-ghost use mathlib.Core.Path.{_≡_};
 ghost use mathlib.Core.List.{[], _∷_, _++_};
 ghost use Prim.Native.Nat.{_≤_, _<_, _^_};
 ghost use lib.ListN.{length};
 ghost use Rattle.text.specs.Line.{numberLine};
 ghost use Rattle.text.specs.Number.{digits};
-ghost use Rattle.writing.specs.AnswerSheet.{Wrote, sheetAfter, writtenOf};
+ghost use Rattle.writing.specs.AnswerSheet.{Wrote};
 ghost use Rattle.writing.specs.Nine.{nineLine};
 
 // One byte at the front of the sheet.
@@ -123,21 +120,4 @@ pub fn write_nine_line(sheet: &mut [u8], key: &[u8], n: u32) -> usize
     let b = a + put_byte(&mut sheet[a..], 61);
     let c = b + put_nine(&mut sheet[b..], n);
     c + put_byte(&mut sheet[c..], 10)
-}
-
-// The line `key=n` with its LF at the front of the sheet, where the sheet is long enough; else nothing: code 12.
-pub fn write_line(sheet: &mut [u8], key: &[u8], n: u32) -> Written
-    requires { ⌜ n < 10 ^ 9 ⌝ }
-    ensures answer { λ r. ⌜ r ≡ writtenOf (numberLine (now (key .entry)) n) (now (sheet .entry)) ⌝ }
-    ensures bytes { λ r. ⌜ now (sheet .exit) ≡ sheetAfter (numberLine (now (key .entry)) n) (now (sheet .entry)) ⌝ }
-{
-    let room = sheet.len();
-    let k = key.len();
-    if room < k {
-        return Written::NoRoom;
-    }
-    if room - k < digit_count(n) + 2 {
-        return Written::NoRoom;
-    }
-    Written::Bytes(write_number_line(sheet, key, n))
 }

@@ -3,10 +3,6 @@ use Rattle.amends.proofs.Judging.{ended-is}
 use borrow.Author.Needs.{needs}
 use Rattle.amends.proofs.ended.Statement.{statement}
 use Rattle.amends.proofs.ended.Tie as tie
-use Rattle.amends.proofs.ended.Reads as reads
-use Rattle.amends.proofs.ended.Lts as lts
-use Rattle.text.proofs.line.after_lines.Reads as after-lines-reads
-use Rattle.text.proofs.line.line_end.Reads as line-end-reads
 
 -- src/lib.rt:74:9
 after-lines-requires : tie.Need-after-lines-requires

@@ -3,10 +3,6 @@ use Rattle.amends.proofs.Judging.{right-yes, right-no}
 use borrow.Author.Needs.{needs}
 use Rattle.amends.proofs.is_right.Statement.{statement}
 use Rattle.amends.proofs.is_right.Tie as tie
-use Rattle.amends.proofs.is_right.Reads as reads
-use Rattle.amends.proofs.is_right.Lts as lts
-use Rattle.amends.proofs.ended.Reads as ended-reads
-use Rattle.text.proofs.read_key_number.Reads as read-key-number-reads
 
 -- src/lib.rt:82:34
 slice-aggregate-read-key-number : tie.Need-slice-aggregate-read-key-number

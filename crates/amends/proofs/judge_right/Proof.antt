@@ -1,19 +1,8 @@
 -- `judge_right` meets its contract.
 use Rattle.amends.proofs.Judging.{code-is, judged-no, judged-yes, judged-small, refused-right}
-use Rattle.amends.specs.Righting.{codeBefore}
-use mathlib.Core.Path.{_≡_}
 use borrow.Author.Needs.{needs}
 use Rattle.amends.proofs.judge_right.Statement.{statement}
 use Rattle.amends.proofs.judge_right.Tie as tie
-use Rattle.amends.proofs.judge_right.Reads as reads
-use Rattle.amends.proofs.judge_right.Lts as lts
-use Rattle.amends.proofs.parsed_in.Reads as parsed-in-reads
-use Rattle.amends.proofs.replayed.Reads as replayed-reads
-use Rattle.amends.proofs.right_code.Reads as right-code-reads
-use Rattle.desk.proofs.refused.Reads as refused-reads
-use Rattle.laws.proofs.short_of.Reads as short-of-reads
-use Rattle.records.proofs.record_in.Reads as record-in-reads
-use Rattle.text.proofs.sheet.value_in.Reads as value-in-reads
 
 -- src/lib.rt:175:9
 value-in-requires : tie.Need-value-in-requires

@@ -3,9 +3,6 @@ use Rattle.amends.proofs.Judging.{outside-value}
 use borrow.Author.Needs.{needs}
 use Rattle.amends.proofs.outside.Statement.{statement}
 use Rattle.amends.proofs.outside.Tie as tie
-use Rattle.amends.proofs.outside.Reads as reads
-use Rattle.amends.proofs.outside.Lts as lts
-use Rattle.amends.proofs.is_six.Reads as is-six-reads
 
 -- src/lib.rt:100:23
 enum-known-kind : tie.Need-enum-known-kind

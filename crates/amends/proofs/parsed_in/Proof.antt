@@ -3,9 +3,6 @@ use Rattle.amends.proofs.Judging.{parsed-raw}
 use borrow.Author.Needs.{needs}
 use Rattle.amends.proofs.parsed_in.Statement.{statement}
 use Rattle.amends.proofs.parsed_in.Tie as tie
-use Rattle.amends.proofs.parsed_in.Reads as reads
-use Rattle.amends.proofs.parsed_in.Lts as lts
-use Rattle.blocks.proofs.entry_of.Reads as entry-of-reads
 
 -- src/lib.rt:124:13
 enum-known-b : tie.Need-enum-known-b

@@ -3,13 +3,6 @@ use Rattle.amends.proofs.Judging.{right-five, right-small}
 use borrow.Author.Needs.{needs}
 use Rattle.amends.proofs.read_right.Statement.{statement}
 use Rattle.amends.proofs.read_right.Tie as tie
-use Rattle.amends.proofs.read_right.Reads as reads
-use Rattle.amends.proofs.read_right.Lts as lts
-use Rattle.blocks.proofs.block_from.Reads as block-from-reads
-use Rattle.blocks.proofs.line_kind.Reads as line-kind-reads
-use Rattle.text.proofs.line.behind.Reads as behind-reads
-use Rattle.text.proofs.line.line_end.Reads as line-end-reads
-use Rattle.text.proofs.line.number_of.Reads as number-of-reads
 
 -- src/lib.rt:50:9
 line-end-requires : tie.Need-line-end-requires

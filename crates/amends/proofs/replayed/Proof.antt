@@ -3,12 +3,6 @@ use Rattle.amends.proofs.Judging.{refused-right, replayed-none, replaye
 use borrow.Author.Needs.{needs}
 use Rattle.amends.proofs.replayed.Statement.{statement}
 use Rattle.amends.proofs.replayed.Tie as tie
-use Rattle.amends.proofs.replayed.Reads as reads
-use Rattle.amends.proofs.replayed.Lts as lts
-use Rattle.amends.proofs.righted.Reads as righted-reads
-use Rattle.desk.proofs.refused.Reads as refused-reads
-use Rattle.fresh.proofs.replay.Reads as replay-reads
-use Rattle.laws.proofs.short_of.Reads as short-of-reads
 
 -- src/lib.rt:159:31
 enum-told : tie.Need-enum-told

@@ -2,14 +2,6 @@
 use borrow.Author.Needs.{needs}
 use Rattle.amends.proofs.right_code.Statement.{statement}
 use Rattle.amends.proofs.right_code.Tie as tie
-use Rattle.amends.proofs.right_code.Reads as reads
-use Rattle.amends.proofs.right_code.Lts as lts
-use Rattle.amends.proofs.is_six.Reads as is-six-reads
-use Rattle.amends.proofs.outside.Reads as outside-reads
-use Rattle.laws.proofs.either.Reads as either-reads
-use Rattle.paper.proofs.between.Reads as between-reads
-use Rattle.paper.proofs.or_else.Reads as or-else-reads
-use Rattle.paper.proofs.when.Reads as when-reads
 
 -- src/lib.rt:109:9
 between-requires : tie.Need-between-requires

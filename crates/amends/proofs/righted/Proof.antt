@@ -3,10 +3,6 @@ use Rattle.amends.proofs.Judging.{righted-yes, righted-no, refused-righ
 use borrow.Author.Needs.{needs}
 use Rattle.amends.proofs.righted.Statement.{statement}
 use Rattle.amends.proofs.righted.Tie as tie
-use Rattle.amends.proofs.righted.Reads as reads
-use Rattle.amends.proofs.righted.Lts as lts
-use Rattle.desk.proofs.refused.Reads as refused-reads
-use Rattle.table.proofs.settle.no_payout.Reads as no-payout-reads
 
 -- src/lib.rt:141:13
 no-payout-requires : tie.Need-no-payout-requires

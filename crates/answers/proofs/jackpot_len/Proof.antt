@@ -7,8 +7,6 @@ use mathlib.Core.Bool.{Bool}
 use mathlib.Core.Path.{ap}
 use Rattle.answers.proofs.jackpot_len.Statement.{statement}
 use Rattle.answers.proofs.jackpot_len.Tie as tie
-use Rattle.answers.proofs.jackpot_len.Reads as reads
-use Rattle.answers.proofs.jackpot_len.Lts as lts
 
 -- src/lib.rt:102:1
 returns : tie.Need-returns

@@ -6,9 +6,6 @@ use mathlib.Core.Path.{refl, ap}
 use borrow.Author.Needs.{needs}
 use Rattle.answers.proofs.put_jackpot.Statement.{statement}
 use Rattle.answers.proofs.put_jackpot.Tie as tie
-use Rattle.answers.proofs.put_jackpot.Reads as reads
-use Rattle.answers.proofs.put_jackpot.Lts as lts
-use Rattle.writing.proofs.write_nine_line.Reads as write-nine-line-reads
 
 -- src/lib.rt:212:39
 slice-aggregate-write-nine-line : tie.Need-slice-aggregate-write-nine-line

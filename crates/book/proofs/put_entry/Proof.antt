@@ -5,10 +5,6 @@ use Prim.Native.Nat.{_+_}
 use borrow.Author.Needs.{needs}
 use Rattle.book.proofs.put_entry.Statement.{statement}
 use Rattle.book.proofs.put_entry.Tie as tie
-use Rattle.book.proofs.put_entry.Reads as reads
-use Rattle.book.proofs.put_entry.Lts as lts
-use Rattle.logs.proofs.write_entry.Reads as write-entry-reads
-use Rattle.records.proofs.entry_in.Reads as entry-in-reads
 
 -- src/main.rt:149:26
 add-write-entry : tie.Need-add-write-entry

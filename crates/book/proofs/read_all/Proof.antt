@@ -6,10 +6,6 @@ use mathlib.Core.Path.{_≡_, refl, _∙_}
 use borrow.Author.Needs.{needs}
 use Rattle.book.proofs.read_all.Statement.{statement}
 use Rattle.book.proofs.read_all.Tie as tie
-use Rattle.book.proofs.read_all.Reads as reads
-use Rattle.book.proofs.read_all.Lts as lts
-use Rattle.book.proofs.keeper.start.Reads as start-reads
-use Rattle.book.proofs.read_some.Reads as read-some-reads
 
 abbrev Inv-loop : tie.InvT-loop
 Inv-loop as-log buf₀ log₀ index₀ keeper₀ turns₀ buf log index keeper turns = (length buf ≡ length buf₀) × (length log ≡ length log₀) × (length index ≡ length index₀) × Ready keeper

@@ -7,14 +7,6 @@ use mathlib.Core.Path.{_≡_, refl, _∙_}
 use Prim.Native.Nat.{_-_, _≤_}
 use Rattle.book.proofs.take_part.Statement.{statement}
 use Rattle.book.proofs.take_part.Tie as tie
-use Rattle.book.proofs.take_part.Reads as reads
-use Rattle.book.proofs.take_part.Lts as lts
-use Rattle.book.proofs.keeper.take_one.Reads as take-one-reads
-use Rattle.book.proofs.voice.Reads as voice-reads
-use Rattle.book.proofs.buffer.Reads as buffer-reads
-use Rattle.io.proofs.write_all.Reads as write-all-reads
-use Rattle.laws.proofs.both.Reads as both-reads
-use Rattle.output.proofs.flush.Reads as flush-reads
 
 abbrev Inv-loop : tie.InvT-loop
 Inv-loop as-log buf₀ log₀ index₀ part out₀ keeper₀ ok₀ from₀ at₀ buf log index out keeper ok from at =

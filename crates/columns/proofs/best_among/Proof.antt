@@ -1,7 +1,6 @@
 -- `best_among` meets its contract.
 use Prim.Native.Nat.{_≤_, _-_, _+_, _/_}
 use mathlib.Core.Path.{_≡_, sym, ap, _∙_}
-use native.Mathlib.Omega.{arith}
 use Rattle.columns.specs.Columns.{bestAmong}
 use lib.ListN.{drop}
 use Rattle.columns.proofs.Turns.{best-turn, best-done}

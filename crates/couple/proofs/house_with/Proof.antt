@@ -4,10 +4,6 @@ use Rattle.couple.proofs.Tables.{house-is}
 use borrow.Author.Needs.{needs}
 use Rattle.couple.proofs.house_with.Statement.{statement}
 use Rattle.couple.proofs.house_with.Tie as tie
-use Rattle.couple.proofs.house_with.Reads as reads
-use Rattle.couple.proofs.house_with.Lts as lts
-use Rattle.laws.proofs.least.Reads as least-reads
-use Rattle.laws.proofs.short_of.Reads as short-of-reads
 
 -- src/lib.rt:97:25
 short-of-requires : tie.Need-short-of-requires

@@ -6,9 +6,6 @@ use Rattle.couple.proofs.Tables.{line-most, last-both, last-shut, last-
 use borrow.Author.Needs.{needs}
 use Rattle.couple.proofs.last_lines.Statement.{statement}
 use Rattle.couple.proofs.last_lines.Tie as tie
-use Rattle.couple.proofs.last_lines.Reads as reads
-use Rattle.couple.proofs.last_lines.Lts as lts
-use Rattle.writing.proofs.write_number_line.Reads as write-number-line-reads
 
 -- src/lib.rt:234:9
 returns : tie.Need-returns

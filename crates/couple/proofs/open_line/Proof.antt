@@ -1,16 +1,10 @@
 -- `open_line` meets its contract.
 use Rattle.pool.specs.declared.PoolOpened as opens
-use mathlib.Core.Path.{ap, sym, _∙_, subst}
+use mathlib.Core.Path.{ap, sym, _∙_}
 use Rattle.couple.proofs.Tables.{opened-held, pool-gave, pool-over, pool-bad}
 use borrow.Author.Needs.{needs}
 use Rattle.couple.proofs.open_line.Statement.{statement}
 use Rattle.couple.proofs.open_line.Tie as tie
-use Rattle.couple.proofs.open_line.Reads as reads
-use Rattle.couple.proofs.open_line.Lts as lts
-use Rattle.couple.proofs.refuse.Reads as refuse-reads
-use Rattle.couple.proofs.with_pool.Reads as with-pool-reads
-use Rattle.pool.proofs.open_pool.Reads as open-pool-reads
-use Rattle.text.proofs.read_key_number.Reads as read-key-number-reads
 
 -- src/lib.rt:164:34
 slice-aggregate-read-key-number : tie.Need-slice-aggregate-read-key-number

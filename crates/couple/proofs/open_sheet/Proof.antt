@@ -5,11 +5,6 @@ use Rattle.couple.proofs.Tables.{sheet-bad, sheet-gave}
 use borrow.Author.Needs.{needs}
 use Rattle.couple.proofs.open_sheet.Statement.{statement}
 use Rattle.couple.proofs.open_sheet.Tie as tie
-use Rattle.couple.proofs.open_sheet.Reads as reads
-use Rattle.couple.proofs.open_sheet.Lts as lts
-use Rattle.couple.proofs.refuse.Reads as refuse-reads
-use Rattle.couple.proofs.with_sheet.Reads as with-sheet-reads
-use Rattle.text.proofs.sheet.read_sheet.Reads as read-sheet-reads
 
 -- src/lib.rt:202:11
 read-sheet-requires : tie.Need-read-sheet-requires

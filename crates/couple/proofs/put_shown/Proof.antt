@@ -1,21 +1,11 @@
 -- `put_shown` meets its contract.
 use native.Mathlib.Omega.{arith}
-use Prim.Native.Nat.{ℕ}
-use mathlib.Core.List.{List, _++_}
-use mathlib.Core.Path.{ap, subst}
-use Rattle.text.specs.Line.{numberLine}
-use Rattle.writing.specs.AnswerSheet.{Wrote}
 use Rattle.frames.specs.Frames.{tableKey}
 use Rattle.writing.proofs.Sheets.{then}
 use Rattle.couple.proofs.Tables.{line-most, shown-both, shown-one, shown-none}
 use borrow.Author.Needs.{needs}
 use Rattle.couple.proofs.put_shown.Statement.{statement}
 use Rattle.couple.proofs.put_shown.Tie as tie
-use Rattle.couple.proofs.put_shown.Reads as reads
-use Rattle.couple.proofs.put_shown.Lts as lts
-use Rattle.couple.proofs.named.Reads as named-reads
-use Rattle.writing.proofs.put_bytes.Reads as put-bytes-reads
-use Rattle.writing.proofs.write_number_line.Reads as write-number-line-reads
 
 -- src/lib.rt:114:13
 named-requires : tie.Need-named-requires

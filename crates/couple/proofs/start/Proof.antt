@@ -3,9 +3,6 @@ use Rattle.paper.proofs.Sheets.{stand-in-good}
 use Rattle.couple.proofs.Tables.{started}
 use Rattle.couple.proofs.start.Statement.{statement}
 use Rattle.couple.proofs.start.Tie as tie
-use Rattle.couple.proofs.start.Reads as reads
-use Rattle.couple.proofs.start.Lts as lts
-use Rattle.table.proofs.take.new_table.Reads as new-table-reads
 
 -- src/lib.rt:54:9
 new-table-requires : tie.Need-new-table-requires

@@ -5,8 +5,6 @@ use Rattle.couple.proofs.Tables.{at-second, at-first}
 use borrow.Author.Needs.{needs}
 use Rattle.couple.proofs.table_at.Statement.{statement}
 use Rattle.couple.proofs.table_at.Tie as tie
-use Rattle.couple.proofs.table_at.Reads as reads
-use Rattle.couple.proofs.table_at.Lts as lts
 
 -- src/lib.rt:75:16
 array-copy-out-result : tie.Need-array-copy-out-result

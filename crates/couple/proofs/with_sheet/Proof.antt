@@ -3,11 +3,6 @@ use Rattle.couple.proofs.Tables.{sheet-with}
 use borrow.Author.Needs.{needs}
 use Rattle.couple.proofs.with_sheet.Statement.{statement}
 use Rattle.couple.proofs.with_sheet.Tie as tie
-use Rattle.couple.proofs.with_sheet.Reads as reads
-use Rattle.couple.proofs.with_sheet.Lts as lts
-use Rattle.couple.proofs.is_second.Reads as is-second-reads
-use Rattle.couple.proofs.with_table.Reads as with-table-reads
-use Rattle.table.proofs.take.new_table.Reads as new-table-reads
 
 -- src/lib.rt:187:29
 is-second-requires : tie.Need-is-second-requires

@@ -3,8 +3,6 @@ use Rattle.couple.proofs.Tables.{with-second, with-first}
 use borrow.Author.Needs.{needs}
 use Rattle.couple.proofs.with_table.Statement.{statement}
 use Rattle.couple.proofs.with_table.Tie as tie
-use Rattle.couple.proofs.with_table.Reads as reads
-use Rattle.couple.proofs.with_table.Lts as lts
 
 -- src/lib.rt:85:9
 array-set-from-us : tie.Need-array-set-from-us

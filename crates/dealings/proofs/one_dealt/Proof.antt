@@ -2,7 +2,6 @@
 use mathlib.Core.Path.{refl}
 use native.Mathlib.Omega.{arith}
 use borrow.Author.Tests.{lt-ltb, le-ltb}
-use borrow.Author.Needs.{needs}
 use Rattle.dealings.proofs.one_dealt.Statement.{statement}
 use Rattle.dealings.proofs.one_dealt.Tie as tie
 

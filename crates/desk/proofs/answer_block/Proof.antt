@@ -7,11 +7,6 @@ use mathlib.Core.Path.{refl}
 use borrow.Author.Needs.{needs}
 use Rattle.desk.proofs.answer_block.Statement.{statement}
 use Rattle.desk.proofs.answer_block.Tie as tie
-use Rattle.desk.proofs.answer_block.Reads as reads
-use Rattle.desk.proofs.answer_block.Lts as lts
-use Rattle.answers.proofs.write_answer.Reads as write-answer-reads
-use Rattle.desk.proofs.judge_block.Reads as judge-block-reads
-use Rattle.desk.proofs.shown_of.Reads as shown-of-reads
 
 -- src/lib.rt:186:9
 judge-block-requires : tie.Need-judge-block-requires

@@ -3,12 +3,6 @@ use Rattle.desk.proofs.Laws.{raw-judged, bad-judged, none-judged}
 use borrow.Author.Needs.{needs}
 use Rattle.desk.proofs.judge_block.Statement.{statement}
 use Rattle.desk.proofs.judge_block.Tie as tie
-use Rattle.desk.proofs.judge_block.Reads as reads
-use Rattle.desk.proofs.judge_block.Lts as lts
-use Rattle.blocks.proofs.entry_of.Reads as entry-of-reads
-use Rattle.desk.proofs.judge_parsed.Reads as judge-parsed-reads
-use Rattle.desk.proofs.no_block.Reads as no-block-reads
-use Rattle.desk.proofs.refused.Reads as refused-reads
 
 -- src/lib.rt:148:13
 enum-known-b : tie.Need-enum-known-b

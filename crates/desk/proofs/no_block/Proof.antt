@@ -2,9 +2,6 @@
 use borrow.Author.Needs.{needs}
 use Rattle.desk.proofs.no_block.Statement.{statement}
 use Rattle.desk.proofs.no_block.Tie as tie
-use Rattle.desk.proofs.no_block.Reads as reads
-use Rattle.desk.proofs.no_block.Lts as lts
-use Rattle.table.proofs.settle.no_payout.Reads as no-payout-reads
 
 -- src/lib.rt:111:9
 no-payout-requires : tie.Need-no-payout-requires

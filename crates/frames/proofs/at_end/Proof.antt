@@ -2,8 +2,6 @@
 use Rattle.frames.proofs.Nexts.{end-opening, end-none, end-line, end-run, end-block}
 use Rattle.frames.proofs.at_end.Statement.{statement}
 use Rattle.frames.proofs.at_end.Tie as tie
-use Rattle.frames.proofs.at_end.Reads as reads
-use Rattle.frames.proofs.at_end.Lts as lts
 
 -- src/lib.rt:235:9
 returns : tie.Need-returns

@@ -4,12 +4,6 @@ use Rattle.frames.proofs.Nexts.{wanted-range, from-within, heard-kept, 
 use borrow.Author.Needs.{needs}
 use Rattle.frames.proofs.hear.Statement.{statement}
 use Rattle.frames.proofs.hear.Tie as tie
-use Rattle.frames.proofs.hear.Reads as reads
-use Rattle.frames.proofs.hear.Lts as lts
-use Rattle.frames.proofs.kept_fill.Reads as kept-fill-reads
-use Rattle.frames.proofs.line_next.Reads as line-next-reads
-use Rattle.frames.proofs.table_of.Reads as table-of-reads
-use Rattle.lines.proofs.gather.Reads as gather-reads
 
 -- src/lib.rt:196:16
 sub-from : tie.Need-sub-from

@@ -3,9 +3,6 @@ use Rattle.frames.proofs.Nexts.{kept-more, kept-last}
 use borrow.Author.Needs.{needs}
 use Rattle.frames.proofs.kept_next.Statement.{statement}
 use Rattle.frames.proofs.kept_next.Tie as tie
-use Rattle.frames.proofs.kept_next.Reads as reads
-use Rattle.frames.proofs.kept_next.Lts as lts
-use Rattle.frames.proofs.wanted.Reads as wanted-reads
 
 -- src/lib.rt:110:16
 wanted-requires : tie.Need-wanted-requires

@@ -3,11 +3,6 @@ use Rattle.frames.proofs.Nexts.{line-opening, line-other, line-table}
 use borrow.Author.Needs.{needs}
 use Rattle.frames.proofs.line_next.Statement.{statement}
 use Rattle.frames.proofs.line_next.Tie as tie
-use Rattle.frames.proofs.line_next.Reads as reads
-use Rattle.frames.proofs.line_next.Lts as lts
-use Rattle.frames.proofs.kept_next.Reads as kept-next-reads
-use Rattle.frames.proofs.other_next.Reads as other-next-reads
-use Rattle.frames.proofs.table_next.Reads as table-next-reads
 
 -- src/lib.rt:170:38
 add-kept-next : tie.Need-add-kept-next

@@ -3,9 +3,6 @@ use Rattle.frames.proofs.Nexts.{other-first, other-more, other-block}
 use borrow.Author.Needs.{needs}
 use Rattle.frames.proofs.other_next.Statement.{statement}
 use Rattle.frames.proofs.other_next.Tie as tie
-use Rattle.frames.proofs.other_next.Reads as reads
-use Rattle.frames.proofs.other_next.Lts as lts
-use Rattle.frames.proofs.kept_next.Reads as kept-next-reads
 
 -- src/lib.rt:148:9
 returns : tie.Need-returns

@@ -3,9 +3,6 @@ use Rattle.frames.proofs.Nexts.{started}
 use borrow.Author.Needs.{needs}
 use Rattle.frames.proofs.start.Statement.{statement}
 use Rattle.frames.proofs.start.Tie as tie
-use Rattle.frames.proofs.start.Reads as reads
-use Rattle.frames.proofs.start.Lts as lts
-use Rattle.lines.proofs.empty.Reads as empty-reads
 
 -- src/lib.rt:58:9
 empty-requires : tie.Need-empty-requires

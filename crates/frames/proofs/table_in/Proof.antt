@@ -4,8 +4,6 @@ use Rattle.frames.proofs.Nexts.{table-none}
 use borrow.Author.Needs.{needs}
 use Rattle.frames.proofs.table_in.Statement.{statement}
 use Rattle.frames.proofs.table_in.Tie as tie
-use Rattle.frames.proofs.table_in.Reads as reads
-use Rattle.frames.proofs.table_in.Lts as lts
 
 -- src/lib.rt:70:23
 enum-known-x : tie.Need-enum-known-x

@@ -3,8 +3,6 @@ use Rattle.frames.proofs.Nexts.{table-first, table-cut}
 use borrow.Author.Needs.{needs}
 use Rattle.frames.proofs.table_next.Statement.{statement}
 use Rattle.frames.proofs.table_next.Tie as tie
-use Rattle.frames.proofs.table_next.Reads as reads
-use Rattle.frames.proofs.table_next.Lts as lts
 
 -- src/lib.rt:131:18
 add-t4 : tie.Need-add-t4

@@ -4,10 +4,6 @@ use Rattle.frames.specs.Frames.{tableOf, tableIn}
 use borrow.Author.Needs.{needs}
 use Rattle.frames.proofs.table_of.Statement.{statement}
 use Rattle.frames.proofs.table_of.Tie as tie
-use Rattle.frames.proofs.table_of.Reads as reads
-use Rattle.frames.proofs.table_of.Lts as lts
-use Rattle.frames.proofs.table_in.Reads as table-in-reads
-use Rattle.text.proofs.read_key_number.Reads as read-key-number-reads
 
 -- src/lib.rt:87:36
 slice-aggregate-read-key-number : tie.Need-slice-aggregate-read-key-number

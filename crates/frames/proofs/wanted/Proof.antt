@@ -2,8 +2,6 @@
 use Rattle.frames.proofs.Nexts.{wanted-pool, wanted-sheet, wanted-table, wanted-block}
 use Rattle.frames.proofs.wanted.Statement.{statement}
 use Rattle.frames.proofs.wanted.Tie as tie
-use Rattle.frames.proofs.wanted.Reads as reads
-use Rattle.frames.proofs.wanted.Lts as lts
 
 -- src/lib.rt:95:9
 returns : tie.Need-returns

@@ -5,9 +5,6 @@ use mathlib.Core.Path.{ap}
 use borrow.Author.Needs.{needs}
 use Rattle.fresh.proofs.begun.Statement.{statement}
 use Rattle.fresh.proofs.begun.Tie as tie
-use Rattle.fresh.proofs.begun.Reads as reads
-use Rattle.fresh.proofs.begun.Lts as lts
-use Rattle.table.proofs.take.new_table.Reads as new-table-reads
 
 -- src/lib.rt:31:9
 new-table-requires : tie.Need-new-table-requires

@@ -5,9 +5,6 @@ use Prim.Native.Nat.{ℕ}
 use borrow.Author.Needs.{needs}
 use Rattle.fresh.proofs.entry_or.Statement.{statement}
 use Rattle.fresh.proofs.entry_or.Tie as tie
-use Rattle.fresh.proofs.entry_or.Reads as reads
-use Rattle.fresh.proofs.entry_or.Lts as lts
-use Rattle.records.proofs.entry_by.Reads as entry-by-reads
 
 -- src/lib.rt:69:9
 returns : tie.Need-returns

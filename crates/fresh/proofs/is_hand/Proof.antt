@@ -3,9 +3,6 @@ use Rattle.fresh.specs.Reading.{isHand}
 use borrow.Author.Needs.{needs}
 use Rattle.fresh.proofs.is_hand.Statement.{statement}
 use Rattle.fresh.proofs.is_hand.Tie as tie
-use Rattle.fresh.proofs.is_hand.Reads as reads
-use Rattle.fresh.proofs.is_hand.Lts as lts
-use Rattle.paper.proofs.numbers_of.Reads as numbers-of-reads
 
 -- src/lib.rt:94:9
 numbers-of-requires : tie.Need-numbers-of-requires

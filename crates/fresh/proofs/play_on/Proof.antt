@@ -4,10 +4,6 @@ use mathlib.Core.Path.{refl}
 use borrow.Author.Needs.{needs}
 use Rattle.fresh.proofs.play_on.Statement.{statement}
 use Rattle.fresh.proofs.play_on.Tie as tie
-use Rattle.fresh.proofs.play_on.Reads as reads
-use Rattle.fresh.proofs.play_on.Lts as lts
-use Rattle.laws.proofs.both.Reads as both-reads
-use Rattle.table.proofs.table.Table.take.Reads as take-reads
 
 -- src/lib.rt:41:9
 take-requires : tie.Need-take-requires

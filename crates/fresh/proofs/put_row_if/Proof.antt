@@ -3,10 +3,6 @@ use Rattle.fresh.proofs.Steps.{rowed-yes, rowed-no}
 use borrow.Author.Needs.{needs}
 use Rattle.fresh.proofs.put_row_if.Statement.{statement}
 use Rattle.fresh.proofs.put_row_if.Tie as tie
-use Rattle.fresh.proofs.put_row_if.Reads as reads
-use Rattle.fresh.proofs.put_row_if.Lts as lts
-use Rattle.fresh.proofs.stacks_of.Reads as stacks-of-reads
-use Rattle.records.proofs.put_row.Reads as put-row-reads
 
 -- src/lib.rt:111:34
 stacks-of-requires : tie.Need-stacks-of-requires

@@ -3,10 +3,6 @@ use Rattle.fresh.proofs.Reached.{read-is}
 use borrow.Author.Needs.{needs}
 use Rattle.fresh.proofs.read_one.Statement.{statement}
 use Rattle.fresh.proofs.read_one.Tie as tie
-use Rattle.fresh.proofs.read_one.Reads as reads
-use Rattle.fresh.proofs.read_one.Lts as lts
-use Rattle.fresh.proofs.entry_or.Reads as entry-or-reads
-use Rattle.fresh.proofs.play_on.Reads as play-on-reads
 
 -- src/lib.rt:81:9
 entry-or-requires : tie.Need-entry-or-requires

@@ -3,10 +3,6 @@ use Rattle.fresh.proofs.Reached.{replay-is}
 use borrow.Author.Needs.{needs}
 use Rattle.fresh.proofs.replay.Statement.{statement}
 use Rattle.fresh.proofs.replay.Tie as tie
-use Rattle.fresh.proofs.replay.Reads as reads
-use Rattle.fresh.proofs.replay.Lts as lts
-use Rattle.fresh.proofs.begun.Reads as begun-reads
-use Rattle.fresh.proofs.read_on.Reads as read-on-reads
 
 -- src/lib.rt:113:9
 begun-requires : tie.Need-begun-requires

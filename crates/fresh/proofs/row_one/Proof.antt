@@ -4,12 +4,6 @@ use Rattle.records.specs.Stored.{entryIn}
 use borrow.Author.Needs.{needs}
 use Rattle.fresh.proofs.row_one.Statement.{statement}
 use Rattle.fresh.proofs.row_one.Tie as tie
-use Rattle.fresh.proofs.row_one.Reads as reads
-use Rattle.fresh.proofs.row_one.Lts as lts
-use Rattle.fresh.proofs.is_hand.Reads as is-hand-reads
-use Rattle.fresh.proofs.put_row_if.Reads as put-row-if-reads
-use Rattle.records.proofs.entry_in.Reads as entry-in-reads
-use Rattle.table.proofs.table.Table.take.Reads as take-reads
 
 -- src/lib.rt:123:9
 entry-in-requires : tie.Need-entry-in-requires

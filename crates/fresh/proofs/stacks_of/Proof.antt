@@ -10,8 +10,6 @@ use native.Mathlib.Omega.{arith}
 use borrow.Author.Needs.{needs}
 use Rattle.fresh.proofs.stacks_of.Statement.{statement}
 use Rattle.fresh.proofs.stacks_of.Tie as tie
-use Rattle.fresh.proofs.stacks_of.Reads as reads
-use Rattle.fresh.proofs.stacks_of.Lts as lts
 
 abbrev Inv-loop : tie.InvT-loop
 Inv-loop cs stacks₀ i₀ stacks i = (i ≤ 10) × (length stacks ≡ 10) × (take i stacks ++ map stackOf (drop i cs) ≡ map stackOf cs)

@@ -1,6 +1,5 @@
 -- `write_rows` meets its contract.
 use Rattle.fresh.proofs.Steps.{rowed-turn, index-turn, rowed-most}
-use Rattle.fresh.specs.declared.Rowed.{Rowed}
 use Rattle.fresh.specs.Reading.{rowsBegun, rowedFrom, indexFrom}
 use Rattle.records.specs.Stored.{entryIn}
 use Rattle.table.specs.declared.table.Table.{Table}
@@ -12,10 +11,6 @@ use native.Mathlib.Omega.{arith}
 use borrow.Author.Needs.{needs}
 use Rattle.fresh.proofs.write_rows.Statement.{statement}
 use Rattle.fresh.proofs.write_rows.Tie as tie
-use Rattle.fresh.proofs.write_rows.Reads as reads
-use Rattle.fresh.proofs.write_rows.Lts as lts
-use Rattle.fresh.proofs.row_one.Reads as row-one-reads
-use Rattle.table.proofs.take.new_table.Reads as new-table-reads
 
 abbrev Inv-loop : tie.InvT-loop
 Inv-loop log count index₀ p₀ k₀ index p k =

@@ -8,12 +8,6 @@ use Rattle.ledger.proofs.Holding.{answer-right, answer-entry}
 use borrow.Author.Needs.{needs}
 use Rattle.ledger.proofs.answer.Statement.{statement}
 use Rattle.ledger.proofs.answer.Tie as tie
-use Rattle.ledger.proofs.answer.Reads as reads
-use Rattle.ledger.proofs.answer.Lts as lts
-use Rattle.amends.proofs.is_right.Reads as is-right-reads
-use Rattle.amends.proofs.read_right.Reads as read-right-reads
-use Rattle.ledger.proofs.correct.Reads as correct-reads
-use Rattle.ledger.proofs.enter.Reads as enter-reads
 
 -- src/lib.rt:205:8
 is-right-requires : tie.Need-is-right-requires

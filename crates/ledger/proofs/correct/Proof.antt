@@ -5,15 +5,6 @@ use Rattle.text.proofs.Parts.{part-is}
 use borrow.Author.Needs.{needs}
 use Rattle.ledger.proofs.correct.Statement.{statement}
 use Rattle.ledger.proofs.correct.Tie as tie
-use Rattle.ledger.proofs.correct.Reads as reads
-use Rattle.ledger.proofs.correct.Lts as lts
-use Rattle.amends.proofs.judge_right.Reads as judge-right-reads
-use Rattle.ledger.proofs.judged.numbers_in.Reads as numbers-in-reads
-use Rattle.ledger.proofs.put_answer.Reads as put-answer-reads
-use Rattle.ledger.proofs.rewrite.Reads as rewrite-reads
-use Rattle.ledger.proofs.told.Reads as told-reads
-use Rattle.ledger.proofs.was_taken.Reads as was-taken-reads
-use Rattle.text.proofs.sheet.value_in.Reads as value-in-reads
 
 -- src/lib.rt:180:39
 sub-judge-right : tie.Need-sub-judge-right

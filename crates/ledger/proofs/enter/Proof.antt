@@ -4,14 +4,6 @@ use Rattle.ledger.proofs.Holding.{entered-is}
 use borrow.Author.Needs.{needs}
 use Rattle.ledger.proofs.enter.Statement.{statement}
 use Rattle.ledger.proofs.enter.Tie as tie
-use Rattle.ledger.proofs.enter.Reads as reads
-use Rattle.ledger.proofs.enter.Lts as lts
-use Rattle.ledger.proofs.judged.judge_entry.Reads as judge-entry-reads
-use Rattle.ledger.proofs.judged.numbers_in.Reads as numbers-in-reads
-use Rattle.ledger.proofs.keep.Reads as keep-reads
-use Rattle.ledger.proofs.put_answer.Reads as put-answer-reads
-use Rattle.ledger.proofs.told.Reads as told-reads
-use Rattle.ledger.proofs.was_taken.Reads as was-taken-reads
 
 -- src/lib.rt:139:9
 judge-entry-requires : tie.Need-judge-entry-requires

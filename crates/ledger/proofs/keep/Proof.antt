@@ -3,10 +3,6 @@ use Rattle.ledger.proofs.Telling.{keep-yes, keep-no}
 use borrow.Author.Needs.{needs}
 use Rattle.ledger.proofs.keep.Statement.{statement}
 use Rattle.ledger.proofs.keep.Tie as tie
-use Rattle.ledger.proofs.keep.Reads as reads
-use Rattle.ledger.proofs.keep.Lts as lts
-use Rattle.fresh.proofs.put_row_if.Reads as put-row-if-reads
-use Rattle.records.proofs.put_record.Reads as put-record-reads
 
 -- src/lib.rt:124:9
 put-record-requires : tie.Need-put-record-requires

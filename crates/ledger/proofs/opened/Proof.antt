@@ -2,13 +2,10 @@
 use Rattle.table.specs.declared.table.Table.{Table}
 use Rattle.paper.specs.Paper.{isSheet}
 use native.Mathlib.Omega.{arith}
-use mathlib.Core.Path.{_≡_, sym, ap, subst, _∙_}
+use mathlib.Core.Path.{ap, _∙_}
 use borrow.Author.Needs.{needs}
 use Rattle.ledger.proofs.opened.Statement.{statement}
 use Rattle.ledger.proofs.opened.Tie as tie
-use Rattle.ledger.proofs.opened.Reads as reads
-use Rattle.ledger.proofs.opened.Lts as lts
-use Rattle.table.proofs.take.new_table.Reads as new-table-reads
 
 -- src/lib.rt:52:9
 new-table-requires : tie.Need-new-table-requires

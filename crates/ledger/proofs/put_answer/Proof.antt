@@ -4,10 +4,6 @@ use borrow.Author.Tests.{not-true, not-false}
 use borrow.Author.Needs.{needs}
 use Rattle.ledger.proofs.put_answer.Statement.{statement}
 use Rattle.ledger.proofs.put_answer.Tie as tie
-use Rattle.ledger.proofs.put_answer.Reads as reads
-use Rattle.ledger.proofs.put_answer.Lts as lts
-use Rattle.answers.proofs.write_answer.Reads as write-answer-reads
-use Rattle.desk.proofs.shown_of.Reads as shown-of-reads
 
 -- src/lib.rt:71:9
 returns : tie.Need-returns

@@ -4,11 +4,6 @@ use Rattle.text.proofs.Parts.{part-is}
 use borrow.Author.Needs.{needs}
 use Rattle.ledger.proofs.rewrite.Statement.{statement}
 use Rattle.ledger.proofs.rewrite.Tie as tie
-use Rattle.ledger.proofs.rewrite.Reads as reads
-use Rattle.ledger.proofs.rewrite.Lts as lts
-use Rattle.fresh.proofs.write_rows.Reads as write-rows-reads
-use Rattle.laws.proofs.short_of.Reads as short-of-reads
-use Rattle.records.proofs.put_record.Reads as put-record-reads
 
 -- src/lib.rt:155:25
 short-of-requires : tie.Need-short-of-requires

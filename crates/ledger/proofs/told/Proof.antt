@@ -3,8 +3,6 @@ use Rattle.ledger.proofs.Telling.{told-bytes, told-none}
 use borrow.Author.Needs.{needs}
 use Rattle.ledger.proofs.told.Statement.{statement}
 use Rattle.ledger.proofs.told.Tie as tie
-use Rattle.ledger.proofs.told.Reads as reads
-use Rattle.ledger.proofs.told.Lts as lts
 
 -- src/lib.rt:94:24
 enum-known-w : tie.Need-enum-known-w

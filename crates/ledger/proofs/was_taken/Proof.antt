@@ -3,8 +3,6 @@ use Rattle.ledger.proofs.Telling.{taken-bytes, taken-none}
 use borrow.Author.Needs.{needs}
 use Rattle.ledger.proofs.was_taken.Statement.{statement}
 use Rattle.ledger.proofs.was_taken.Tie as tie
-use Rattle.ledger.proofs.was_taken.Reads as reads
-use Rattle.ledger.proofs.was_taken.Lts as lts
 
 -- src/lib.rt:84:30
 enum-told : tie.Need-enum-told

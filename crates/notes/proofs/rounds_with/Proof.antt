@@ -1,7 +1,6 @@
 -- `rounds_with` meets its contract.
 use borrow.Author.Tests.{eq-eqb, ne-eqb, lt-ltb, le-ltb}
 use Rattle.notes.specs.Notes.{roundsWith}
-use borrow.Author.Needs.{needs}
 use Rattle.notes.proofs.rounds_with.Statement.{statement}
 use Rattle.notes.proofs.rounds_with.Tie as tie
 

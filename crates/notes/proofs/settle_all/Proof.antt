@@ -1,10 +1,9 @@
 -- `settle_all` meets its contract: in front of the place the accounts are settled, behind it they are still to come.
-use mathlib.Core.Path.{_≡_, refl, sym, ap, _∙_}
-use mathlib.Core.List.{_∷_, _++_, map}
-use Prim.Native.Nat.{ℕ, _+_, _-_, _*_, _≤_}
+use mathlib.Core.Path.{_≡_, refl}
+use mathlib.Core.List.{_++_}
+use Prim.Native.Nat.{_+_, _-_, _≤_}
 use lib.ListN.{length, take, drop, length-set}
 use native.Mathlib.Omega.{arith}
-use Rattle.chairs.proofs.Laws.{unread}
 use Rattle.notes.specs.Notes.{settleAll}
 use Rattle.notes.proofs.Laws.{settle-turn, settle-done}
 use borrow.Author.Needs.{needs}

@@ -1,10 +1,8 @@
 -- `sums_now` meets its contract: the sums so far with the sittings behind the place are those of all.
-use mathlib.Core.Path.{_≡_, refl, sym, ap, _∙_}
-use mathlib.Core.List.{_∷_, _++_, map}
-use Prim.Native.Nat.{ℕ, _+_, _-_, _*_, _≤_}
-use lib.ListN.{length, take, drop, length-set}
+use mathlib.Core.Path.{_≡_, refl}
+use Prim.Native.Nat.{_-_, _≤_}
+use lib.ListN.{length, drop}
 use native.Mathlib.Omega.{arith}
-use Rattle.chairs.proofs.Laws.{unread}
 use Rattle.notes.specs.Notes.{sumsFrom}
 use Rattle.notes.proofs.Laws.{sums-turn, sums-done}
 use borrow.Author.Needs.{needs}

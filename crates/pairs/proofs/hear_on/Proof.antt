@@ -3,7 +3,6 @@ use Rattle.pairs.proofs.Gathers.{Hearing, hear-start, turn-used, turn-l
 use Rattle.lines.specs.Kept.{keptMost}
 use lib.ListN.{length}
 use Prim.Native.Nat.{_-_, _≤_}
-use mathlib.Core.Path.{_≡_}
 use borrow.Author.Needs.{needs}
 use native.Mathlib.Omega.{arith}
 use Rattle.pairs.proofs.hear_on.Statement.{statement}

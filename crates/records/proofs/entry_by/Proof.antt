@@ -1,13 +1,8 @@
 -- `entry_by` meets its contract.
 use Rattle.records.proofs.Found.{entry-none}
-use mathlib.Core.Path.{refl}
 use borrow.Author.Needs.{needs}
 use Rattle.records.proofs.entry_by.Statement.{statement}
 use Rattle.records.proofs.entry_by.Tie as tie
-use Rattle.records.proofs.entry_by.Reads as reads
-use Rattle.records.proofs.entry_by.Lts as lts
-use Rattle.blocks.proofs.entry_at.Reads as entry-at-reads
-use Rattle.records.proofs.wide.Reads as wide-reads
 
 -- src/lib.rt:126:13
 cast-k : tie.Need-cast-k

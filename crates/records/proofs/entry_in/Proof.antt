@@ -4,10 +4,6 @@ use mathlib.Core.Path.{_∙_, ap}
 use borrow.Author.Needs.{needs}
 use Rattle.records.proofs.entry_in.Statement.{statement}
 use Rattle.records.proofs.entry_in.Tie as tie
-use Rattle.records.proofs.entry_in.Reads as reads
-use Rattle.records.proofs.entry_in.Lts as lts
-use Rattle.records.proofs.entry_by.Reads as entry-by-reads
-use Rattle.records.proofs.record_in.Reads as record-in-reads
 
 -- src/lib.rt:137:14
 record-in-requires : tie.Need-record-in-requires

@@ -2,8 +2,6 @@
 use Rattle.records.proofs.Found.{later-hand, later-other}
 use Rattle.records.proofs.later.Statement.{statement}
 use Rattle.records.proofs.later.Tie as tie
-use Rattle.records.proofs.later.Reads as reads
-use Rattle.records.proofs.later.Lts as lts
 
 -- src/lib.rt:233:1
 returns : tie.Need-returns

@@ -4,10 +4,6 @@ use mathlib.Core.Path.{refl}
 use borrow.Author.Needs.{needs}
 use Rattle.records.proofs.put_record.Statement.{statement}
 use Rattle.records.proofs.put_record.Tie as tie
-use Rattle.records.proofs.put_record.Reads as reads
-use Rattle.records.proofs.put_record.Lts as lts
-use Rattle.records.proofs.record_of.Reads as record-of-reads
-use Rattle.writing.proofs.put_bytes.Reads as put-bytes-reads
 
 -- src/lib.rt:161:14
 mul-at : tie.Need-mul-at

@@ -5,9 +5,6 @@ use mathlib.Core.Path.{_≡_, refl}
 use borrow.Author.Needs.{needs}
 use Rattle.records.proofs.put_row.Statement.{statement}
 use Rattle.records.proofs.put_row.Tie as tie
-use Rattle.records.proofs.put_row.Reads as reads
-use Rattle.records.proofs.put_row.Lts as lts
-use Rattle.records.proofs.put_row_bytes.Reads as put-row-bytes-reads
 
 -- src/lib.rt:182:14
 mul-at : tie.Need-mul-at

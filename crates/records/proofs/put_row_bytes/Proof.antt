@@ -7,10 +7,6 @@ use Rattle.writing.proofs.Sheets.{then}
 use borrow.Author.Needs.{needs}
 use Rattle.records.proofs.put_row_bytes.Statement.{statement}
 use Rattle.records.proofs.put_row_bytes.Tie as tie
-use Rattle.records.proofs.put_row_bytes.Reads as reads
-use Rattle.records.proofs.put_row_bytes.Lts as lts
-use Rattle.records.proofs.put_word.Reads as put-word-reads
-use Rattle.records.proofs.put_words.Reads as put-words-reads
 
 -- src/lib.rt:174:9
 put-word-requires : tie.Need-put-word-requires

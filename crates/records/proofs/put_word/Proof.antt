@@ -3,10 +3,6 @@ use Rattle.records.proofs.Words.{word-wrote}
 use borrow.Author.Needs.{needs}
 use Rattle.records.proofs.put_word.Statement.{statement}
 use Rattle.records.proofs.put_word.Tie as tie
-use Rattle.records.proofs.put_word.Reads as reads
-use Rattle.records.proofs.put_word.Lts as lts
-use Rattle.records.proofs.low_byte.Reads as low-byte-reads
-use Rattle.writing.proofs.put_bytes.Reads as put-bytes-reads
 
 -- src/lib.rt:58:9
 low-byte-requires : tie.Need-low-byte-requires

@@ -7,9 +7,6 @@ use native.Mathlib.Omega.{arith}
 use borrow.Author.Needs.{needs}
 use Rattle.records.proofs.put_words.Statement.{statement}
 use Rattle.records.proofs.put_words.Tie as tie
-use Rattle.records.proofs.put_words.Reads as reads
-use Rattle.records.proofs.put_words.Lts as lts
-use Rattle.records.proofs.put_word.Reads as put-word-reads
 
 abbrev Inv-loop : tie.InvT-loop
 Inv-loop buffer₀ ws at₀ k₀ buffer at k = (k ≤ 10) × Going ws buffer₀ buffer k at

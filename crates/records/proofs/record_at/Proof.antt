@@ -3,10 +3,6 @@ use Rattle.records.proofs.Found.{absent, present}
 use borrow.Author.Needs.{needs}
 use Rattle.records.proofs.record_at.Statement.{statement}
 use Rattle.records.proofs.record_at.Tie as tie
-use Rattle.records.proofs.record_at.Reads as reads
-use Rattle.records.proofs.record_at.Lts as lts
-use Rattle.records.proofs.four.Reads as four-reads
-use Rattle.records.proofs.left_of.Reads as left-of-reads
 
 -- src/lib.rt:93:9
 left-of-requires : tie.Need-left-of-requires

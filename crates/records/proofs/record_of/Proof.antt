@@ -2,9 +2,6 @@
 use borrow.Author.Needs.{needs}
 use Rattle.records.proofs.record_of.Statement.{statement}
 use Rattle.records.proofs.record_of.Tie as tie
-use Rattle.records.proofs.record_of.Reads as reads
-use Rattle.records.proofs.record_of.Lts as lts
-use Rattle.records.proofs.low_byte.Reads as low-byte-reads
 
 -- src/lib.rt:145:9
 low-byte-requires : tie.Need-low-byte-requires

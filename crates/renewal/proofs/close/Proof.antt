@@ -4,10 +4,6 @@ use native.Mathlib.Omega.{arith}
 use borrow.Author.Needs.{needs}
 use Rattle.renewal.proofs.close.Statement.{statement}
 use Rattle.renewal.proofs.close.Tie as tie
-use Rattle.renewal.proofs.close.Reads as reads
-use Rattle.renewal.proofs.close.Lts as lts
-use Rattle.renewal.proofs.may_end.Reads as may-end-reads
-use Rattle.renewal.proofs.put_missing.Reads as put-missing-reads
 
 returns : tie.Need-returns
 returns c = let p = close-done ((c .before .before) .args .s) ((c .before .before) .args .out .now) ((c .before .before) .pre .0) (c .if1 .taken) in (p .0, (p .1 .0, omega (arith, p .1 .1, (c .before .before) .pre .1)))

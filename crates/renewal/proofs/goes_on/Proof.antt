@@ -3,9 +3,6 @@ use Rattle.renewal.proofs.Steps.{goes-is}
 use borrow.Author.Needs.{needs}
 use Rattle.renewal.proofs.goes_on.Statement.{statement}
 use Rattle.renewal.proofs.goes_on.Tie as tie
-use Rattle.renewal.proofs.goes_on.Reads as reads
-use Rattle.renewal.proofs.goes_on.Lts as lts
-use Rattle.laws.proofs.both.Reads as both-reads
 
 returns : tie.Need-returns
 returns c = search needs

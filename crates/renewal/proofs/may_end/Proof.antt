@@ -2,8 +2,6 @@
 use borrow.Author.Needs.{needs}
 use Rattle.renewal.proofs.may_end.Statement.{statement}
 use Rattle.renewal.proofs.may_end.Tie as tie
-use Rattle.renewal.proofs.may_end.Reads as reads
-use Rattle.renewal.proofs.may_end.Lts as lts
 
 returns : tie.Need-returns
 returns c = search needs

@@ -3,8 +3,6 @@ use Rattle.renewal.proofs.Steps.{onward-lf, onward-in}
 use borrow.Author.Needs.{needs}
 use Rattle.renewal.proofs.onward.Statement.{statement}
 use Rattle.renewal.proofs.onward.Tie as tie
-use Rattle.renewal.proofs.onward.Reads as reads
-use Rattle.renewal.proofs.onward.Lts as lts
 
 add-e : tie.Need-add-e
 add-e c = search needs

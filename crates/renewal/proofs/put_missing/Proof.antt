@@ -5,11 +5,6 @@ use native.Mathlib.Omega.{arith}
 use borrow.Author.Needs.{needs}
 use Rattle.renewal.proofs.put_missing.Statement.{statement}
 use Rattle.renewal.proofs.put_missing.Tie as tie
-use Rattle.renewal.proofs.put_missing.Reads as reads
-use Rattle.renewal.proofs.put_missing.Lts as lts
-use Rattle.renewal.proofs.later_lines.Reads as later-lines-reads
-use Rattle.text.proofs.line.after_lines.Reads as after-lines-reads
-use Rattle.writing.proofs.put_bytes.Reads as put-bytes-reads
 
 slice-aggregate-after-lines : tie.Need-slice-aggregate-after-lines
 slice-aggregate-after-lines c = search needs

@@ -8,10 +8,6 @@ use native.Mathlib.Omega.{arith}
 use Rattle.text.proofs.Parts.{part-is}
 use Rattle.renewal.proofs.renew_on.Statement.{statement}
 use Rattle.renewal.proofs.renew_on.Tie as tie
-use Rattle.renewal.proofs.renew_on.Reads as reads
-use Rattle.renewal.proofs.renew_on.Lts as lts
-use Rattle.renewal.proofs.goes_on.Reads as goes-on-reads
-use Rattle.renewal.proofs.step.Reads as step-reads
 
 abbrev Inv-loop : tie.InvT-loop
 Inv-loop part out₀ renewal₀ used₀ at₀ out renewal used at = Renewing renewal₀ part out₀ out renewal used at

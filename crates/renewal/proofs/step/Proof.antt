@@ -3,12 +3,6 @@ use Rattle.renewal.proofs.Steps.{step-done, step-behind, step-hold, ste
 use borrow.Author.Needs.{needs}
 use Rattle.renewal.proofs.step.Statement.{statement}
 use Rattle.renewal.proofs.step.Tie as tie
-use Rattle.renewal.proofs.step.Reads as reads
-use Rattle.renewal.proofs.step.Lts as lts
-use Rattle.laws.proofs.both.Reads as both-reads
-use Rattle.renewal.proofs.may_end.Reads as may-end-reads
-use Rattle.renewal.proofs.onward.Reads as onward-reads
-use Rattle.renewal.proofs.step_held.Reads as step-held-reads
 
 slice-write-out : tie.Need-slice-write-out
 slice-write-out c = search needs

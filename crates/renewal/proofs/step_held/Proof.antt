@@ -5,11 +5,6 @@ use native.Mathlib.Omega.{arith}
 use borrow.Author.Needs.{needs}
 use Rattle.renewal.proofs.step_held.Statement.{statement}
 use Rattle.renewal.proofs.step_held.Tie as tie
-use Rattle.renewal.proofs.step_held.Reads as reads
-use Rattle.renewal.proofs.step_held.Lts as lts
-use Rattle.renewal.proofs.onward.Reads as onward-reads
-use Rattle.renewal.proofs.put_missing.Reads as put-missing-reads
-use Rattle.writing.proofs.put_bytes.Reads as put-bytes-reads
 
 put-missing-requires : tie.Need-put-missing-requires
 put-missing-requires c κs = search needs

@@ -1,5 +1,4 @@
 -- `with_jackpot` meets its contract: all else stays. Assumes nothing.
-use borrow.Author.Needs.{needs}
 use mathlib.Core.Path.{refl}
 use Rattle.shared.specs.Shared.{withJackpot}
 use Rattle.shared.proofs.Laws.{shown-small}

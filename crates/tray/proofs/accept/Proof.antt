@@ -1,9 +1,7 @@
 -- `accept` meets its contract: the counts are lowered exactly where the answer is 0.
 -- Assumes nothing.
-use mathlib.Core.Path.{_≡_, sym, ap, _∙_}
+use mathlib.Core.Path.{sym, _∙_}
 use native.Mathlib.Omega.{arith}
-use lib.ListN.{length}
-use Rattle.tray.proofs.Front.{each-long}
 use Rattle.tray.proofs.Within.{within}
 use Rattle.tray.proofs.Judging.{tests-of, after-0, after-other}
 use borrow.Author.Needs.{needs}

@@ -1,6 +1,6 @@
 -- `check` meets its contract, by its two tests in turn.
 -- Assumes nothing.
-use mathlib.Core.Path.{_≡_, sym, ap, _∙_}
+use mathlib.Core.Path.{sym, _∙_}
 use native.Mathlib.Omega.{arith}
 use Rattle.tray.proofs.Within.{within}
 use Rattle.tray.proofs.Judging.{judged-2, judged-0, judged-16}

@@ -1,7 +1,6 @@
 -- `fits` meets its contract, by its tests in turn.
 -- Assumes nothing.
-use mathlib.Core.Path.{_≡_, refl, sym, ap, _∙_}
-use native.Mathlib.Omega.{arith}
+use mathlib.Core.Path.{ap, _∙_}
 use Rattle.tray.proofs.Within.{Rows, fits-many, fits-counts, fits-sittings, fits-rest}
 use Rattle.laws.specs.Tests.{both}
 use borrow.Author.Needs.{needs}

@@ -1,11 +1,10 @@
 -- `lower` meets its contract. The invariant: the counts of the rows below i are lowered.
 -- Assumes nothing.
-use Prim.Native.Nat.{ℕ, _≤_, _-_}
-use mathlib.Core.Path.{_≡_, refl, sym, ap, _∙_}
-use native.Mathlib.Numerals.{add-one}
+use Prim.Native.Nat.{_≤_, _-_}
+use mathlib.Core.Path.{_≡_, refl, ap, _∙_}
 use native.Mathlib.Omega.{arith}
-use lib.ListN.{length, getD, set}
-use Rattle.tray.specs.Proposal.{takenFrom, lowered}
+use lib.ListN.{length, getD}
+use Rattle.tray.specs.Proposal.{takenFrom}
 use Rattle.tray.proofs.Front.{frontBy, front-long, each-turn, each-done}
 use borrow.Author.Needs.{needs}
 use Rattle.tray.proofs.lower.Statement.{statement}

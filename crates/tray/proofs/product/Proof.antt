@@ -5,7 +5,6 @@ use mathlib.Core.Path.{refl}
 use native.Mathlib.Nat.{mul-le-mul, lt-of-le-of-lt, le-of-eq}
 use native.Mathlib.Omega.{arith}
 use lib.Dec.{lit<}
-use borrow.Author.Needs.{needs}
 use Rattle.tray.proofs.product.Statement.{statement}
 use Rattle.tray.proofs.product.Tie as tie
 

@@ -5,7 +5,7 @@ use Rattle.tray.specs.Proposal.{rowFits}
 use Rattle.tray.specs.Counting.{allTo}
 use lib.ListN.{length, getD}
 use mathlib.Core.Path.{_≡_, refl, ap, _∙_}
-use Prim.Native.Nat.{ℕ, _≤_, _-_}
+use Prim.Native.Nat.{_≤_, _-_}
 use borrow.Author.Needs.{needs}
 use Rattle.tray.proofs.rows_fit.Statement.{statement}
 use Rattle.tray.proofs.rows_fit.Tie as tie

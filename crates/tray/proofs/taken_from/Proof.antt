@@ -4,8 +4,8 @@ use Rattle.tray.proofs.Sums.{sum-turn, sum-done}
 use Rattle.tray.specs.Proposal.{given, takenFrom}
 use Rattle.tray.specs.Counting.{sumTo}
 use native.Mathlib.Omega.{arith}
-use mathlib.Core.Path.{_≡_, refl, ap, _∙_}
-use Prim.Native.Nat.{ℕ, _*_, _≤_, _-_}
+use mathlib.Core.Path.{_≡_, refl, _∙_}
+use Prim.Native.Nat.{_*_, _≤_, _-_}
 use borrow.Author.Needs.{needs}
 use Rattle.tray.proofs.taken_from.Statement.{statement}
 use Rattle.tray.proofs.taken_from.Tie as tie

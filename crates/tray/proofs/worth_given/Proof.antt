@@ -1,5 +1,4 @@
 -- `worth_given` meets its contract.
-use native.Mathlib.Nat.{mul-le-mul}
 -- `worth_given` meets its contract. The invariant: the worth of the rows below i, which is small.
 -- Assumes nothing.
 use Rattle.tray.proofs.Sums.{sum-turn, sum-done}
@@ -8,7 +7,7 @@ use Rattle.tray.specs.Counting.{sumTo}
 use lib.ListN.{length, getD}
 use native.Mathlib.Omega.{arith}
 use mathlib.Core.Path.{_≡_, refl, ap, _∙_}
-use Prim.Native.Nat.{ℕ, _*_, _≤_, _-_}
+use Prim.Native.Nat.{_*_, _≤_, _-_}
 use borrow.Author.Needs.{needs}
 use Rattle.tray.proofs.worth_given.Statement.{statement}
 use Rattle.tray.proofs.worth_given.Tie as tie

@@ -4,10 +4,6 @@ use Rattle.paper.proofs.Sheets.{stand-in-good}
 use borrow.Author.Needs.{needs}
 use Rattle.book.proofs.keeper.start.Statement.{statement}
 use Rattle.book.proofs.keeper.start.Tie as tie
-use Rattle.book.proofs.keeper.start.Reads as reads
-use Rattle.book.proofs.keeper.start.Lts as lts
-use Rattle.ledger.proofs.opened.Reads as opened-reads
-use Rattle.lines.proofs.empty.Reads as empty-reads
 
 -- src/keeper.rt:45:9
 opened-requires : tie.Need-opened-requires

@@ -3,12 +3,6 @@ use native.Mathlib.Omega.{arith}
 use borrow.Author.Needs.{needs}
 use Rattle.book.proofs.keeper.take_block.Statement.{statement}
 use Rattle.book.proofs.keeper.take_block.Tie as tie
-use Rattle.book.proofs.keeper.take_block.Reads as reads
-use Rattle.book.proofs.keeper.take_block.Lts as lts
-use Rattle.book.proofs.keeper.said.Reads as said-reads
-use Rattle.ledger.proofs.answer.Reads as answer-reads
-use Rattle.lines.proofs.empty.Reads as empty-reads
-use Rattle.logs.proofs.copy.next_number.Reads as next-number-reads
 
 -- src/keeper.rt:122:9
 next-number-requires : tie.Need-next-number-requires

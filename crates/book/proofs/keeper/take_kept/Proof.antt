@@ -5,13 +5,6 @@ use native.Mathlib.Omega.{arith}
 use borrow.Author.Needs.{needs}
 use Rattle.book.proofs.keeper.take_kept.Statement.{statement}
 use Rattle.book.proofs.keeper.take_kept.Tie as tie
-use Rattle.book.proofs.keeper.take_kept.Reads as reads
-use Rattle.book.proofs.keeper.take_kept.Lts as lts
-use Rattle.book.proofs.keeper.keeping.Reads as keeping-reads
-use Rattle.book.proofs.keeper.take_lines.Reads as take-lines-reads
-use Rattle.lines.proofs.gather.Reads as gather-reads
-use Rattle.lines.proofs.lines_of.Reads as lines-of-reads
-use Rattle.output.proofs.ahead.Reads as ahead-reads
 
 -- src/keeper.rt:200:9
 lines-of-requires : tie.Need-lines-of-requires

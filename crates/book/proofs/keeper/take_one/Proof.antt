@@ -7,13 +7,6 @@ use mathlib.Core.Path.{ap}
 use borrow.Author.Needs.{needs}
 use Rattle.book.proofs.keeper.take_one.Statement.{statement}
 use Rattle.book.proofs.keeper.take_one.Tie as tie
-use Rattle.book.proofs.keeper.take_one.Reads as reads
-use Rattle.book.proofs.keeper.take_one.Lts as lts
-use Rattle.blocks.proofs.read_front.Reads as read-front-reads
-use Rattle.book.proofs.keeper.awaits_block.Reads as awaits-block-reads
-use Rattle.book.proofs.keeper.take_block.Reads as take-block-reads
-use Rattle.book.proofs.keeper.take_kept.Reads as take-kept-reads
-use Rattle.output.proofs.ahead.Reads as ahead-reads
 
 -- src/keeper.rt:244:8
 awaits-block-requires : tie.Need-awaits-block-requires

@@ -9,11 +9,6 @@ use Rattle.desk.proofs.Opened.{lone-is}
 use borrow.Author.Needs.{needs}
 use Rattle.book.proofs.keeper.take_sheet.Statement.{statement}
 use Rattle.book.proofs.keeper.take_sheet.Tie as tie
-use Rattle.book.proofs.keeper.take_sheet.Reads as reads
-use Rattle.book.proofs.keeper.take_sheet.Lts as lts
-use Rattle.ledger.proofs.opened.Reads as opened-reads
-use Rattle.lines.proofs.empty.Reads as empty-reads
-use Rattle.text.proofs.sheet.read_sheet.Reads as read-sheet-reads
 
 -- src/keeper.rt:62:9
 empty-requires : tie.Need-empty-requires

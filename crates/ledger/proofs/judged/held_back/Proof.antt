@@ -3,11 +3,6 @@ use Rattle.ledger.proofs.Telling.{held-yes, held-no}
 use borrow.Author.Needs.{needs}
 use Rattle.ledger.proofs.judged.held_back.Statement.{statement}
 use Rattle.ledger.proofs.judged.held_back.Tie as tie
-use Rattle.ledger.proofs.judged.held_back.Reads as reads
-use Rattle.ledger.proofs.judged.held_back.Lts as lts
-use Rattle.desk.proofs.refused.Reads as refused-reads
-use Rattle.laws.proofs.both.Reads as both-reads
-use Rattle.laws.proofs.either.Reads as either-reads
 
 -- src/judged.rt:65:9
 either-requires : tie.Need-either-requires

@@ -3,10 +3,6 @@ use Rattle.ledger.specs.Entering.{isFull}
 use borrow.Author.Needs.{needs}
 use Rattle.ledger.proofs.judged.is_full.Statement.{statement}
 use Rattle.ledger.proofs.judged.is_full.Tie as tie
-use Rattle.ledger.proofs.judged.is_full.Reads as reads
-use Rattle.ledger.proofs.judged.is_full.Lts as lts
-use Rattle.laws.proofs.both.Reads as both-reads
-use Rattle.laws.proofs.either.Reads as either-reads
 
 -- src/judged.rt:28:24
 mul-record : tie.Need-mul-record

@@ -1,16 +1,10 @@
 -- `judge_entry` meets its contract.
 use Rattle.ledger.proofs.Telling.{entry-judged}
 use Prim.Native.Nat.{ℕ, _<_, _^_}
-use mathlib.Core.Path.{_≡_, sym, subst, _∙_}
+use mathlib.Core.Path.{sym, subst}
 use borrow.Author.Needs.{needs}
 use Rattle.ledger.proofs.judged.judge_entry.Statement.{statement}
 use Rattle.ledger.proofs.judged.judge_entry.Tie as tie
-use Rattle.ledger.proofs.judged.judge_entry.Reads as reads
-use Rattle.ledger.proofs.judged.judge_entry.Lts as lts
-use Rattle.desk.proofs.judge_block.Reads as judge-block-reads
-use Rattle.ledger.proofs.judged.held_back.Reads as held-back-reads
-use Rattle.ledger.proofs.judged.is_full.Reads as is-full-reads
-use Rattle.ledger.proofs.judged.numbers_in.Reads as numbers-in-reads
 
 -- src/judged.rt:78:9
 numbers-in-requires : tie.Need-numbers-in-requires

@@ -3,8 +3,6 @@ use Rattle.ledger.proofs.Telling.{numbers-raw, numbers-malformed, numbe
 use borrow.Author.Needs.{needs}
 use Rattle.ledger.proofs.judged.numbers_in.Statement.{statement}
 use Rattle.ledger.proofs.judged.numbers_in.Tie as tie
-use Rattle.ledger.proofs.judged.numbers_in.Reads as reads
-use Rattle.ledger.proofs.judged.numbers_in.Lts as lts
 
 -- src/judged.rt:40:13
 enum-known-b : tie.Need-enum-known-b

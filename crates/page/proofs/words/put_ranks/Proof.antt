@@ -1,5 +1,5 @@
 -- `put_ranks` writes within the sheet, and comes to an end.
-use mathlib.Core.Path.{_≡_, refl}
+use mathlib.Core.Path.{_≡_}
 use Prim.Native.Nat.{_-_}
 use lib.ListN.{length}
 use borrow.Author.Needs.{needs}

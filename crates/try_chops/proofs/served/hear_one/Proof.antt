@@ -1,6 +1,6 @@
 -- `hear_one` meets its contract.
 use lib.Seq.{length-take-le}
-use lib.ListN.{length, take, drop, length-drop}
+use lib.ListN.{drop, length-drop}
 use native.Mathlib.Omega.{arith}
 use Prim.Native.Nat.{_+_, _-_}
 -- `hear_one` meets its contract: what a call writes lies in the room that it was lent.
