@@ -22,7 +22,7 @@ use Rattle.writing.specs.declared.Written.the-variants.{Bytes, NoRoom}
 use Rattle.writing.specs.AnswerSheet.{Wrote, over, sheetAfter, writtenOf}
 use Rattle.writing.proofs.Sheets.{then}
 use Rattle.text.proofs.Parts.{part-is}
-use Rattle.blocks.proofs.Blocks.{rest-shorter, rest-drop}
+use Rattle.blocks.proofs.Blocks.{rest-shorter, drop-own, rest-drop}
 use Rattle.text.proofs.Lines.{after-lines-no-longer}
 use Rattle.table.specs.declared.table.Table.{Table}
 use Rattle.table.specs.Take.{Sound}
