@@ -29,7 +29,7 @@ use text::read_key_number;
 use text::sheet::value_in;
 ghost use mathlib.Core.Path.{_≡_};
 ghost use mathlib.Core.Bool.{true};
-ghost use Prim.Native.Nat.{_-_, _<_, _^_};
+ghost use Prim.Native.Nat.{_<_, _^_};
 ghost use Rattle.paper.specs.Paper.{isSheet};
 ghost use Rattle.table.specs.Take.{Sound};
 ghost use Rattle.desk.specs.Desk.{SmallPaid};

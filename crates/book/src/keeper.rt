@@ -20,7 +20,7 @@ use paper::Sheet;
 use text::sheet::SheetRead;
 use text::sheet::read_sheet;
 ghost use mathlib.Core.Path.{_≡_};
-ghost use Prim.Native.Nat.{_+_, _≤_, _<_, _^_};
+ghost use Prim.Native.Nat.{_≤_, _<_, _^_};
 ghost use lib.ListN.{length};
 ghost use Rattle.blocks.specs.Block.{blockOf};
 ghost use Rattle.lines.specs.Kept.{keptMost, Room, linesOf};

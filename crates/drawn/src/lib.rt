@@ -8,7 +8,7 @@ use pieces::parts::blank;
 use seen::feed::Seen;
 use seen::seat::least_wager;
 use table::settle::stands_now;
-ghost use Prim.Native.Nat.{_+_, _≤_};
+ghost use Prim.Native.Nat.{_≤_};
 ghost use lib.ListN.{length};
 ghost use Rattle.seen.specs.Seen.{Held};
 

@@ -22,7 +22,7 @@ use table::table::Board;
 use table::table::Payout;
 use table::table::Play;
 use table::table::Table;
-ghost use Prim.Native.Nat.{_+_, _*_, _≤_, _<_};
+ghost use Prim.Native.Nat.{_+_, _≤_, _<_};
 ghost use lib.ListN.{length};
 
 // The seats' rows begin here, and the pots'.

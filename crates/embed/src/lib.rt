@@ -7,7 +7,7 @@ use packed::pack;
 use packed::unpack;
 use text::sheet::ROOM;
 ghost use mathlib.Core.Path.{_≡_};
-ghost use Prim.Native.Nat.{_+_, _≤_};
+ghost use Prim.Native.Nat.{_≤_};
 ghost use lib.ListN.{length};
 ghost use Rattle.writing.specs.AnswerSheet.{Wrote};
 ghost use Rattle.stream.specs.Feeding.{longestAnswer};

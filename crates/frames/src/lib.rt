@@ -7,7 +7,7 @@ use text::Number;
 use text::read_key_number;
 use text::sheet::LINES;
 ghost use mathlib.Core.Path.{_≡_};
-ghost use Prim.Native.Nat.{_+_, _-_, _≤_, _<_};
+ghost use Prim.Native.Nat.{_+_, _≤_, _<_};
 ghost use lib.ListN.{length};
 ghost use Rattle.laws.specs.Tests.{pick};
 ghost use Rattle.writing.specs.AnswerSheet.{over};

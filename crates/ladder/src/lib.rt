@@ -8,7 +8,7 @@ use laws::one;
 use laws::short_of;
 ghost use mathlib.Core.Path.{_≡_};
 ghost use mathlib.Core.List.{[], _∷_};
-ghost use Prim.Native.Nat.{_+_, _-_, _≤_};
+ghost use Prim.Native.Nat.{_+_, _≤_};
 ghost use lib.Dec.{eqb};
 ghost use Rattle.cards.specs.Cards.{inRow};
 ghost use Rattle.ladder.specs.Ladder.{ranksIn, isStraight, placeOf, keptOf};

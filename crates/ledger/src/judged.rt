@@ -12,7 +12,7 @@ use paper::TAKEN;
 use paper::WRONG_MOMENT;
 use table::table::Table;
 ghost use mathlib.Core.Path.{_≡_};
-ghost use Prim.Native.Nat.{_+_, _<_, _^_};
+ghost use Prim.Native.Nat.{_<_, _^_};
 ghost use Rattle.table.specs.Take.{Sound};
 ghost use Rattle.desk.specs.Desk.{numberOfBlock, SmallPaid};
 ghost use Rattle.ledger.specs.Keeping.{Held};

@@ -25,7 +25,7 @@ use text::sheet::value_in;
 use writing::Written;
 ghost use mathlib.Core.Path.{_≡_};
 ghost use mathlib.Core.Bool.{true};
-ghost use Prim.Native.Nat.{_+_, _-_, _≤_, _<_, _^_};
+ghost use Prim.Native.Nat.{_≤_, _<_, _^_};
 ghost use lib.ListN.{length};
 ghost use Rattle.paper.specs.Paper.{isSheet};
 ghost use Rattle.blocks.specs.Block.{blockOf};

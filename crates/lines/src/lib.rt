@@ -1,7 +1,7 @@
 // Lines that come in parts: the unfinished ones are kept in a lent buffer, each cut after 33 bytes.
 use text::sheet::LINES;
 ghost use mathlib.Core.Path.{_≡_};
-ghost use Prim.Native.Nat.{_+_, _-_, _≤_, _<_};
+ghost use Prim.Native.Nat.{_≤_, _<_};
 ghost use lib.ListN.{length};
 ghost use Rattle.writing.specs.AnswerSheet.{over};
 ghost use Rattle.text.specs.TableSheet.{sheetLines};

@@ -14,7 +14,7 @@ use teller::Teller;
 use teller::said;
 use teller::start;
 ghost use mathlib.Core.Path.{_≡_};
-ghost use Prim.Native.Nat.{_+_, _≤_, _<_};
+ghost use Prim.Native.Nat.{_≤_, _<_};
 ghost use lib.ListN.{length};
 ghost use Rattle.lines.specs.Kept.{keptMost, Room};
 ghost use Rattle.teller.specs.Keeping.{Sound};

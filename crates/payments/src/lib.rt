@@ -18,7 +18,6 @@ use teller::tray_line;
 use writer::put_code;
 use writer::put_tray;
 ghost use mathlib.Core.Path.{_≡_};
-ghost use mathlib.Core.Bool.{Bool, true};
 ghost use Prim.Native.Nat.{_≤_, _<_, _^_};
 ghost use lib.ListN.{length, set};
 ghost use Rattle.writing.specs.AnswerSheet.{Wrote};

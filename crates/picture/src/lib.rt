@@ -10,7 +10,7 @@ use reading::read_line;
 use rows::put_answer;
 ghost use mathlib.Core.Path.{_≡_};
 ghost use mathlib.Core.Bool.{false};
-ghost use Prim.Native.Nat.{_+_, _-_, _≤_, _<_};
+ghost use Prim.Native.Nat.{_+_, _≤_, _<_};
 ghost use lib.ListN.{length};
 ghost use Rattle.figures.specs.Placing.{Put};
 ghost use Rattle.picture.specs.Lines.{Answering};

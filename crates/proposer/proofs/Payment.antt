@@ -4,7 +4,7 @@
 --     seventeen-iff        17 exactly if all is within its bounds and something stays unpaid
 --     silent               with any answer but 0 the lent list is as it was
 -- and the example where the proposer says 17 and another payment exists. Assumes nothing.
-use Prim.Native.Nat.{ℕ, zero, suc, _+_, _-_, _*_, _≤_, _<_}
+use Prim.Native.Nat.{ℕ, zero, suc, _+_, _*_, _≤_, _<_}
 use mathlib.Core.Path.{_≡_, refl, sym, ap, _∙_}
 use mathlib.Core.Bool.{Bool, true, false}
 use mathlib.Core.Logic.{⊎-elim}

@@ -5,7 +5,7 @@ use paper::Entry;
 use paper::Numbers;
 use writing::put_bytes;
 ghost use mathlib.Core.Path.{_≡_};
-ghost use Prim.Native.Nat.{_+_, _-_, _*_, _/_, _%_, _≤_, _<_};
+ghost use Prim.Native.Nat.{_+_, _-_, _*_, _%_, _≤_};
 ghost use lib.ListN.{length};
 ghost use Rattle.writing.specs.AnswerSheet.{Wrote};
 ghost use Rattle.records.specs.Bytes.{wordBytes, wordsBytes};

@@ -6,7 +6,7 @@ use text::sheet::LINES;
 use writing::put_bytes;
 ghost use mathlib.Core.Path.{_≡_};
 ghost use mathlib.Core.Bool.{false};
-ghost use Prim.Native.Nat.{_+_, _-_, _≤_, _<_};
+ghost use Prim.Native.Nat.{_-_, _≤_, _<_};
 ghost use lib.ListN.{length};
 ghost use Rattle.text.specs.TableSheet.{sheetLines};
 ghost use Rattle.writing.specs.AnswerSheet.{Wrote};

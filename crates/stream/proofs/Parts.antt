@@ -1,6 +1,6 @@
 -- Request No. 9: however a log is cut into parts, the codes, the bytes and the last state of start, feeding each part until it is used up, and closing, are those of the
 -- whole log read at once. For any parts, none and empty ones too, any room for each answer, and a good sheet or a bad one. Assumes nothing.
-use Prim.Native.Nat.{ℕ, zero, suc, _+_, _-_, _≤_, _<_}
+use Prim.Native.Nat.{ℕ, zero, suc, _-_, _≤_, _<_}
 use mathlib.Core.Bool.{Bool, true, false, true≢false}
 use mathlib.Core.Path.{_≡_, refl, sym, ap, subst, _∙_}
 use mathlib.Core.List.{List, [], _∷_, _++_}

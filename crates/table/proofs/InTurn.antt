@@ -1,6 +1,6 @@
 -- The turn is 0 exactly when nobody owes, else it is an owing seat (`InTurn`): where the turn is looked for, where a chair changes that did not owe, and
 -- after `dead`. Assumes nothing.
-use Prim.Native.Nat.{ℕ, zero, suc, _-_, _≤_, _<_}
+use Prim.Native.Nat.{ℕ, zero, suc, _≤_, _<_}
 use mathlib.Core.Bool.{Bool, true, false, not, true≢false, false≢true}
 use mathlib.Core.Path.{_≡_, refl, sym, ap, _∙_}
 use mathlib.Core.List.{List, [], _∷_}

@@ -20,7 +20,7 @@ use pots::Commission;
 use pots::Stands;
 ghost use mathlib.Core.Path.{_≡_};
 ghost use mathlib.Core.List.{map};
-ghost use Prim.Native.Nat.{_+_, _-_, _≤_, _<_};
+ghost use Prim.Native.Nat.{_≤_};
 ghost use lib.ListN.{length, replicate, take};
 ghost use mathlib.Core.Bool.{true};
 ghost use Rattle.paper.specs.Paper.{isGame};

@@ -11,7 +11,7 @@ use seen::feed::ends_open;
 use seen::feed::feed;
 use seen::feed::start;
 use text::sheet::ROOM;
-ghost use Prim.Native.Nat.{_-_, _≤_, _<_};
+ghost use Prim.Native.Nat.{_≤_, _<_};
 ghost use lib.ListN.{length};
 ghost use Rattle.lines.specs.Kept.{keptMost};
 ghost use Rattle.seen.specs.Seen.{Held};

@@ -1,7 +1,7 @@
 -- `scores_of` meets its contract: in front of the place the scores are written, behind it they are still to come.
 use mathlib.Core.Path.{_≡_, refl}
 use mathlib.Core.List.{_++_, map}
-use Prim.Native.Nat.{_+_, _-_, _≤_}
+use Prim.Native.Nat.{_-_, _≤_}
 use lib.ListN.{length, take, drop, length-set}
 use native.Mathlib.Omega.{arith}
 use Rattle.laws.proofs.Places.{front-turn, front-done}

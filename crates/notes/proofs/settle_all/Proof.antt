@@ -1,7 +1,7 @@
 -- `settle_all` meets its contract: in front of the place the accounts are settled, behind it they are still to come.
 use mathlib.Core.Path.{_≡_, refl}
 use mathlib.Core.List.{_++_}
-use Prim.Native.Nat.{_+_, _-_, _≤_}
+use Prim.Native.Nat.{_-_, _≤_}
 use lib.ListN.{length, take, drop, length-set}
 use native.Mathlib.Omega.{arith}
 use Rattle.notes.specs.Notes.{settleAll}
