@@ -4,7 +4,6 @@ use blocks::read_block;
 use blocks::read_front;
 use desk::log::lone;
 use laws::both;
-use ledger::Answered;
 use ledger::Book;
 use ledger::answer;
 use ledger::opened;
@@ -14,7 +13,6 @@ use lines::gather;
 use lines::lines_of;
 use logs::copy::next_number;
 use logs::copy::write_note;
-use output::ahead;
 use paper::STAND_IN;
 use paper::Sheet;
 use text::sheet::SheetRead;
@@ -27,234 +25,167 @@ ghost use Rattle.lines.specs.Kept.{keptMost, Room, linesOf};
 ghost use Rattle.ledger.specs.Keeping.{Held};
 ghost use Rattle.book.specs.Ready.{Ready};
 
-// The book between two bytes: whether the sheet was read, whether it was bad, the sheet, the book, how many blocks were read, and what is kept of the unfinished
-// lines.
+// The book between two bytes: whether the log is asked for in place of the answers, whether the sheet was read, whether to go on, whether reading or writing
+// failed, the sheet, the book, how many blocks were read, what is kept of the unfinished lines, and how many bytes the last step used up and wrote.
+// One struct goes from step to step: to take a part of it out of another and put it back costs the prover more than all that a step does.
 pub struct Keeper {
+    pub as_log: bool,
     pub opened: bool,
-    pub shut: bool,
+    pub more: bool,
+    pub failed: bool,
     pub sheet: Sheet,
     pub book: Book,
     pub count: u32,
     pub fill: Fill,
+    pub used: usize,
+    pub written: usize,
 }
 
 // Before the first byte.
-pub fn start() -> Keeper
+pub fn start(as_log: bool) -> Keeper
     ensures { λ r. ⌜ Ready r ⌝ }
 {
     let s = STAND_IN;
     let b = opened(s);
     let z = empty();
     Keeper {
+        as_log,
         opened: false,
-        shut: false,
+        more: true,
+        failed: false,
         sheet: s,
         book: b,
         count: 0,
         fill: z,
+        used: 0,
+        written: 0,
     }
 }
 
-// The sheet: it opens the book, whose table shares no pool and drops nothing, or is bad and shuts it.
-fn take_sheet(k: Keeper, lines: &[u8]) -> Keeper
+// The sheet: it opens the book, whose table shares no pool and drops nothing, or is bad and ends it.
+fn take_sheet(mut k: Keeper, lines: &[u8]) -> Keeper
     requires { ⌜ Held (k .book) ⌝ }
-    ensures { λ r. ⌜ Ready r ⌝ }
+    ensures { λ r. ⌜ Ready r × (r .used ≡ k .used) × (r .written ≡ 0) ⌝ }
 {
     let z = empty();
+    k.fill = z;
+    k.written = 0;
     match read_sheet(lines) {
         SheetRead::Bad => {
-            let b = k.book;
-            let s = k.sheet;
-            Keeper {
-                opened: false,
-                shut: true,
-                sheet: s,
-                book: b,
-                count: 0,
-                fill: z,
-            }
+            k.more = false;
+            k
         }
         SheetRead::Read(s) => {
             let b = opened(lone(s));
-            Keeper {
-                opened: true,
-                shut: false,
-                sheet: s,
-                book: b,
-                count: 0,
-                fill: z,
-            }
+            k.opened = true;
+            k.sheet = s;
+            k.book = b;
+            k
         }
     }
 }
 
 // What is said about a block that was answered: its answer, which has been written; or, where the log is asked for, a line in its place where it was refused.
-fn said(as_log: bool, number: u32, a: Answered, out: &mut [u8]) -> usize
-    requires { ⌜ (number < 10 ^ 9) × (a .written ≤ length (now out)) ⌝ }
+fn said(as_log: bool, number: u32, code: u8, written: usize, out: &mut [u8]) -> usize
+    requires { ⌜ (number < 10 ^ 9) × (written ≤ length (now out)) ⌝ }
     ensures { λ r. ⌜ r ≤ length (now (out .entry)) ⌝ }
 {
     if as_log {
-        return write_note(number, a.code, out);
+        return write_note(number, code, out);
     }
-    a.written
-}
-
-// The keeper after some lines, and how many bytes were written about them.
-pub struct KeeperAfter {
-    pub keeper: Keeper,
-    pub written: usize,
+    written
 }
 
 // The block at the front of some lines, or what is left of one at the end of the input.
-pub fn take_block(
-    as_log: bool,
-    k: Keeper,
+fn take_block(
+    mut k: Keeper,
     lines: &[u8],
     block: Block,
     log: &mut [u8],
     index: &mut [u8],
     out: &mut [u8],
-) -> KeeperAfter
+) -> Keeper
     requires { ⌜ Held (k .book) × (block ≡ blockOf (now lines)) ⌝ }
-    ensures { λ r. ⌜ Ready (r .keeper) × (r .written ≤ length (now (out .entry))) ⌝ }
+    ensures { λ r. ⌜ Ready r × (r .used ≡ k .used) × (r .written ≤ length (now (out .entry))) ⌝ }
 {
     let b = k.book;
-    let s = k.sheet;
-    let n = next_number(k.count);
     let a = answer(b, false, lines, block, log, index, out);
     let c = a.book;
     let z = empty();
-    KeeperAfter {
-        keeper: Keeper {
-            opened: true,
-            shut: false,
-            sheet: s,
-            book: c,
-            count: n,
-            fill: z,
-        },
-        written: said(as_log, n, a, out),
-    }
+    k.book = c;
+    k.fill = z;
+    k.count = next_number(k.count);
+    k.written = said(k.as_log, k.count, a.code, a.written, out);
+    k
 }
 
-// Whole lines: the sheet, or a block.
-fn take_lines(
-    as_log: bool,
+// Whole lines, or what is left of a block at the end of the input: the sheet, or a block.
+pub fn take_lines(
     k: Keeper,
     lines: &[u8],
     log: &mut [u8],
     index: &mut [u8],
     out: &mut [u8],
-) -> KeeperAfter
+) -> Keeper
     requires { ⌜ Held (k .book) ⌝ }
-    ensures { λ r. ⌜ Ready (r .keeper) × (r .written ≤ length (now (out .entry))) ⌝ }
+    ensures { λ r. ⌜ Ready r × (r .used ≡ k .used) × (r .written ≤ length (now (out .entry))) ⌝ }
 {
     if k.opened {
-        return take_block(as_log, k, lines, read_block(lines), log, index, out);
+        return take_block(k, lines, read_block(lines), log, index, out);
     }
-    let d = take_sheet(k, lines);
-    KeeperAfter {
-        keeper: d,
-        written: 0,
-    }
+    take_sheet(k, lines)
 }
 
-// The keeper with other lines kept.
-fn keeping(k: Keeper, m: Fill) -> Keeper
-    requires { ⌜ Held (k .book) × Room m × (m .lines < linesOf (k .opened)) ⌝ }
-    ensures { λ r. ⌜ Ready r ⌝ }
-{
-    let s = k.sheet;
-    let b = k.book;
-    Keeper {
-        opened: k.opened,
-        shut: k.shut,
-        sheet: s,
-        book: b,
-        count: k.count,
-        fill: m,
-    }
-}
-
-// The keeper, how far the part is read and the output written.
-pub struct Going {
-    pub keeper: Keeper,
-    pub from: usize,
-    pub at: usize,
-}
-
-// The bytes of a part up to the end of the sheet or of a block, by way of the buffer, or what is left of the part, which is kept.
+// The bytes of a part up to the end of the sheet or of a block, by way of the buffer, or all of the part, which is kept.
 fn take_kept(
-    as_log: bool,
-    k: Keeper,
+    mut k: Keeper,
     buf: &mut [u8],
     log: &mut [u8],
     index: &mut [u8],
     part: &[u8],
-    from: usize,
     out: &mut [u8],
-    at: usize,
-) -> Going
-    requires { ⌜ Ready k × (keptMost ≤ length (now buf)) × (from < length (now part)) × (at ≤ length (now out)) ⌝ }
-    ensures { λ r. ⌜ Ready (r .keeper) × (from < r .from) × (r .from ≤ length (now (part .entry))) × (r .at ≤ length (now (out .entry))) ⌝ }
+) -> Keeper
+    requires { ⌜ Ready k × (keptMost ≤ length (now buf)) × (0 < length (now part)) ⌝ }
+    ensures { λ r. ⌜ Ready r × (0 < r .used) × (r .used ≤ length (now (part .entry))) × (r .written ≤ length (now (out .entry))) ⌝ }
 {
     let want = lines_of(k.opened);
     let m = k.fill;
-    let g = gather(buf, m, &part[from..], want);
-    let next = ahead(from, g.used, part);
+    let g = gather(buf, m, part, want);
     let kept = g.fill;
+    k.fill = kept;
+    k.used = g.used;
+    k.written = 0;
     if kept.lines < want {
-        let d = keeping(k, kept);
-        return Going {
-            keeper: d,
-            from: next,
-            at,
-        };
+        return k;
     }
     let e = kept.count;
-    let t = take_lines(as_log, k, &buf[0..e], log, index, &mut out[at..]);
-    let d = t.keeper;
-    Going {
-        keeper: d,
-        from: next,
-        at: at + t.written,
-    }
+    take_lines(k, &buf[0..e], log, index, out)
 }
 
 // Whether the sheet was read and nothing of the next block is kept.
 fn awaits_block(k: Keeper) -> bool {
-    let m = k.fill;
-    both(k.opened, m.count == 0)
+    both(k.opened, k.fill.count == 0)
 }
 
 // What comes next of a part: where a block is awaited and lies whole at its front, that block where it lies; else by way of the buffer.
 pub fn take_one(
-    as_log: bool,
-    k: Keeper,
+    mut k: Keeper,
     buf: &mut [u8],
     log: &mut [u8],
     index: &mut [u8],
     part: &[u8],
-    from: usize,
     out: &mut [u8],
-    at: usize,
-) -> Going
-    requires { ⌜ Ready k × (keptMost ≤ length (now buf)) × (from < length (now part)) × (at ≤ length (now out)) ⌝ }
-    ensures { λ r. ⌜ Ready (r .keeper) × (from < r .from) × (r .from ≤ length (now (part .entry))) × (r .at ≤ length (now (out .entry))) ⌝ }
+) -> Keeper
+    requires { ⌜ Ready k × (keptMost ≤ length (now buf)) × (0 < length (now part)) ⌝ }
+    ensures { λ r. ⌜ Ready r × (0 < r .used) × (r .used ≤ length (now (part .entry))) × (r .written ≤ length (now (out .entry))) ⌝ }
 {
     if awaits_block(k) {
-        let f = read_front(&part[from..]);
+        let f = read_front(part);
         if f.whole {
-            let next = ahead(from, f.used, part);
             let b = f.block;
-            let t = take_block(as_log, k, &part[from..], b, log, index, &mut out[at..]);
-            let d = t.keeper;
-            return Going {
-                keeper: d,
-                from: next,
-                at: at + t.written,
-            };
+            k.used = f.used;
+            return take_block(k, part, b, log, index, out);
         }
     }
-    take_kept(as_log, k, buf, log, index, part, from, out, at)
+    take_kept(k, buf, log, index, part, out)
 }

@@ -2,10 +2,9 @@
 // comes. With the argument --log, in place of the answers, the log as it stands at the end, and on standard error a line about each block that was refused.
 mod keeper;
 
-use blocks::read_block;
 use keeper::Keeper;
 use keeper::start;
-use keeper::take_block;
+use keeper::take_lines;
 use keeper::take_one;
 use libc::STDERR_FILENO;
 use libc::STDIN_FILENO;
@@ -18,7 +17,7 @@ use paper::Sheet;
 use records::entry_in;
 use text::sheet::ROOM;
 ghost use mathlib.Core.Path.{_≡_};
-ghost use Prim.Native.Nat.{_≤_, _<_};
+ghost use Prim.Native.Nat.{_+_, _≤_, _<_};
 ghost use lib.ListN.{length};
 ghost use Rattle.lines.specs.Kept.{keptMost};
 ghost use Rattle.ledger.specs.Keeping.{Held};
@@ -46,114 +45,99 @@ fn voice(as_log: bool) -> i32 {
     if as_log { STDERR_FILENO } else { STDOUT_FILENO }
 }
 
-// The keeper after some input, whether reading or writing failed, and whether to go on.
-struct Lap {
-    keeper: Keeper,
-    failed: bool,
-    more: bool,
+// Where a part goes on: behind what was used up of it, or, where nothing more is to be read, at its end.
+fn next_place(more: bool, from: usize, used: usize, part: &[u8]) -> usize
+    requires { ⌜ (0 < used) × (from + used ≤ length (now part)) ⌝ }
+    ensures { λ r. ⌜ (from < r) × (r ≤ length (now (part .entry))) ⌝ }
+{
+    if more {
+        return from + used;
+    }
+    part.len()
 }
 
 // Takes every block that ends in this part of the input, in one write where the answers fit.
-fn take_part(
-    as_log: bool,
-    k: Keeper,
-    buf: &mut [u8],
-    log: &mut [u8],
-    index: &mut [u8],
-    part: &[u8],
-) -> Lap
+fn take_part(mut k: Keeper, buf: &mut [u8], log: &mut [u8], index: &mut [u8], part: &[u8]) -> Keeper
     requires { ⌜ Ready k × (keptMost ≤ length (now buf)) ⌝ }
-    ensures { λ r. ⌜ Ready (r .keeper) ⌝ }
+    ensures { λ r. ⌜ Ready r ⌝ }
 {
     let mut out = buffer();
-    let mut keeper = k;
+    let fd = voice(k.as_log);
     let mut ok = true;
     let mut from: usize = 0;
     let mut at: usize = 0;
     while from < part.len() {
-        let w = flush(voice(as_log), &out[0..at], ENOUGH);
+        let w = flush(fd, &out[0..at], ENOUGH);
         ok = laws::both(ok, w.ok);
-        let g = take_one(as_log, keeper, buf, log, index, part, from, &mut out, w.at);
-        let d = g.keeper;
-        keeper = d;
-        from = g.from;
-        at = g.at;
-        if keeper.shut {
-            return Lap {
-                keeper,
-                failed: false,
-                more: false,
-            };
-        }
+        let e = w.at;
+        k = take_one(k, buf, log, index, &part[from..], &mut out[e..]);
+        at = e + k.written;
+        from = next_place(k.more, from, k.used, part);
     }
-    let last = io::write_all(voice(as_log), &out[0..at]);
+    let last = io::write_all(fd, &out[0..at]);
     let wrote = laws::both(ok, last);
-    Lap {
-        keeper,
-        failed: !wrote,
-        more: wrote,
-    }
+    k.failed = !wrote;
+    k.more = laws::both(k.more, wrote);
+    k
 }
 
 // One read, and the answers to it. A read that fails is no end of the input: then nothing more is said.
-fn read_some(as_log: bool, k: Keeper, buf: &mut [u8], log: &mut [u8], index: &mut [u8]) -> Lap
+fn read_some(mut k: Keeper, buf: &mut [u8], log: &mut [u8], index: &mut [u8]) -> Keeper
     requires { ⌜ Ready k × (keptMost ≤ length (now buf)) ⌝ }
-    ensures { λ r. ⌜ Ready (r .keeper) ⌝ }
+    ensures { λ r. ⌜ Ready r ⌝ }
 {
     let mut input = buffer();
     let got = libc::read(STDIN_FILENO, &mut input);
     if got <= 0 {
-        return Lap {
-            keeper: k,
-            failed: got < 0,
-            more: false,
-        };
+        k.failed = got < 0;
+        k.more = false;
+        return k;
     }
     let n = io::count(got, &input);
-    take_part(as_log, k, buf, log, index, &input[..n])
+    take_part(k, buf, log, index, &input[..n])
+}
+
+// How many turns are left after one: none where nothing more is to be read.
+fn turns_left(more: bool, turns: u64) -> u64
+    requires { ⌜ 0 < turns ⌝ }
+    ensures { λ r. ⌜ r < turns ⌝ }
+{
+    if more {
+        return turns - 1;
+    }
+    0
 }
 
 // Reads to the end of the input, or of a bad sheet. A proved loop has to end, so it counts its turns down from a number that no run uses up.
-fn read_all(as_log: bool, buf: &mut [u8], log: &mut [u8], index: &mut [u8]) -> Lap
+fn read_all(as_log: bool, buf: &mut [u8], log: &mut [u8], index: &mut [u8]) -> Keeper
     requires { ⌜ keptMost ≤ length (now buf) ⌝ }
-    ensures { λ r. ⌜ Ready (r .keeper) ⌝ }
+    ensures { λ r. ⌜ Ready r ⌝ }
 {
-    let mut keeper = start();
+    let mut k = start(as_log);
     let mut turns = u64::MAX;
     while turns > 0 {
-        let t = read_some(as_log, keeper, buf, log, index);
-        let d = t.keeper;
-        keeper = d;
-        if !t.more {
-            return t;
-        }
-        turns -= 1;
+        k = read_some(k, buf, log, index);
+        turns = turns_left(k.more, turns);
     }
-    Lap {
-        keeper,
-        failed: false,
-        more: false,
-    }
+    k
 }
 
 // ---- the end of the input
 
 // A block that is not whole is answered too. How many entries are stored then.
-fn end_block(as_log: bool, k: Keeper, buf: &[u8], log: &mut [u8], index: &mut [u8]) -> Keeper
+fn end_block(mut k: Keeper, buf: &[u8], log: &mut [u8], index: &mut [u8]) -> Keeper
     requires { ⌜ Ready k × (keptMost ≤ length (now buf)) ⌝ }
     ensures { λ r. ⌜ Held (r .book) ⌝ }
 {
-    let m = k.fill;
-    let e = m.count;
+    let e = k.fill.count;
     if e == 0 {
         return k;
     }
     let mut out = [0u8; answers::LONGEST];
-    let b = read_block(&buf[0..e]);
-    let t = take_block(as_log, k, &buf[0..e], b, log, index, &mut out);
-    let n = t.written;
-    io::write_all(voice(as_log), &out[0..n]);
-    t.keeper
+    k = take_lines(k, &buf[0..e], log, index, &mut out);
+    let n = k.written;
+    io::write_all(voice(k.as_log), &out[0..n]);
+    k
 }
 
 // The k-th stored entry, counted from 0, in document 01's text; how many bytes that is.
@@ -193,19 +177,17 @@ fn write_log(s: Sheet, count: u32, log: &[u8])
 }
 
 // The input has ended: a sheet that is not whole is bad; a block that is not whole is answered; and the log is written where it is asked for.
-fn end(as_log: bool, k: Keeper, buf: &[u8], log: &mut [u8], index: &mut [u8])
+fn end(k: Keeper, buf: &[u8], log: &mut [u8], index: &mut [u8])
     requires { ⌜ Ready k × (keptMost ≤ length (now buf)) ⌝ }
 {
     if !k.opened {
         io::write_all(STDOUT_FILENO, b"code=11\n");
         return;
     }
-    let d = end_block(as_log, k, buf, log, index);
-    if as_log {
+    let d = end_block(k, buf, log, index);
+    if d.as_log {
         let s = d.sheet;
-        let b = d.book;
-        let t = b.table;
-        write_log(s, t.taken, &log[0..]);
+        write_log(s, d.book.table.taken, &log[0..]);
     }
 }
 
@@ -218,13 +200,11 @@ fn asked_for_log() -> bool {
 
 // The two lent buffers of the stored log: room for 4,096 records, and for 1,365 rows of 44 bytes, which is as many hands as so many entries can open.
 fn main() {
-    let as_log = asked_for_log();
     let mut buf = [0u8; ROOM];
     let mut log = log_buffer();
     let mut index = io::large_buffer();
-    let t = read_all(as_log, &mut buf, &mut log, &mut index);
-    if !t.failed {
-        let k = t.keeper;
-        end(as_log, k, &buf, &mut log, &mut index);
+    let k = read_all(asked_for_log(), &mut buf, &mut log, &mut index);
+    if !k.failed {
+        end(k, &buf, &mut log, &mut index);
     }
 }
