@@ -31,6 +31,13 @@ used-within s {a} h u = omega (arith, left-of s a)
 pub mid-most : (a k : ℕ) (s : List ℕ) → length (midOf a k s) ≤ k
 mid-most a k s = omega (arith, length-take k (drop a s))
 
+-- what is written behind what was left of a buffer of 16,384 bytes is within it
+pub at-within : (s : List ℕ) {a w : ℕ} → a ≤ 15000 → w ≤ length (midOf a (16384 - a) s) → a + w ≤ 16384
+at-within s {a} h l = omega (arith, mid-most a (16384 - a) s)
+
+pub none-written : {w n : ℕ} → w ≡ 0 → w ≤ n
+none-written e = omega arith
+
 -- what is further is nearer to the end
 pub nearer : {a b n : ℕ} → a < b → b ≤ n → n - b < n - a
 nearer h l = omega arith

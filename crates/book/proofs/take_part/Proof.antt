@@ -2,12 +2,13 @@
 use borrow.Author.Needs.{needs}
 use Prim.Native.Nat.{ℕ, _-_, _≤_}
 use mathlib.Core.Path.{_≡_, refl, sym, subst, _∙_}
+use native.Mathlib.Nat.{le-refl}
 use native.Mathlib.Omega.{arith}
 use lib.ListN.{length}
 use borrow.Rule.Slice.PartMut.{same-len-mid}
 use Rattle.lines.specs.Kept.{keptMost}
 use Rattle.book.specs.Ready.{Ready}
-use Rattle.book.proofs.Fronts.{mid-most, some-left, used-within, nearer}
+use Rattle.book.proofs.Fronts.{mid-most, at-within, some-left, used-within, nearer}
 use Rattle.book.proofs.take_part.Statement.{statement}
 use Rattle.book.proofs.take_part.Tie as tie
 
@@ -52,15 +53,15 @@ both-requires c κs = search needs
 
 -- src/main.rt:73:42
 sub-take-one : tie.Need-sub-take-one Inv-loop μ-loop
-sub-take-one c = search needs
+sub-take-one c = c .before .before .before .before .before .before .before .before .loop .inv .5
 
 -- src/main.rt:73:42
 part-take-one-start : tie.Need-part-take-one-start Inv-loop μ-loop
-part-take-one-start c = search needs
+part-take-one-start c = c .before .before .before .before .before .before .before .before .loop .inv .5
 
 -- src/main.rt:73:42
 part-take-one-end : tie.Need-part-take-one-end Inv-loop μ-loop
-part-take-one-end c = search needs
+part-take-one-end c = le-refl _
 
 -- src/main.rt:73:57
 sub-take-one-2 : tie.Need-sub-take-one-2 Inv-loop μ-loop
@@ -92,7 +93,7 @@ loop-less c = nearer (c .next-place .ensures .0) (c .next-place .ensures .1)
 
 -- src/main.rt:69:5
 loop-again : tie.Need-loop-again Inv-loop μ-loop
-loop-again c = (c .before .before .before .before .before .before .before .before .buf .given ∙ c .before .before .before .before .before .before .before .before .before .before .before .before .before .before .before .before .before .before .before .before .loop .inv .0, c .before .before .before .before .before .before .log .given ∙ c .before .before .before .before .before .before .before .before .before .before .before .before .before .before .before .before .before .before .before .before .loop .inv .1, c .before .before .before .before .index .given ∙ c .before .before .before .before .before .before .before .before .before .before .before .before .before .before .before .before .before .before .before .before .loop .inv .2, same-len-mid (c .before .before .before .before .before .before .before .before .before .before .before .before .before .before .before .before .flush .result .at) (16384 - c .before .before .before .before .before .before .before .before .before .before .before .before .before .before .before .before .flush .result .at) (c .before .before .before .before .before .before .before .before .before .before .before .before .before .before .before .before .before .before .before .before .loop .out) (c .before .before .before .before .before .before .before .before .before .take-one .last .1 .1 .1 .1 .1 .0) (c .before .before .out3 .given) ∙ c .before .before .before .before .before .before .before .before .before .before .before .before .before .before .before .before .before .before .before .before .loop .inv .3, c .before .before .before .before .before .before .before .before .before .take-one .ensures .0, c .next-place .ensures .1, omega (arith, c .before .before .before .before .before .before .before .before .before .before .before .before .before .before .before .before .flush .ensures .1 .1, c .before .before .before .before .before .before .before .before .before .take-one .ensures .3, mid-most (c .before .before .before .before .before .before .before .before .before .before .before .before .before .before .before .before .flush .result .at) (16384 - c .before .before .before .before .before .before .before .before .before .before .before .before .before .before .before .before .flush .result .at) (c .before .before .before .before .before .before .before .before .before .before .before .before .before .before .before .before .before .before .before .before .loop .out)))
+loop-again c = (c .before .before .before .before .before .before .before .before .buf .given ∙ c .before .before .before .before .before .before .before .before .before .before .before .before .before .before .before .before .before .before .before .before .loop .inv .0, c .before .before .before .before .before .before .log .given ∙ c .before .before .before .before .before .before .before .before .before .before .before .before .before .before .before .before .before .before .before .before .loop .inv .1, c .before .before .before .before .index .given ∙ c .before .before .before .before .before .before .before .before .before .before .before .before .before .before .before .before .before .before .before .before .loop .inv .2, same-len-mid (c .before .before .before .before .before .before .before .before .before .before .before .before .before .before .before .before .flush .result .at) (16384 - c .before .before .before .before .before .before .before .before .before .before .before .before .before .before .before .before .flush .result .at) (c .before .before .before .before .before .before .before .before .before .before .before .before .before .before .before .before .before .before .before .before .loop .out) (c .before .before .before .before .before .before .before .before .before .take-one .last .1 .1 .1 .1 .1 .0) (c .before .before .out3 .given) ∙ c .before .before .before .before .before .before .before .before .before .before .before .before .before .before .before .before .before .before .before .before .loop .inv .3, c .before .before .before .before .before .before .before .before .before .take-one .ensures .0, c .next-place .ensures .1, at-within (c .before .before .before .before .before .before .before .before .before .before .before .before .before .before .before .before .before .before .before .before .loop .out) (c .before .before .before .before .before .before .before .before .before .before .before .before .before .before .before .before .flush .ensures .1 .1) (c .before .before .before .before .before .before .before .before .before .take-one .ensures .3))
 
 -- src/main.rt:77:34
 sub-write-all : tie.Need-sub-write-all Inv-loop μ-loop
