@@ -5,7 +5,6 @@ ghost use Prim.Native.Nat.{_%_, min, max};
 ghost use lib.Dec.{eqb};
 ghost use Rattle.laws.specs.Lists.{maxOf};
 ghost use Rattle.laws.specs.Tests.{pick};
-ghost use Rattle.pots.specs.Levels.{secondOf};
 ghost use Rattle.columns.specs.Columns.{leastAmong, reachOf, slabOf, drawnOf, inMask, bestAmong, winsOf};
 
 // A height of chips is drawn so high where it is that of the highest column, in tenths of a pixel.
@@ -15,28 +14,7 @@ pub const DRAWN: u64 = 3000;
 pub fn tallest(totals: [u32; 10]) -> u32
     ensures { λ r. ⌜ r ≡ maxOf totals ⌝ }
 {
-    let mut m: u32 = 0;
-    let mut i: usize = 10;
-    while 0 < i {
-        i -= 1;
-        m = laws::most(totals[i], m);
-    }
-    m
-}
-
-// The second highest column: above it fewer than two sittings have a chip.
-fn second(totals: [u32; 10]) -> u32
-    ensures { λ r. ⌜ r ≡ secondOf totals ⌝ }
-{
-    let mut m: u32 = 0;
-    let mut s: u32 = 0;
-    let mut i: usize = 10;
-    while 0 < i {
-        i -= 1;
-        s = laws::most(s, laws::least(totals[i], m));
-        m = laws::most(totals[i], m);
-    }
-    s
+    pots::largest(totals)
 }
 
 // The smaller of a total and a bound where the mask's lowest bit is set, else the bound.
@@ -64,11 +42,11 @@ fn least_among(totals: [u32; 10], who: u16, bound: u32) -> u32
     m
 }
 
-// Up to which height a pot with these contenders reaches.
+// Up to which height a pot with these contenders reaches: not above the second highest column, above which fewer than two sittings have a chip.
 pub fn reach(totals: [u32; 10], who: u16) -> u32
     ensures { λ r. ⌜ r ≡ reachOf totals who ⌝ }
 {
-    least_among(totals, who, second(totals))
+    least_among(totals, who, pots::second(totals))
 }
 
 // How many of a sitting's chips lie above one height and not above another.

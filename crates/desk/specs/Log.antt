@@ -2,8 +2,7 @@
 -- "Reading uses up five lines at a time, whatever the code, 12 too; a last block without its fifth LF is malformed. No bytes left means no block."
 -- Refusal 11: "the program writes code=11 and one LF, nothing else, and ends".
 use Prim.Native.Nat.{ℕ, zero, suc, _-_}
-use mathlib.Core.List.{List, [], _∷_, _++_}
-use mathlib.Core.Bool.{Bool}
+use mathlib.Core.List.{List, [], _++_}
 use lib.ListN.{length}
 use lib.Dec.{eqb, leb}
 use Rattle.laws.specs.Tests.{pick}

@@ -1,27 +1,25 @@
 -- A block judged, answered and kept, step by step. Assumes nothing.
 use mathlib.Core.Path.{_≡_, refl, sym, ap, _∙_, subst}
 use mathlib.Core.Bool.{Bool, true, false}
-use mathlib.Core.List.{List, []}
+use mathlib.Core.List.{List}
 use Prim.Native.Nat.{ℕ, _+_, _-_, _≤_}
 use native.Mathlib.Omega.{arith}
 use lib.ListN.{length}
 use lib.Dec.{eqb, leb}
-use borrow.Author.Tests.{le-leb, leb-true}
+use borrow.Author.Tests.{leb-true}
 use Rattle.laws.specs.Tests.{pick, both, either}
 use Rattle.paper.specs.SheetAndEntries.{made}
 use Rattle.paper.specs.declared.Numbers.{Numbers}
 use Rattle.blocks.specs.declared.Block.{Block}
 use Rattle.blocks.specs.declared.Block.the-variants.{Raw, Malformed, Nothing}
-use Rattle.writing.specs.AnswerSheet.{fits, writtenOf, sheetAfter}
+use Rattle.writing.specs.AnswerSheet.{fits, writtenOf}
 use Rattle.writing.specs.declared.Written.{Written}
 use Rattle.writing.specs.declared.Written.the-variants.{Bytes, NoRoom}
-use Rattle.answers.specs.Answer.{answerBytes}
-use Rattle.answers.specs.declared.Shown.{Shown}
 use Rattle.table.specs.Take.{Sound}
 use Rattle.table.specs.declared.table.Table.{Table}
 use Rattle.records.specs.Stored.{entryIn, putRecord}
 use Rattle.fresh.specs.Reading.{rowedOf, indexAfter, indexTo}
-use Rattle.desk.specs.Desk.{shownOf, judgeBlock, refusedAt, judgedBytes, SmallPaid}
+use Rattle.desk.specs.Desk.{judgeBlock, refusedAt, SmallPaid}
 use Rattle.desk.specs.declared.Judged.{Judged}
 use Rattle.desk.proofs.Laws.{small-none}
 use Rattle.ledger.specs.Keeping.{wasTaken, answeredAs, handsAfter, logAfter, indexKept}
@@ -69,22 +67,6 @@ entry-judged b block log index {x} {full} {j} {r} e f g h =
     (f ∙ ap (λ (y : Numbers). isFull (b .table .taken) (b .hands) (eqb (y .kind) 2) log index) e)
 
 -- ---- its answer
-
-pub none-put : (j : Judged) (sheet : List ℕ) → j .block ≡ false → (Bytes 0 ≡ writtenOf (judgedBytes j) sheet) × (sheet ≡ sheetAfter (judgedBytes j) sheet)
-none-put j sheet e =
-    let bytes : judgedBytes j ≡ [] = ap (λ (x : Bool). pick x (answerBytes (shownOf (j .n) (j .code) (j .table) (j .payout))) []) e in
-    let all : leb 0 (length sheet) ≡ true = le-leb 0 (length sheet) (omega arith) in (
-      sym (ap (λ (l : List ℕ). writtenOf l sheet) bytes ∙ ap (λ (x : Bool). pick x (Bytes 0) NoRoom) all),
-      sym (ap (λ (l : List ℕ). sheetAfter l sheet) bytes ∙ ap (λ (x : Bool). pick x sheet sheet) all),
-    )
-
-pub some-put : (j : Judged) (sheet : List ℕ) {s : Shown} {w : Written} {new : List ℕ} → j .block ≡ true → s ≡ shownOf (j .n) (j .code) (j .table) (j .payout)
-    → w ≡ writtenOf (answerBytes s) sheet → new ≡ sheetAfter (answerBytes s) sheet
-    → (w ≡ writtenOf (judgedBytes j) sheet) × (new ≡ sheetAfter (judgedBytes j) sheet)
-some-put j sheet {s} {w} {new} e f g h =
-    let bytes : answerBytes s ≡ judgedBytes j =
-    ap answerBytes f ∙ sym (ap (λ (x : Bool). pick x (answerBytes (shownOf (j .n) (j .code) (j .table) (j .payout))) []) e) in
-    (g ∙ ap (λ (l : List ℕ). writtenOf l sheet) bytes, h ∙ ap (λ (l : List ℕ). sheetAfter l sheet) bytes)
 
 pub taken-bytes : (w : Written) (code : ℕ) {k : ℕ} → w ≡ Bytes k → eqb code 0 ≡ wasTaken w code
 taken-bytes w code e = ap (λ (x : Written). wasTaken x code) (sym e)

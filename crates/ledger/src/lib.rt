@@ -6,10 +6,9 @@ use amends::Right;
 use amends::is_right;
 use amends::judge_right;
 use amends::read_right;
-use answers::write_answer;
 use blocks::Block;
 use desk::Judged;
-use desk::shown_of;
+use desk::quiet::write_judged;
 use fresh::put_row_if;
 use fresh::write_rows;
 use judged::judge_entry;
@@ -19,6 +18,7 @@ use paper::Numbers;
 use paper::Sheet;
 use paper::TAKEN;
 use records::put_record;
+use table::settle::stands_now;
 use table::table::Table;
 use table::take::new_table;
 use text::sheet::value_in;
@@ -61,19 +61,14 @@ pub struct Answered {
     pub written: usize,
 }
 
-// The block that shows what was judged, at the front of the sheet.
+// The block that shows what was judged, at the front of the sheet, with the pots looked for.
 fn put_answer(j: Judged, sheet: &mut [u8]) -> Written
     requires { ⌜ Sound (j .table) × SmallPaid (j .payout) × (j .n < 10 ^ 9) × Closed (j .table) (j .payout) ⌝ }
     ensures answer { λ r. ⌜ r ≡ writtenOf (judgedBytes j) (now (sheet .entry)) ⌝ }
     ensures bytes { λ r. ⌜ now (sheet .exit) ≡ sheetAfter (judgedBytes j) (now (sheet .entry)) ⌝ }
 {
-    if !j.block {
-        return Written::Bytes(0);
-    }
     let t = j.table;
-    let paid = j.payout;
-    let s = shown_of(j.n, j.code, t, paid);
-    write_answer(sheet, s)
+    write_judged(j, stands_now(t), sheet)
 }
 
 // A block is taken where its code is 0 and its answer was written.

@@ -29,8 +29,9 @@ use Rattle.pots.specs.declared.Pot.{Pot}
 use Rattle.pots.proofs.Alone.{contenders-few}
 use Rattle.pots.proofs.Contest.{has-none, le-or-lt}
 use Rattle.pots.proofs.Hands.{Manned, manned, pots-manned}
-use Rattle.pots.proofs.Masks.{live-length, live-at, mask-lt, mask-bit, ones-mask}
+use Rattle.pots.proofs.Masks.{live-at, mask-bit, ones-mask}
 use Rattle.pots.proofs.PotRuns.{pots-all}
+use Rattle.pots.proofs.Seats.{contest-within}
 use Rattle.pots.proofs.Winners.{winners-sole, winners-are}
 use Rattle.chairs.specs.Chairs.{holeOf, seatsFrom}
 use Rattle.chairs.proofs.Above.{has-truth}
@@ -104,17 +105,6 @@ contender-live ts live h i p e = go (contested ts live h)
     go : (b : Bool) → bitAt (pick b (maskAt (liveOf ts live) h) 0) i ≡ 0
     go true = mask-bit (liveOf ts live) h i p ∙ ap (λ (v : ℕ). has v h) (live-at ts live i ∙ ap (λ (b : Bool). pick b (getD ts i 0) 0) none) ∙ has-none 0 h p
     go false = bit-zero i
-
-low-contest : (ts : List ℕ) (live h : ℕ) → contest ts live h < 2 ^ length ts
-unfolding contest contenders
-low-contest ts live h = go (contested ts live h)
-  where
-    low : maskAt (liveOf ts live) h < 2 ^ length ts
-    low = mask-lt (liveOf ts live) h (length ts) (omega (arith, live-length ts live))
-
-    go : (b : Bool) → pick b (maskAt (liveOf ts live) h) 0 < 2 ^ length ts
-    go true = low
-    go false = omega (arith, low)
 
 -- ---- at a taken settle
 kind-zero : (sheet : Sheet) (es : List Entry) (k : ℕ) (e : Entry) → codeBy sheet es k e ≡ 0 → kindBy sheet (notebook sheet es) (turnOf sheet es) e ≡ 0
@@ -281,7 +271,7 @@ module _ (sheet : Sheet) (ok : isSheet sheet ≡ true) (es : List Entry) (taken 
   unfolding potsBy
   better-wins =
       each-pot (potsOf (putsBy n) (livesBy n)) (pots-manned (putsBy n) (livesBy n)) (contenders-few (putsBy n) (livesBy n))
-      (pots-all Fits (putsBy n) (livesBy n) (λ h p. (low-contest (putsBy n) (livesBy n) h, λ i e. contender-live (putsBy n) (livesBy n) h i p e)))
+      (pots-all Fits (putsBy n) (livesBy n) (λ h p. (contest-within (putsBy n) (livesBy n) h, λ i e. contender-live (putsBy n) (livesBy n) h i p e)))
 
 -- No. 6 at the table, "flush above full house": with 32 cards a contender for a pot whose best hand is a full house wins nothing of it where another has a flush
 pub flush-wins : (sheet : Sheet) (n : Notebook) (p : Pot) → sheet .deck ≡ 32 → BestWin sheet n p → (i j : ℕ) → i < 10 → j < 10 → Contends p i

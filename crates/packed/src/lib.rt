@@ -12,7 +12,7 @@ use table::table::Table;
 use writing::put_bytes;
 ghost use mathlib.Core.Path.{_≡_};
 ghost use mathlib.Core.List.{_++_};
-ghost use Prim.Native.Nat.{_+_, _*_, _%_, _≤_, _<_, _^_};
+ghost use Prim.Native.Nat.{_+_, _*_, _≤_, _<_, _^_};
 ghost use lib.ListN.{length, drop};
 ghost use Rattle.laws.specs.Tests.{one};
 ghost use Rattle.laws.specs.Lists.{All};
@@ -39,19 +39,6 @@ fn is_set(x: u8) -> bool
     x != 0
 }
 
-fn low_byte(w: u32) -> u8
-    ensures { λ r. ⌜ r ≡ w % 256 ⌝ }
-{
-    (w % 256) as u8
-}
-
-// The word of four bytes, the low one first.
-fn four(a: u8, b: u8, c: u8, d: u8) -> u32
-    ensures { λ r. ⌜ r ≡ a + 256 * (b + 256 * (c + 256 * d)) ⌝ }
-{
-    (a as u32) + 256 * ((b as u32) + 256 * ((c as u32) + 256 * (d as u32)))
-}
-
 // A count of kept bytes or lines as a word.
 fn word_of(n: usize) -> u32
     requires { ⌜ n < 2 ^ 32 ⌝ }
@@ -66,13 +53,7 @@ fn put_word(buffer: &mut [u8], w: u32) -> usize
     ensures wrote { λ r. ⌜ Wrote (wordBytes w) (now (buffer .entry)) (now (buffer .exit)) r ⌝ }
     ensures small { λ _. ⌜ IsWord w ⌝ }
 {
-    let bs = [
-        low_byte(w),
-        low_byte(w / 256),
-        low_byte(w / 256 / 256),
-        low_byte(w / 256 / 256 / 256),
-    ];
-    put_bytes(buffer, &bs)
+    records::put_word(buffer, w)
 }
 
 // Words, each behind the last.
@@ -95,7 +76,7 @@ fn word_at(b: &[u8], at: usize) -> u32
     requires { ⌜ at + 4 ≤ length (now b) ⌝ }
     ensures { λ r. ⌜ r ≡ wordAt (now (b .entry)) at ⌝ }
 {
-    four(b[at], b[at + 1], b[at + 2], b[at + 3])
+    records::four(b[at], b[at + 1], b[at + 2], b[at + 3])
 }
 
 // ---- a chair

@@ -101,19 +101,19 @@ returned-zeros ts live zero = refl
 returned-zeros ts live (suc k) = ap (λ l. 0 ∷ l) (returned-zeros ts live k)
 
 -- ---- the contenders of each pot are among the seats
-pots-within : (ts : List ℕ) (live : ℕ) → All (λ (p : Pot). p .who < 2 ^ length ts) (potsOf ts live)
+pub contest-within : (ts : List ℕ) (live h : ℕ) → contest ts live h < 2 ^ length ts
 unfolding contest contenders
-pots-within ts live = pots-all (λ m. m < 2 ^ length ts) ts live (λ j p. within j)
+contest-within ts live h = go (contested ts live h)
   where
-    within : (j : ℕ) → contest ts live j < 2 ^ length ts
-    within j = go (contested ts live j)
-      where
-        low : maskAt (liveOf ts live) j < 2 ^ length ts
-        low = mask-lt (liveOf ts live) j (length ts) (omega (arith, live-length ts live))
+    low : maskAt (liveOf ts live) h < 2 ^ length ts
+    low = mask-lt (liveOf ts live) h (length ts) (omega (arith, live-length ts live))
 
-        go : (b : Bool) → pick b (maskAt (liveOf ts live) j) 0 < 2 ^ length ts
-        go true = low
-        go false = omega (arith, low)
+    go : (b : Bool) → pick b (maskAt (liveOf ts live) h) 0 < 2 ^ length ts
+    go true = low
+    go false = omega (arith, low)
+
+pots-within : (ts : List ℕ) (live : ℕ) → All (λ (p : Pot). p .who < 2 ^ length ts) (potsOf ts live)
+pots-within ts live = pots-all (λ m. m < 2 ^ length ts) ts live (λ h p. contest-within ts live h)
 
 -- ---- winners
 rated-wide : (scores xs : List ℕ) (who : ℕ) → who < 2 ^ length scores → rated (scores ++ xs) who ≡ rated scores who ++ zeros (length xs)

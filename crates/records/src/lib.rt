@@ -43,14 +43,14 @@ fn wide(x: u8) -> u32
 }
 
 // The word of four bytes, the low one first.
-fn four(a: u8, b: u8, c: u8, d: u8) -> u32
+pub fn four(a: u8, b: u8, c: u8, d: u8) -> u32
     ensures { λ r. ⌜ r ≡ a + 256 * (b + 256 * (c + 256 * d)) ⌝ }
 {
     (a as u32) + 256 * ((b as u32) + 256 * ((c as u32) + 256 * (d as u32)))
 }
 
 // A word's four bytes at the front of a buffer.
-fn put_word(buffer: &mut [u8], w: u32) -> usize
+pub fn put_word(buffer: &mut [u8], w: u32) -> usize
     requires { ⌜ 4 ≤ length (now buffer) ⌝ }
     ensures { λ r. ⌜ Wrote (wordBytes w) (now (buffer .entry)) (now (buffer .exit)) r ⌝ }
 {

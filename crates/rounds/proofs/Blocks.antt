@@ -1,5 +1,4 @@
 -- Laws of reading a block: a line where it lies, and the numbers of the lines one after another. Assumes nothing.
--- a part from a place on is all that follows
 use mathlib.Core.Path.{_≡_, refl, sym, ap, _∙_}
 use mathlib.Core.Bool.{Bool, true, false}
 use mathlib.Core.List.{List, [], _∷_, _++_, map, append-nil}
@@ -8,10 +7,9 @@ use Prim.Native.Nat.{ℕ, suc, _+_, _-_, _≤_, _<_, min}
 use native.Mathlib.Nat.{le-refl}
 use native.Mathlib.Numerals.{add-one}
 use native.Mathlib.Omega.{arith}
-use lib.Dec.{eqb}
 use lib.ListN.{length, getD, take, drop, set, length-drop, drop-of-length-le}
 use lib.Seq.{drop-cons, drop-drop, take-all}
-use Rattle.laws.specs.Tests.{both, pick}
+use Rattle.laws.specs.Tests.{both}
 use Rattle.laws.proofs.Places.{store-front}
 use Rattle.laws.proofs.Sums.{le-or-lt}
 use Rattle.text.specs.Line.{lineLen, afterLine, afterLines, lineNumber}
@@ -19,17 +17,9 @@ use Rattle.text.specs.TableSheet.{isValue, valueIn}
 use Rattle.text.specs.declared.Number.{Number}
 use Rattle.rounds.specs.RoundText.{keys, readings, allValues}
 
+-- a part from a place on is all that follows
 pub rest-is : (l : List ℕ) (at : ℕ) → take (length l - at) (drop at l) ≡ drop at l
 rest-is l at = take-all (length l - at) (drop at l) (rw (length-drop at l) (le-refl _))
-
--- a line ends within the log
-pub line-within : (l : List ℕ) → lineLen l ≤ length l
-line-within [] = omega arith
-line-within (b ∷ l) = go (eqb b 10) (line-within l)
-  where
-    go : (t : Bool) → lineLen l ≤ length l → pick t 0 (suc (lineLen l)) ≤ suc (length l)
-    go true h = omega arith
-    go false h = omega arith
 
 behind-is : (l : List ℕ) (at e : ℕ) → at ≤ length l → drop (min (at + e + 1) (length l)) l ≡ drop (suc e) (drop at l)
 behind-is l at e h =

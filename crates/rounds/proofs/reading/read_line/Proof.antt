@@ -1,5 +1,6 @@
 -- `rounds::reading::read_line` meets its contract. Assumes nothing.
-use Rattle.rounds.proofs.Blocks.{rest-is, line-within, line-said}
+use Rattle.text.proofs.Lines.{line-within}
+use Rattle.rounds.proofs.Blocks.{rest-is, line-said}
 use lib.ListN.{length-drop, length, take, drop}
 use native.Mathlib.Omega.{arith}
 use mathlib.Core.Path.{ap}
