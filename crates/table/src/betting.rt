@@ -3,10 +3,9 @@ use crate::table;
 use crate::table::Table;
 use chairs::Chair;
 use chairs::Sweep;
+use chairs::Who;
 use laws::both;
 use laws::either;
-use paper::Entry;
-use paper::Numbers;
 use paper::NOT_ALLOWED;
 use paper::NOT_IN_TURN;
 use paper::WRONG_MOMENT;
@@ -18,11 +17,12 @@ ghost use Prim.Native.Nat.{_+_, _≤_};
 ghost use lib.Dec.{leb};
 ghost use Rattle.chairs.specs.Chairs.{chipsOf};
 ghost use Rattle.table.specs.Betting.{liveHands, firstOwing, nobodyOwes, turnCode, afterAct, foldedTo, checkCode, checkedTo, callCode, calledTo, mayRaise, isWager, wagerCode, isFullLift, liftAfter, wageredTo, deadCode, turnAfter, deadTo, newRound};
+ghost use Rattle.table.specs.State.{seatOf};
 ghost use Rattle.table.specs.Standing.{Standing, Seated};
 
-// The codes that stop an act out of its moment, at a seat that is not live, or out of turn.
-pub(crate) fn turn_code(t: Table, c: Chair, s: u32) -> u8
-    requires { ⌜ Standing t ⌝ }
+// The codes that stop an act out of its moment, at a seat that is not live, or out of turn. c is the seat's chair, which is read once.
+fn turn_code(t: Table, c: Chair, s: u32) -> u8
+    requires { ⌜ Standing t × (c ≡ seatOf t s) ⌝ }
     ensures { λ r. ⌜ r ≡ turnCode t s ⌝ }
 {
     let none = nobody_owes(t);
@@ -35,6 +35,8 @@ pub(crate) fn turn_code(t: Table, c: Chair, s: u32) -> u8
 }
 
 pub(crate) fn fold_code(t: Table, s: u32) -> u8
+    requires { ⌜ Standing t ⌝ }
+    ensures { λ r. ⌜ r ≡ turnCode t s ⌝ }
 {
     let c = table::seat_of(t, s);
     turn_code(t, c, s)
@@ -60,30 +62,31 @@ pub(crate) fn call_code(t: Table, s: u32) -> u8
     or_else(turn_code(t, c, s), when(!below, NOT_ALLOWED))
 }
 
-fn act_chair(t: Table, c: Chair, e: Entry) -> Chair {
-    match e {
-        Entry::Fold(s) => chairs::folded(c),
-        Entry::Check(s) => chairs::acting(c),
-        Entry::Call(s) => chairs::acting(chairs::paid(c, laws::short_of(t.play.mark, chairs::round_of(c)))),
-        Entry::Wager(s, a) => chairs::acting(chairs::paid(c, laws::short_of(a, chairs::round_of(c)))),
-        _ => c,
-    }
+pub(crate) fn folded(t: Table, s: u32) -> Table
+    requires { ⌜ Seated t × (s ≤ t .sheet .seats) ⌝ }
+    ensures { λ r. ⌜ r ≡ foldedTo t s ⌝ }
+{
+    let c = chairs::folded(table::seat_of(t, s));
+    after_act(t, s, c)
 }
 
-fn lifted(t: Table, x: Numbers) -> Table {
-    if x.kind != 7 { return t; }
-    let cs = t.chairs;
-    let full = is_full_lift(t, x.a);
-    let ds = chairs::seats::sweep_all(cs, t.sheet.seats, Sweep::Again { full });
-    table::with_mark(table::with_chairs(t, ds), x.a, lift_after(t, x.a))
+pub(crate) fn checked(t: Table, s: u32) -> Table
+    requires { ⌜ Seated t × (s ≤ t .sheet .seats) ⌝ }
+    ensures { λ r. ⌜ r ≡ checkedTo t s ⌝ }
+{
+    let c = chairs::acting(table::seat_of(t, s));
+    after_act(t, s, c)
 }
 
-pub(crate) fn acted(t: Table, e: Entry) -> Table {
-    let x = paper::numbers_of(e);
-    let c = table::seat_of(t, x.seat);
-    let d = act_chair(t, c, e);
-    let u = lifted(t, x);
-    after_act(u, x.seat, d)
+// The seat pays the difference or its whole stack.
+pub(crate) fn called(t: Table, s: u32) -> Table
+    requires { ⌜ (chipsOf (t .chairs) ≤ 100000000) × Seated t × (s ≤ t .sheet .seats) ⌝ }
+    ensures { λ r. ⌜ r ≡ calledTo t s ⌝ }
+{
+    let c = table::seat_of(t, s);
+    let due = laws::short_of(t.play.mark, chairs::round_of(c));
+    let d = chairs::acting(chairs::paid(c, due));
+    after_act(t, s, d)
 }
 
 // "a is at least mark plus lift".
@@ -133,6 +136,21 @@ fn lift_after(t: Table, a: u32) -> u32
 {
     let rise = laws::short_of(a, t.play.mark);
     laws::chosen(is_full_lift(t, a), rise, t.play.lift)
+}
+
+// The mark becomes a, and every other live seat with chips owes again; a short lift leaves a spent right to raise spent.
+pub(crate) fn wagered(t: Table, s: u32, a: u32) -> Table
+    requires { ⌜ (chipsOf (t .chairs) ≤ 100000000) × Seated t × (s ≤ t .sheet .seats) ⌝ }
+    ensures { λ r. ⌜ r ≡ wageredTo t s a ⌝ }
+{
+    let c = table::seat_of(t, s);
+    let put = laws::short_of(a, chairs::round_of(c));
+    let d = chairs::acting(chairs::paid(c, put));
+    let cs = t.chairs;
+    let full = is_full_lift(t, a);
+    let ds = chairs::seats::sweep_all(cs, t.sheet.seats, Sweep::Again { full });
+    let u = table::with_mark(table::with_chairs(t, ds), a, lift_after(t, a));
+    after_act(u, s, d)
 }
 
 // The seat is live, in a hand with two live or more.
@@ -198,7 +216,15 @@ pub(crate) fn first_owing(t: Table, s: u32) -> u32
     ensures { λ r. ⌜ r ≡ firstOwing t s ⌝ }
 {
     let cs = t.chairs;
-    chairs::seats::turn_from(cs, t.sheet.seats, t.play.mark, s)
+    let k = chairs::seats::lives(cs, t.sheet.seats);
+    if k.hands < 2 {
+        return 0;
+    }
+    let w = Who::Owing {
+        mark: t.play.mark,
+        alone: k.stacks <= 1,
+    };
+    chairs::seats::first_from(cs, t.sheet.seats, w, s)
 }
 
 // Whether nobody owes: then, and only then, it is nobody's turn.
@@ -214,11 +240,7 @@ fn after_act(t: Table, s: u32, c: Chair) -> Table
     requires { ⌜ Seated t × (s ≤ t .sheet .seats) ⌝ }
     ensures { λ r. ⌜ r ≡ afterAct t s c ⌝ }
 {
-    let cs = t.chairs;
-    let ds = chairs::seats::put_chair(cs, s, c);
-    let next = chairs::seats::turn_from(ds, t.sheet.seats, t.play.mark, s);
-    let mut u = t;
-    u.chairs = ds;
-    u.play.turn = next;
-    u
+    let u = table::with_chair(t, s, c);
+    let next = first_owing(u, s);
+    table::with_turn(u, next)
 }
