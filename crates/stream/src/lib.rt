@@ -7,10 +7,8 @@ use desk::judge_block;
 use desk::log::read_lone_sheet;
 use desk::log::refuse_sheet;
 use desk::quiet::keeps_pots;
-use desk::quiet::no_stands;
 use desk::quiet::stands_after;
 use desk::quiet::write_judged;
-use laws::both;
 use lines::Fill;
 use lines::empty;
 use lines::gather;
@@ -88,8 +86,7 @@ pub fn in_place(t: Table, part: &[u8], out: &mut [u8]) -> RanInPlace
     ensures sound { λ r. ⌜ Sound (r .table) × (r .used ≤ length (now (part .entry))) × (r .written ≤ length (now (out .entry))) ⌝ }
 {
     let mut table = t;
-    let mut known = false;
-    let mut stands = no_stands();
+    let mut stands = desk::quiet::first_stands(t);
     let mut left = part;
     let mut at: usize = 0;
     while 0 < left.len() {
@@ -99,7 +96,7 @@ pub fn in_place(t: Table, part: &[u8], out: &mut [u8]) -> RanInPlace
         }
         let b = f.block;
         let j = judge_block(table, b);
-        let after = stands_after(stands, both(known, keeps_pots(b, j.code)), j.table);
+        let after = stands_after(stands, keeps_pots(b, j.code), j.table);
         let w = write_judged(j, after, &mut out[at..]);
         let Written::Bytes(k) = w else {
             return ran_to(table, part, left, at)
@@ -107,7 +104,6 @@ pub fn in_place(t: Table, part: &[u8], out: &mut [u8]) -> RanInPlace
         let u = j.table;
         table = u;
         stands = after;
-        known = true;
         at += k;
         let next = front_rest(left, f.used);
         left = &next[0..];

@@ -7,6 +7,7 @@ pub mod ChairsOk
 pub mod Closing
 pub mod InTurn
 pub mod Standing
+pub mod Acts
 pub mod Reached
 pub mod Chips
 pub mod Refusals

@@ -3,9 +3,9 @@ use crate::table;
 use crate::table::Table;
 use chairs::Chair;
 use chairs::Sweep;
-use chairs::Who;
 use laws::both;
 use laws::either;
+use paper::Entry;
 use paper::NOT_ALLOWED;
 use paper::NOT_IN_TURN;
 use paper::WRONG_MOMENT;
@@ -13,12 +13,18 @@ use paper::WRONG_SEAT;
 use paper::or_else;
 use paper::when;
 ghost use mathlib.Core.Path.{_≡_};
-ghost use Prim.Native.Nat.{_+_, _≤_};
-ghost use lib.Dec.{leb};
-ghost use Rattle.chairs.specs.Chairs.{chipsOf};
-ghost use Rattle.table.specs.Betting.{liveHands, firstOwing, nobodyOwes, turnCode, afterAct, foldedTo, checkCode, checkedTo, callCode, calledTo, mayRaise, isWager, wagerCode, isFullLift, liftAfter, wageredTo, deadCode, turnAfter, deadTo, newRound};
+ghost use Prim.Native.Nat.{_+_, _-_, _≤_};
+ghost use lib.Dec.{leb, eqb};
+ghost use Rattle.laws.specs.Tests.{pick};
+ghost use Rattle.paper.specs.SheetAndEntries.{numbersOf};
+ghost use Rattle.chairs.specs.Chairs.{chipsOf, roundOf, actedOf, paidOf};
+ghost use Rattle.table.specs.Betting.{liveHands, firstOwing, nobodyOwes, turnCode, afterAct, checkCode, callCode, mayRaise, isWager, wagerCode, isFullLift, liftAfter, IsAct, actChair, liftedTo, deadCode, turnAfter, deadTo, newRound};
 ghost use Rattle.table.specs.State.{seatOf};
 ghost use Rattle.table.specs.Standing.{Standing, Seated};
+ghost use Rattle.table.specs.Take.{appliedTo};
+
+// The place of `wager` in the table of entries, from 0.
+const WAGER: u32 = 7;
 
 // The codes that stop an act out of its moment, at a seat that is not live, or out of turn. c is the seat's chair, which is read once.
 fn turn_code(t: Table, c: Chair, s: u32) -> u8
@@ -60,33 +66,6 @@ pub(crate) fn call_code(t: Table, s: u32) -> u8
     let c = table::seat_of(t, s);
     let below = chairs::round_of(c) < t.play.mark;
     or_else(turn_code(t, c, s), when(!below, NOT_ALLOWED))
-}
-
-pub(crate) fn folded(t: Table, s: u32) -> Table
-    requires { ⌜ Seated t × (s ≤ t .sheet .seats) ⌝ }
-    ensures { λ r. ⌜ r ≡ foldedTo t s ⌝ }
-{
-    let c = chairs::folded(table::seat_of(t, s));
-    after_act(t, s, c)
-}
-
-pub(crate) fn checked(t: Table, s: u32) -> Table
-    requires { ⌜ Seated t × (s ≤ t .sheet .seats) ⌝ }
-    ensures { λ r. ⌜ r ≡ checkedTo t s ⌝ }
-{
-    let c = chairs::acting(table::seat_of(t, s));
-    after_act(t, s, c)
-}
-
-// The seat pays the difference or its whole stack.
-pub(crate) fn called(t: Table, s: u32) -> Table
-    requires { ⌜ (chipsOf (t .chairs) ≤ 100000000) × Seated t × (s ≤ t .sheet .seats) ⌝ }
-    ensures { λ r. ⌜ r ≡ calledTo t s ⌝ }
-{
-    let c = table::seat_of(t, s);
-    let due = laws::short_of(t.play.mark, chairs::round_of(c));
-    let d = chairs::acting(chairs::paid(c, due));
-    after_act(t, s, d)
 }
 
 // "a is at least mark plus lift".
@@ -138,19 +117,52 @@ fn lift_after(t: Table, a: u32) -> u32
     laws::chosen(is_full_lift(t, a), rise, t.play.lift)
 }
 
-// The mark becomes a, and every other live seat with chips owes again; a short lift leaves a spent right to raise spent.
-pub(crate) fn wagered(t: Table, s: u32, a: u32) -> Table
-    requires { ⌜ (chipsOf (t .chairs) ≤ 100000000) × Seated t × (s ≤ t .sheet .seats) ⌝ }
-    ensures { λ r. ⌜ r ≡ wageredTo t s a ⌝ }
+// The seat pays what its round total lacks to a, or its whole stack, and has acted.
+fn put_up_to(c: Chair, a: u32) -> Chair
+    requires { ⌜ c .stack + c .dealt .total ≤ 100000000 ⌝ }
+    ensures { λ r. ⌜ r ≡ actedOf (paidOf c (a - roundOf c)) ⌝ }
 {
-    let c = table::seat_of(t, s);
     let put = laws::short_of(a, chairs::round_of(c));
-    let d = chairs::acting(chairs::paid(c, put));
+    chairs::acting(chairs::paid(c, put))
+}
+
+// The chair after its own fold, check, call or wager. A chair is small: to make it first lets the four acts share all that is done to the table.
+fn act_chair(mark: u32, c: Chair, e: Entry) -> Chair
+    requires { ⌜ c .stack + c .dealt .total ≤ 100000000 ⌝ }
+    ensures { λ r. ⌜ r ≡ actChair mark c e ⌝ }
+{
+    match e {
+        Entry::Fold(_) => chairs::folded(c),
+        Entry::Check(_) => chairs::acting(c),
+        Entry::Call(_) => put_up_to(c, mark),
+        Entry::Wager(_, a) => put_up_to(c, a),
+        _ => c,
+    }
+}
+
+// A wager's mark becomes a, and every other live seat with chips owes again; a short lift leaves a spent right to raise spent. The other acts leave the table.
+fn lifted(t: Table, kind: u32, a: u32) -> Table
+    requires { ⌜ Seated t ⌝ }
+    ensures { λ r. ⌜ r ≡ pick (eqb kind 7) (liftedTo t a) t ⌝ }
+{
+    if kind != WAGER {
+        return t;
+    }
     let cs = t.chairs;
     let full = is_full_lift(t, a);
     let ds = chairs::seats::sweep_all(cs, t.sheet.seats, Sweep::Again { full });
-    let u = table::with_mark(table::with_chairs(t, ds), a, lift_after(t, a));
-    after_act(u, s, d)
+    table::with_mark(table::with_chairs(t, ds), a, lift_after(t, a))
+}
+
+// Fold, check, call and wager, which differ in the chair and in the mark alone: so the turn is looked for at one place.
+pub(crate) fn acted(t: Table, e: Entry) -> Table
+    requires { ⌜ (chipsOf (t .chairs) ≤ 100000000) × Seated t × IsAct e × (numbersOf e .seat ≤ t .sheet .seats) ⌝ }
+    ensures { λ r. ⌜ r ≡ appliedTo t e ⌝ }
+{
+    let x = paper::numbers_of(e);
+    let c = act_chair(t.play.mark, table::seat_of(t, x.seat), e);
+    let u = lifted(t, x.kind, x.a);
+    after_act(u, x.seat, c)
 }
 
 // The seat is live, in a hand with two live or more.
@@ -216,15 +228,7 @@ pub(crate) fn first_owing(t: Table, s: u32) -> u32
     ensures { λ r. ⌜ r ≡ firstOwing t s ⌝ }
 {
     let cs = t.chairs;
-    let k = chairs::seats::lives(cs, t.sheet.seats);
-    if k.hands < 2 {
-        return 0;
-    }
-    let w = Who::Owing {
-        mark: t.play.mark,
-        alone: k.stacks <= 1,
-    };
-    chairs::seats::first_from(cs, t.sheet.seats, w, s)
+    chairs::seats::turn_from(cs, t.sheet.seats, t.play.mark, s)
 }
 
 // Whether nobody owes: then, and only then, it is nobody's turn.
@@ -240,7 +244,11 @@ fn after_act(t: Table, s: u32, c: Chair) -> Table
     requires { ⌜ Seated t × (s ≤ t .sheet .seats) ⌝ }
     ensures { λ r. ⌜ r ≡ afterAct t s c ⌝ }
 {
-    let u = table::with_chair(t, s, c);
-    let next = first_owing(u, s);
-    table::with_turn(u, next)
+    let cs = t.chairs;
+    let ds = chairs::seats::put_chair(cs, s, c);
+    let next = chairs::seats::turn_from(ds, t.sheet.seats, t.play.mark, s);
+    let mut u = t;
+    u.chairs = ds;
+    u.play.turn = next;
+    u
 }
