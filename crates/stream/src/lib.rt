@@ -6,11 +6,10 @@ use blocks::rest;
 use desk::judge_block;
 use desk::log::read_lone_sheet;
 use desk::log::refuse_sheet;
+use desk::quiet::first_stands;
 use desk::quiet::keeps_pots;
-use desk::quiet::no_stands;
 use desk::quiet::stands_after;
 use desk::quiet::write_judged;
-use laws::both;
 use lines::Fill;
 use lines::empty;
 use lines::gather;
@@ -79,8 +78,8 @@ fn ran_to(table: Table, part: &[u8], left: &[u8], written: usize) -> RanInPlace
 }
 
 // The whole blocks at the front of a part, each answered where it lies, up to one whose answer has no room. What follows a block is handed on as the rest of
-// the part. Pots go with the table from block to block, once they are known. Every block of a log is answered here and nowhere else, so that the compiler
-// lays the desk into this loop.
+// the part. The pots of the table go with it from block to block. Every block of a log is answered here and nowhere else, so that the compiler lays the desk
+// into this loop.
 pub fn in_place(t: Table, part: &[u8], out: &mut [u8]) -> RanInPlace
     requires { ⌜ Sound t ⌝ }
     ensures ran { λ r. ⌜ r ≡ ranOf (inPlaceOf t (now (part .entry)) (length (now (out .entry)))) (now (part .entry)) ⌝ }
@@ -88,8 +87,7 @@ pub fn in_place(t: Table, part: &[u8], out: &mut [u8]) -> RanInPlace
     ensures sound { λ r. ⌜ Sound (r .table) × (r .used ≤ length (now (part .entry))) × (r .written ≤ length (now (out .entry))) ⌝ }
 {
     let mut table = t;
-    let mut known = false;
-    let mut stands = no_stands();
+    let mut stands = first_stands(t);
     let mut left = part;
     let mut at: usize = 0;
     while 0 < left.len() {
@@ -99,7 +97,7 @@ pub fn in_place(t: Table, part: &[u8], out: &mut [u8]) -> RanInPlace
         }
         let b = f.block;
         let j = judge_block(table, b);
-        let after = stands_after(stands, both(known, keeps_pots(b, j.code)), j.table);
+        let after = stands_after(stands, keeps_pots(b, j.code), j.table);
         let w = write_judged(j, after, &mut out[at..]);
         let Written::Bytes(k) = w else {
             return ran_to(table, part, left, at)
@@ -107,7 +105,6 @@ pub fn in_place(t: Table, part: &[u8], out: &mut [u8]) -> RanInPlace
         let u = j.table;
         table = u;
         stands = after;
-        known = true;
         at += k;
         let next = front_rest(left, f.used);
         left = &next[0..];
