@@ -2,7 +2,7 @@
 use Prim.Native.Nat.{ℕ, _≤_}
 use mathlib.Core.Path.{_≡_}
 use mathlib.Core.Bool.{Bool, true, not}
-use lib.ListN.{length, replicate}
+use lib.ListN.{length}
 use lib.Dec.{ltb, eqb}
 use Rattle.laws.specs.Tests.{either}
 use Rattle.blocks.specs.declared.Block.{Block}
@@ -18,10 +18,6 @@ pub record ShowsPots (t : Table) (s : Stands) : Type 0 where
   pub list : s .pots .list ≡ padded 9 (potsNow t)
   pub few : s .pots .n ≤ 9
   pub back : s .back ≡ backNow t
-
--- what stands in for them where they were not looked for yet
-abbrev pub noStands : Stands
-noStands = record { pots = record { n = 0; list = replicate 9 (record { amount = 0; who = 0 }) }; back = 0 }
 
 -- sit, leave, hole, check and board: no chips are put in or paid, and no hand is given up
 abbrev pub quietKind : ℕ → Bool

@@ -8,8 +8,6 @@ use answers::write_answer;
 use blocks::Block;
 use laws::either;
 use paper::TAKEN;
-use pots::Pot;
-use pots::Pots;
 use pots::Stands;
 use table::settle::stands_now;
 use table::table::Table;
@@ -21,7 +19,7 @@ ghost use Rattle.writing.specs.AnswerSheet.{sheetAfter, writtenOf};
 ghost use Rattle.answers.specs.Answer.{SmallShown};
 ghost use Rattle.table.specs.Take.{Sound};
 ghost use Rattle.desk.specs.Desk.{shownOf, judgedBytes, SmallPaid, Closed};
-ghost use Rattle.desk.specs.Quiet.{ShowsPots, noStands, quietKind, quietBlock, keepsPots};
+ghost use Rattle.desk.specs.Quiet.{ShowsPots, quietKind, quietBlock, keepsPots};
 
 fn quiet_kind(kind: u32) -> bool
     ensures { λ r. ⌜ r ≡ quietKind kind ⌝ }
@@ -63,18 +61,16 @@ pub fn stands_after(kept: Stands, same: bool, t: Table) -> Stands
     stands_now(t)
 }
 
-// No pots, where they were not looked for yet.
-pub fn no_stands() -> Stands
-    ensures { λ r. ⌜ r ≡ noStands ⌝ }
+// The pots of the table that the first block meets. It does not call `stands_now`: with a second call site the compiler keeps that as a function and copies
+// the whole table for each call of it (measured).
+pub fn first_stands(t: Table) -> Stands
+    requires { ⌜ Sound t ⌝ }
+    ensures { λ r. ⌜ ShowsPots t r ⌝ }
 {
-    let none = Pot { amount: 0, who: 0 };
-    Stands {
-        pots: Pots {
-            n: 0,
-            list: [none; 9],
-        },
-        back: 0,
-    }
+    let cs = t.chairs;
+    let put = chairs::seats::put_in(cs, t.sheet.seats);
+    let totals = put.totals;
+    pots::stand(totals, put.live)
 }
 
 // What an answer shows of a table whose pots are known, and of what a settle that was taken paid.

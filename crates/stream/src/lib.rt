@@ -6,6 +6,7 @@ use blocks::rest;
 use desk::judge_block;
 use desk::log::read_lone_sheet;
 use desk::log::refuse_sheet;
+use desk::quiet::first_stands;
 use desk::quiet::keeps_pots;
 use desk::quiet::stands_after;
 use desk::quiet::write_judged;
@@ -77,8 +78,8 @@ fn ran_to(table: Table, part: &[u8], left: &[u8], written: usize) -> RanInPlace
 }
 
 // The whole blocks at the front of a part, each answered where it lies, up to one whose answer has no room. What follows a block is handed on as the rest of
-// the part. Pots go with the table from block to block, once they are known. Every block of a log is answered here and nowhere else, so that the compiler
-// lays the desk into this loop.
+// the part. The pots of the table go with it from block to block. Every block of a log is answered here and nowhere else, so that the compiler lays the desk
+// into this loop.
 pub fn in_place(t: Table, part: &[u8], out: &mut [u8]) -> RanInPlace
     requires { ⌜ Sound t ⌝ }
     ensures ran { λ r. ⌜ r ≡ ranOf (inPlaceOf t (now (part .entry)) (length (now (out .entry)))) (now (part .entry)) ⌝ }
@@ -86,7 +87,7 @@ pub fn in_place(t: Table, part: &[u8], out: &mut [u8]) -> RanInPlace
     ensures sound { λ r. ⌜ Sound (r .table) × (r .used ≤ length (now (part .entry))) × (r .written ≤ length (now (out .entry))) ⌝ }
 {
     let mut table = t;
-    let mut stands = desk::quiet::first_stands(t);
+    let mut stands = first_stands(t);
     let mut left = part;
     let mut at: usize = 0;
     while 0 < left.len() {

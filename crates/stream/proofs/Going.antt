@@ -1,13 +1,11 @@
--- Pots that go with the table from block to block, once they are known: the loop of `in_place`. For any part and any room. Assumes nothing.
+-- The pots of the table go with it from block to block: the loop of `in_place`. For any part and any room. Assumes nothing.
 use mathlib.Core.Path.{_≡_, refl, sym, ap, subst, _∙_}
 use mathlib.Core.List.{List}
-use mathlib.Core.Bool.{Bool, true, false, false≢true}
+use mathlib.Core.Bool.{Bool, true, false}
 use Prim.Native.Nat.{ℕ, _+_, _-_, _≤_}
 use native.Mathlib.Omega.{arith}
 use lib.ListN.{length, drop, length-append, length-drop}
 use borrow.Rule.Slice.PartMut.{midOf, putMid}
-use Rattle.laws.specs.Tests.{both}
-use Rattle.laws.proofs.Tests.{both-true}
 use Rattle.blocks.specs.Block.{blockOf, restOf}
 use Rattle.blocks.specs.Front.{frontOf}
 use Rattle.blocks.specs.declared.Block.{Block}
@@ -29,13 +27,13 @@ use Rattle.stream.specs.declared.RanInPlace.{RanInPlace}
 use Rattle.stream.specs.InPlace.{inPlaceOf, ranOf}
 use Rattle.stream.proofs.Runs.{Running, Ends, run-start, run-out, run-open, run-room, run-full, run-turn}
 
--- what was written and what is left, and the pots of the table where they are known
-pub record Going (t : Table) (part out : List ℕ) (table : Table) (known : Bool) (stands : Stands) (left now : List ℕ) (at : ℕ) : Type 0 where
+-- what was written and what is left, and the pots of the table
+pub record Going (t : Table) (part out : List ℕ) (table : Table) (stands : Stands) (left now : List ℕ) (at : ℕ) : Type 0 where
   pub run : Running t part out table left now at
-  pub shows : known ≡ true → ShowsPots table stands
+  pub shows : ShowsPots table stands
 
-pub go-start : (t : Table) (part out : List ℕ) (stands : Stands) → Sound t → Going t part out t false stands part out 0
-go-start t part out stands h = record { run = run-start t part out h; shows = λ e. absurd (false≢true e) }
+pub go-start : (t : Table) (part out : List ℕ) {stands : Stands} → Sound t → ShowsPots t stands → Going t part out t stands part out 0
+go-start t part out h k = record { run = run-start t part out h; shows = k }
 
 -- the contract, by what is returned
 abbrev Ran : Table → List ℕ → List ℕ → RanInPlace → List ℕ → Type 0
@@ -51,8 +49,8 @@ judged-front : (table : Table) (left : List ℕ) {b : Block} → b ≡ blockOf l
 unfolding judgedOf
 judged-front table left e = ap (judgeBlock table) e
 
-module _ {t : Table} {part out : List ℕ} {table : Table} {known : Bool} {stands : Stands} {left now : List ℕ} {at : ℕ}
-    (g : Going t part out table known stands left now at) where
+module _ {t : Table} {part out : List ℕ} {table : Table} {stands : Stands} {left now : List ℕ} {at : ℕ}
+    (g : Going t part out table stands left now at) where
   -- the part is used up
   pub go-out : {r : RanInPlace} → length left ≤ 0 → r ≡ record { table = table; used = length part - length left; written = at } → Ran t part out r now
   go-out h e = ran-as t part out table (length part - length left) now at e (run-out (g .run) h refl)
@@ -62,10 +60,9 @@ module _ {t : Table} {part out : List ℕ} {table : Table} {known : Bool} {stand
     pub go-open : {r : RanInPlace} → f .whole ≡ false → r ≡ record { table = table; used = length part - length left; written = at } → Ran t part out r now
     go-open h m = ran-as t part out table (length part - length left) now at m (run-open (g .run) e h refl)
 
-    -- the pots that are known are those of the table after a block that leaves them
-    pub go-shows : {keeps same : Bool} {j : Judged} → same ≡ both known keeps → keeps ≡ keepsPots (f .block) (j .code) → j ≡ judgeBlock table (f .block)
-        → same ≡ true → ShowsPots (j .table) stands
-    go-shows {keeps} {same} m k p h = let q = both-true known keeps (sym m ∙ h) in kept-shows table (f .block) p (sym k ∙ q .1) (g .shows (q .0))
+    -- its pots are those of the table after a block that leaves them
+    pub go-shows : {keeps : Bool} {j : Judged} → keeps ≡ keepsPots (f .block) (j .code) → j ≡ judgeBlock table (f .block) → keeps ≡ true → ShowsPots (j .table) stands
+    go-shows k p h = kept-shows table (f .block) p (sym k ∙ h) (g .shows)
 
     pub go-closed : {j : Judged} → j ≡ judgeBlock table (f .block) → Closed (j .table) (j .payout)
     go-closed p = judged-closed table (f .block) p
@@ -104,7 +101,7 @@ module _ {t : Table} {part out : List ℕ} {table : Table} {known : Bool} {stand
 
         -- it was answered
         pub go-turn : {k : ℕ} {next : Stands} {rest : List ℕ} → w ≡ Bytes k → f .whole ≡ true → Sound (j .table) → ShowsPots (j .table) next → rest ≡ restOf left
-            → Going t part out (j .table) true next rest after (at + k)
+            → Going t part out (j .table) next rest after (at + k)
         go-turn {k} {next} {rest} h v i n d =
             let own : said .table ≡ j .table = ap (λ (x : Answered). x .table) (said-by h) ∙ ap (λ (x : Judged). x .table) (sym p) in
             let size : said .written ≡ k = ap (λ (x : Answered). x .written) (said-by h) in
@@ -115,5 +112,5 @@ module _ {t : Table} {part out : List ℕ} {table : Table} {known : Bool} {stand
               run =
                   subst (λ (x : ℕ). Running t part out (j .table) rest after (at + x)) size
                   (subst (λ (x : Table). Running t part out x rest after (at + said .written)) own go);
-              shows = λ z. n;
+              shows = n;
             }
