@@ -106,11 +106,3 @@ pub fn write_judged(j: Judged, stands: Stands, sheet: &mut [u8]) -> Written
     let s = shown_with(j.n, j.code, u, stands, paid);
     write_answer(sheet, s)
 }
-
-pub fn first_stands(t: Table) -> Stands
-{
-    let cs = t.chairs;
-    let put = chairs::seats::put_in(cs, t.sheet.seats);
-    let totals = put.totals;
-    pots::stand(totals, put.live)
-}
