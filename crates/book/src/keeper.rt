@@ -21,13 +21,13 @@ ghost use mathlib.Core.Path.{_≡_};
 ghost use Prim.Native.Nat.{_≤_, _<_, _^_};
 ghost use lib.ListN.{length};
 ghost use Rattle.blocks.specs.Block.{blockOf};
-ghost use Rattle.lines.specs.Kept.{keptMost, Room, linesOf};
+ghost use Rattle.lines.specs.Kept.{keptMost};
 ghost use Rattle.ledger.specs.Keeping.{Held};
 ghost use Rattle.book.specs.Ready.{Ready};
 
 // The book between two bytes: whether the log is asked for in place of the answers, whether the sheet was read, whether to go on, whether reading or writing
 // failed, the sheet, the book, how many blocks were read, what is kept of the unfinished lines, and how many bytes the last step used up and wrote.
-// One struct goes from step to step: to take a part of it out of another and put it back costs the prover more than all that a step does.
+// One struct goes from step to step: a struct in another, taken out and put back at each step, made the check longer (docs/BENCHMARKS.md).
 pub struct Keeper {
     pub as_log: bool,
     pub opened: bool,

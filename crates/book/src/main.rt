@@ -124,7 +124,7 @@ fn read_all(as_log: bool, buf: &mut [u8], log: &mut [u8], index: &mut [u8]) -> K
 
 // ---- the end of the input
 
-// A block that is not whole is answered too. How many entries are stored then.
+// A block that is not whole is answered too.
 fn end_block(mut k: Keeper, buf: &[u8], log: &mut [u8], index: &mut [u8]) -> Keeper
     requires { ⌜ Ready k × (keptMost ≤ length (now buf)) ⌝ }
     ensures { λ r. ⌜ Held (r .book) ⌝ }
