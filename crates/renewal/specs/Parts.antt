@@ -1,7 +1,7 @@
 -- A part of a log renewed: what its bytes give one by one; and a log that comes in parts. Assumes nothing.
 use Prim.Native.Nat.{ℕ}
 use mathlib.Core.Path.{_≡_}
-use mathlib.Core.List.{List, [], _∷_, _++_}
+use mathlib.Core.List.{List, [], _∷_}
 use mathlib.Core.Bool.{Bool, false}
 use lib.ListN.{take}
 use lib.Dec.{ltb, leb}

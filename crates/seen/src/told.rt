@@ -4,7 +4,6 @@ use desk::Judged;
 use laws::both;
 use table::table::Board;
 use table::table::Payout;
-use table::table::Table;
 ghost use mathlib.Core.Path.{_≡_};
 ghost use Rattle.seen.specs.Told.{saidOf, markedAt, deadAfter, paidAfter, boardAfter, toldAfter, toldStart};
 

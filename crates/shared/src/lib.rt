@@ -9,7 +9,6 @@ use desk::Judged;
 use desk::judge;
 use desk::refused;
 use desk::shown_of;
-use laws::both;
 use paper::NO_ROOM;
 use paper::SHARES_POOL;
 use pool::Hand;

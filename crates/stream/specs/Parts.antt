@@ -1,7 +1,7 @@
 -- Request No. 9, "State for any place of the cuts": a log in parts, none and empty ones too, from the start over each part, fed until it is used up, to the close.
 -- Each call is lent a sheet of `room` bytes. Assumes nothing.
 use Prim.Native.Nat.{ℕ, zero, suc}
-use mathlib.Core.List.{List, [], _∷_, _++_}
+use mathlib.Core.List.{List, [], _∷_}
 use lib.ListN.{length, drop}
 use lib.Dec.{eqb}
 pub use Rattle.laws.specs.Lists.{whole}
