@@ -283,3 +283,148 @@ pub fn close_all(cs: [Chair; 10], seats: u32, paid: [u32; 10]) -> [Chair; 10]
     }
     ds
 }
+
+pub fn swept_put(cs: [Chair; 10], last: u32, k: Sweep, s: u32, c: Chair) -> [Chair; 10]
+{
+    let end = last as usize;
+    let mut ds = cs;
+    let mut i: usize = 0;
+    while i < end {
+        let b = ds[i];
+        let d = crate::swept(k, b);
+        ds[i] = d;
+        i += 1;
+    }
+    if s == 0 {
+        return ds;
+    }
+    if 10 < s {
+        return ds;
+    }
+    let j = (s - 1) as usize;
+    ds[j] = c;
+    ds
+}
+
+
+pub struct Dealing {
+    pub seat: u32,
+    pub chair: Chair,
+    pub other: u32,
+    pub second: Chair,
+}
+
+pub fn deal_all(cs: [Chair; 10], seats: u32, x: Dealing) -> [Chair; 10]
+{
+    let mut ds = cs;
+    let last = seats as usize;
+    let mut j: usize = 0;
+    while j < last {
+        let b = ds[j];
+        let d = crate::dealt_in(b);
+        ds[j] = d;
+        j += 1;
+    }
+    if 0 < x.seat {
+        if x.seat <= 10 {
+            let i = (x.seat - 1) as usize;
+            let c = x.chair;
+            ds[i] = c;
+        }
+    }
+    if 0 < x.other {
+        if x.other <= 10 {
+            let i = (x.other - 1) as usize;
+            let c = x.second;
+            ds[i] = c;
+        }
+    }
+    ds
+}
+
+pub struct Chips {
+    pub count: u32,
+    pub next: u32,
+}
+
+pub fn chip_seats(cs: [Chair; 10], seats: u32, s: u32) -> Chips
+{
+    let from = s as usize;
+    let mut count: u32 = 0;
+    let mut first: u32 = 0;
+    let mut over: u32 = 0;
+    let mut j: usize = seats as usize;
+    while 0 < j {
+        j -= 1;
+        let d = cs[j];
+        count += laws::one(0 < d.stack);
+        first = laws::chosen(0 < d.stack, j as u32 + 1, first);
+        over = laws::chosen(j == from, first, over);
+    }
+    Chips { count, next: laws::chosen(over == 0, first, over) }
+}
+
+pub struct Shows {
+    pub hands: u32,
+    pub bare: u32,
+}
+
+pub fn shows(cs: [Chair; 10], seats: u32, game: u32) -> Shows
+{
+    let last = seats as usize;
+    let mut hands: u32 = 0;
+    let mut bare: u32 = 0;
+    let mut i: usize = 0;
+    while i < last {
+        let c = cs[i];
+        hands += laws::one(c.dealt.live);
+        bare += laws::one(crate::bare(c, game));
+        i += 1;
+    }
+    Shows { hands, bare }
+}
+
+pub struct Rows {
+    pub totals: [u32; 10],
+    pub sittings: [u32; 10],
+    pub live: u16,
+    pub here: u16,
+}
+
+pub fn rows(cs: [Chair; 10], seats: u32) -> Rows
+{
+    let mut totals = [0u32; 10];
+    let mut sittings = [0u32; 10];
+    let mut live: u16 = 0;
+    let mut here: u16 = 0;
+    let mut i = seats as usize;
+    while 0 < i {
+        i -= 1;
+        let c = cs[i];
+        totals[i] = c.dealt.total;
+        sittings[i] = c.dealt.sitting;
+        live = crate::bit(c.dealt.live) + 2 * live;
+        here = crate::bit(crate::here(c)) + 2 * here;
+    }
+    Rows { totals, sittings, live, here }
+}
+
+pub struct BoardLook {
+    pub hands: u32,
+    pub holders: u32,
+}
+
+pub fn board_look(cs: [Chair; 10], seats: u32, a: u32) -> BoardLook
+{
+    let last = seats as usize;
+    let mut hands: u32 = 0;
+    let mut holders: u32 = 0;
+    let mut i: usize = 0;
+    while i < last {
+        let c = cs[i];
+        hands += laws::one(c.dealt.live);
+        holders += laws::one(crate::holds(c, a));
+        i += 1;
+    }
+    BoardLook { hands, holders }
+}

@@ -240,3 +240,26 @@ pub fn rest(log: &[u8]) -> &[u8]
 {
     blocks::rest(log)
 }
+
+pub struct Plan { pub n: u32, pub code: u8, pub seat: u32, pub entry: paper::Entry }
+
+pub fn plan(b: Block) -> Plan
+{
+    match b {
+        Block::Raw {
+            n,
+            kind,
+            seat,
+            a,
+            b,
+        } => {
+            let p = blocks::entry_of(kind, seat, a, b);
+            match p {
+                Parsed::OutOfRange => Plan { n, code: OUT_OF_RANGE, seat: 0, entry: paper::Entry::Void },
+                Parsed::Read(e) => Plan { n, code: 0, seat, entry: e },
+            }
+        }
+        Block::Malformed => Plan { n: 0, code: MALFORMED, seat: 0, entry: paper::Entry::Void },
+        Block::Nothing => Plan { n: 0, code: MALFORMED, seat: 0, entry: paper::Entry::Void },
+    }
+}

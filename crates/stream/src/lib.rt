@@ -86,6 +86,7 @@ pub fn in_place(t: Table, part: &[u8], out: &mut [u8]) -> RanInPlace
     ensures sound { λ r. ⌜ Sound (r .table) × (r .used ≤ length (now (part .entry))) × (r .written ≤ length (now (out .entry))) ⌝ }
 {
     let mut table = t;
+    let mut old = t;
     let mut stands = desk::quiet::first_stands(t);
     let mut left = part;
     let mut at: usize = 0;
@@ -95,14 +96,24 @@ pub fn in_place(t: Table, part: &[u8], out: &mut [u8]) -> RanInPlace
             return ran_to(table, part, left, at);
         }
         let b = f.block;
-        let j = judge_block(table, b);
-        let after = stands_after(stands, keeps_pots(b, j.code), j.table);
-        let w = write_judged(j, after, &mut out[at..]);
-        let Written::Bytes(k) = w else {
-            return ran_to(table, part, left, at)
-        };
+        let tight = out.len() - at < answers::LONGEST_SHARED;
+        if tight {
+            old = table;
+        }
+        let p = desk::plan(b);
+        let j = table.take(p.n, p.entry);
         let u = j.table;
         table = u;
+        let code = paper::or_else(p.code, j.code);
+        let paid = j.payout;
+        let after = stands_after(stands, keeps_pots(b, code), table);
+        let shown = desk::quiet::shown_with(p.n, code, table, after, paid);
+        if tight {
+            if !answers::has_room(out.len() - at, shown) {
+                return ran_to(old, part, left, at);
+            }
+        }
+        let k = answers::put_answer(&mut out[at..], shown);
         stands = after;
         at += k;
         let next = front_rest(left, f.used);

@@ -34,33 +34,30 @@ pub(crate) fn turn_code(t: Table, c: Chair, s: u32) -> u8
     )
 }
 
-pub(crate) fn fold_code(t: Table, s: u32) -> u8
+pub(crate) fn fold_code(t: Table, c: Chair, s: u32) -> u8
 {
-    let c = table::seat_of(t, s);
     turn_code(t, c, s)
 }
 
 // The round total equals the mark.
-pub(crate) fn check_code(t: Table, s: u32) -> u8
+pub(crate) fn check_code(t: Table, c: Chair, s: u32) -> u8
     requires { ⌜ Standing t ⌝ }
     ensures { λ r. ⌜ r ≡ checkCode t s ⌝ }
 {
-    let c = table::seat_of(t, s);
     let short = chairs::round_of(c) != t.play.mark;
     or_else(turn_code(t, c, s), when(short, NOT_ALLOWED))
 }
 
 // The round total is below the mark.
-pub(crate) fn call_code(t: Table, s: u32) -> u8
+pub(crate) fn call_code(t: Table, c: Chair, s: u32) -> u8
     requires { ⌜ Standing t ⌝ }
     ensures { λ r. ⌜ r ≡ callCode t s ⌝ }
 {
-    let c = table::seat_of(t, s);
     let below = chairs::round_of(c) < t.play.mark;
     or_else(turn_code(t, c, s), when(!below, NOT_ALLOWED))
 }
 
-fn act_chair(t: Table, c: Chair, e: Entry) -> Chair {
+pub(crate) fn act_chair(t: Table, c: Chair, e: Entry) -> Chair {
     match e {
         Entry::Fold(s) => chairs::folded(c),
         Entry::Check(s) => chairs::acting(c),
@@ -78,12 +75,22 @@ fn lifted(t: Table, x: Numbers) -> Table {
     table::with_mark(table::with_chairs(t, ds), x.a, lift_after(t, x.a))
 }
 
-pub(crate) fn acted(t: Table, e: Entry) -> Table {
+pub(crate) fn acted(t: Table, c: Chair, e: Entry) -> Table {
     let x = paper::numbers_of(e);
-    let c = table::seat_of(t, x.seat);
     let d = act_chair(t, c, e);
-    let u = lifted(t, x);
-    after_act(u, x.seat, d)
+    let wager = x.kind == 7;
+    let full = is_full_lift(t, x.a);
+    let cs = t.chairs;
+    let ds = chairs::seats::swept_put(cs, laws::chosen(wager, t.sheet.seats, 0), Sweep::Again { full }, x.seat, d);
+    let mark = laws::chosen(wager, x.a, t.play.mark);
+    let lift = laws::chosen(wager, lift_after(t, x.a), t.play.lift);
+    let next = chairs::seats::turn_from(ds, t.sheet.seats, mark, x.seat);
+    let mut u = t;
+    u.chairs = ds;
+    u.play.mark = mark;
+    u.play.lift = lift;
+    u.play.turn = next;
+    u
 }
 
 // "a is at least mark plus lift".
@@ -111,24 +118,23 @@ fn may_wager(t: Table, c: Chair, a: u32) -> bool
     both(may_raise(c), enough)
 }
 
-pub(crate) fn wager_code(t: Table, s: u32, a: u32) -> u8
+pub(crate) fn wager_code(t: Table, c: Chair, s: u32, a: u32) -> u8
     requires { ⌜ Standing t ⌝ }
     ensures { λ r. ⌜ r ≡ wagerCode t s a ⌝ }
 {
-    let c = table::seat_of(t, s);
     let ok = may_wager(t, c, a);
     or_else(turn_code(t, c, s), when(!ok, NOT_ALLOWED))
 }
 
 // Whether a wager to a, above the mark, is a full lift.
-fn is_full_lift(t: Table, a: u32) -> bool
+pub(crate) fn is_full_lift(t: Table, a: u32) -> bool
     ensures { λ r. ⌜ r ≡ isFullLift t a ⌝ }
 {
     t.play.lift <= laws::short_of(a, t.play.mark)
 }
 
 // The lift after a wager to a.
-fn lift_after(t: Table, a: u32) -> u32
+pub(crate) fn lift_after(t: Table, a: u32) -> u32
     ensures { λ r. ⌜ r ≡ liftAfter t a ⌝ }
 {
     let rise = laws::short_of(a, t.play.mark);
@@ -221,4 +227,14 @@ fn after_act(t: Table, s: u32, c: Chair) -> Table
     u.chairs = ds;
     u.play.turn = next;
     u
+}
+
+pub(crate) fn act_code(t: Table, c: Chair, e: Entry) -> u8 {
+    match e {
+        Entry::Fold(s) => fold_code(t, c, s),
+        Entry::Check(s) => check_code(t, c, s),
+        Entry::Call(s) => call_code(t, c, s),
+        Entry::Wager(s, a) => wager_code(t, c, s, a),
+        _ => WRONG_MOMENT,
+    }
 }

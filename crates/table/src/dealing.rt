@@ -18,11 +18,10 @@ ghost use Rattle.table.specs.Dealing.{inThisHand, holeCode, heldTo, boar
 ghost use Rattle.table.specs.Standing.{Standing, Seated};
 
 // The seat is live and has not all its cards yet, and the cards are two new ones.
-pub(crate) fn hole_code(t: Table, s: u32, a: u32, b: u32) -> u8
+pub(crate) fn hole_code(t: Table, c: chairs::Chair, a: u32, b: u32) -> u8
     requires { ⌜ Standing t ⌝ }
     ensures { λ r. ⌜ r ≡ holeCode t s a b ⌝ }
 {
-    let c = table::seat_of(t, s);
     let off = !t.play.opened;
     let out = !c.dealt.live;
     let full = c.hole.count as u32 == t.sheet.game;
@@ -52,9 +51,12 @@ pub(crate) fn board_code(t: Table, k: u32) -> u8
 {
     let off = !t.play.opened;
     let owed = !betting::nobody_owes(t);
-    let few = betting::lives(t) < 2;
+    let cs = t.chairs;
+    let bd = t.board;
+    let l = chairs::seats::board_look(cs, t.sheet.seats, k);
+    let few = l.hands < 2;
     let full = 5 <= t.board.count;
-    let old = used(t, k, k);
+    let old = either(lies(bd, k), l.holders != 0);
     or_else(
         when(either(off, either(owed, either(few, full))), WRONG_MOMENT),
         when(old, CARD_TWICE),

@@ -43,11 +43,12 @@ pub(crate) fn settle_code(t: Table) -> u8
     ensures { λ r. ⌜ r ≡ settleCode t ⌝ }
 {
     let cs = t.chairs;
-    let live = betting::lives(t);
+    let sh = chairs::seats::shows(cs, t.sheet.seats, t.sheet.game);
+    let live = sh.hands;
     let none = betting::nobody_owes(t);
     let five = t.board.count == 5;
     let now = both(t.play.opened, either(live == 1, both(none, five)));
-    let bare = chairs::seats::count(cs, t.sheet.seats, Who::Bare(t.sheet.game)) != 0;
+    let bare = sh.bare != 0;
     or_else(
         when(!now, WRONG_MOMENT),
         when(both(2 <= live, bare), CARDS_MISSING),
@@ -161,20 +162,21 @@ fn payout(t: Table) -> Payout
 {
     let cs = t.chairs;
     let b = t.board;
-    let put = put_in(t);
+    let put = chairs::seats::rows(cs, t.sheet.seats);
     let sc = scores_needed(t.sheet.deck, t.sheet.game, b, cs, put.live);
     let puck = t.play.puck as usize;
     let totals = put.totals;
     let s = pots::hand::settle_hand(totals, put.live, sc, commission(t), puck);
     let due = s.due;
-    let p = pots::hand::pay_out(due, here_seats(t));
+    let p = pots::hand::pay_out(due, put.here);
     let paid = p.paid;
+    let sittings = put.sittings;
     Payout {
         settled: true,
         fee: s.fee,
         drop: s.drop,
         paid,
-        sittings: chairs::seats::column(cs, t.sheet.seats, What::Sitting),
+        sittings,
         unclaimed: p.unclaimed,
     }
 }
