@@ -1,25 +1,23 @@
 -- `in_place` meets its contract: at each turn what was written and what is left, and the pots of the table, are said by `Going`; it ends where the part is
--- used up, at a block that is not whole, and at one whose answer has no room.
-use Rattle.stream.proofs.Going.{Going, go-start, go-out, go-open, go-shows, go-closed, go-room, go-full, go-same, go-turn}
+-- used up, at a block that is not whole, and at one whose answer has no room, where the table before it was kept.
+use Rattle.stream.proofs.Going.{Going, go-start, go-out, go-open, go-shows, go-asked, go-full, go-fits, go-room, go-turn}
 use Rattle.stream.proofs.Runs.{run-less}
 use Rattle.desk.proofs.Whole.{whole-part}
-use Rattle.desk.proofs.Laws.{block-small}
-use Rattle.desk.specs.Desk.{numberOfBlock}
 use Rattle.blocks.specs.declared.front.Front.{Front}
 use borrow.Author.Tests.{not-true, not-false}
-use borrow.Author.Needs.{needs}
 use lib.ListN.{length}
 use native.Mathlib.Omega.{arith}
-use Prim.Native.Nat.{_<_, _^_}
-use mathlib.Core.Path.{refl, sym, ap, subst, _∙_}
-use Rattle.stream.proofs.in_place.Statement.{statement}
-use Rattle.stream.proofs.in_place.Tie as tie
+use mathlib.Core.Path.{refl, ap, _∙_}
+use mathlib.Core.Logic.{⊎-elim, inl, inr}
+use borrow.Author.Needs.{needs}
+use Rattle.stream.proofs.place.in_place.Statement.{statement}
+use Rattle.stream.proofs.place.in_place.Tie as tie
 
 abbrev Inv-loop : tie.InvT-loop
-Inv-loop part out₀ table₀ stands₀ left₀ at₀ out table stands left at = Going table₀ part out₀ table stands left out at
+Inv-loop part out₀ table₀ old₀ stands₀ left₀ at₀ out table old stands left at = Going table₀ part out₀ table stands left out at
 
 abbrev μ-loop : tie.MeasureT-loop
-μ-loop part out₀ table₀ stands₀ left₀ at₀ out table stands left at = length left
+μ-loop part out₀ table₀ old₀ stands₀ left₀ at₀ out table old stands left at = length left
 
 first-stands-requires : tie.Need-first-stands-requires Inv-loop μ-loop
 first-stands-requires c κs = search needs
@@ -39,47 +37,56 @@ same-length c = c .before .before .before .before .before .loop .inv .run .same
 returns : tie.Need-returns Inv-loop μ-loop
 returns c = go-open (c .before .before .before .before .before .loop .inv) (c .before .before .before .read-front .ensures) (not-true _ (c .before .if1 .taken)) (c .ran-to .ensures)
 
-judge-block-requires : tie.Need-judge-block-requires Inv-loop μ-loop
-judge-block-requires c κs = (c .before .before .before .before .loop .inv .run .sound, subst (λ (x : Front). numberOfBlock (x .block) < 10 ^ 9) (sym (c .before .before .read-front .ensures)) (block-small _))
+sub-room : tie.Need-sub-room Inv-loop μ-loop
+sub-room c = let g = c .before .before .before .before .loop .inv .run in omega (arith, g .within, g .same)
+
+plan-requires : tie.Need-plan-requires Inv-loop μ-loop
+plan-requires c κs = search needs
+
+take-requires : tie.Need-take-requires Inv-loop μ-loop
+take-requires c κs = c .before .before .before .before .before .before .loop .inv .run .sound
+
+or-else-requires : tie.Need-or-else-requires Inv-loop μ-loop
+or-else-requires c κs = search needs
 
 keeps-pots-requires : tie.Need-keeps-pots-requires Inv-loop μ-loop
 keeps-pots-requires c κs = search needs
 
 stands-after-requires : tie.Need-stands-after-requires Inv-loop μ-loop
-stands-after-requires c κs = (c .before .judge-block .ensures .1, go-shows (c .before .before .before .before .before .before .loop .inv) (c .before .before .before .before .read-front .ensures) (c .keeps-pots .ensures) (c .before .judge-block .ensures .0))
+stands-after-requires c κs = (c .before .before .before .take .ensures .1, go-shows (c .before .before .before .before .before .before .before .before .before .before .loop .inv) (c .before .before .before .before .before .before .before .before .read-front .ensures) (c .before .before .before .before .before .before .before .before .before .loop-test .taken) (c .before .before .before .before .plan .ensures) (c .before .before .before .take .ensures .0) (c .before .or-else .ensures) (c .keeps-pots .ensures))
 
-sub-write-judged : tie.Need-sub-write-judged Inv-loop μ-loop
-sub-write-judged c = let g = c .before .before .before .before .before .before .before .loop .inv .run in omega (arith, g .within, g .same)
+shown-with-requires : tie.Need-shown-with-requires Inv-loop μ-loop
+shown-with-requires c κs = go-asked (c .before .before .before .before .before .before .before .before .before .before .before .loop .inv) (c .before .before .before .before .before .before .before .before .before .read-front .ensures) (c .before .before .before .before .before .before .before .before .before .before .loop-test .taken) (c .before .before .before .before .before .plan .ensures) (c .before .before .before .before .take .ensures .0) (c .before .before .or-else .ensures) (c .before .before .before .before .take .ensures .1) (c .stands-after .ensures)
 
-part-write-judged-start : tie.Need-part-write-judged-start Inv-loop μ-loop
-part-write-judged-start c = let g = c .before .before .before .before .before .before .before .loop .inv .run in omega (arith, g .within, g .same)
-
-part-write-judged-end : tie.Need-part-write-judged-end Inv-loop μ-loop
-part-write-judged-end c = let g = c .before .before .before .before .before .before .before .loop .inv .run in omega (arith, g .within, g .same)
-
-write-judged-requires : tie.Need-write-judged-requires Inv-loop μ-loop
-write-judged-requires c κs = let j = c .before .before .before .judge-block .ensures in (j .1, j .3, j .2, go-closed (c .before .before .before .before .before .before .before .before .loop .inv) (c .before .before .before .before .before .before .read-front .ensures) (j .0), c .before .stands-after .ensures)
-
-enum-known-w : tie.Need-enum-known-w Inv-loop μ-loop
-enum-known-w c = search needs
-
-enum-told : tie.Need-enum-told Inv-loop μ-loop
-enum-told c = search needs
+has-room-requires : tie.Need-has-room-requires Inv-loop μ-loop
+has-room-requires c κs = c .shown-with .ensures .1
 
 ran-to-requires-2 : tie.Need-ran-to-requires-2 Inv-loop μ-loop
-ran-to-requires-2 c κs = c .before .before .before .before .before .before .before .before .before .before .before .before .before .loop .inv .run .inside
+ran-to-requires-2 c κs = c .before .before .before .before .before .before .before .before .before .before .before .before .before .before .loop .inv .run .inside
 
 same-length-2 : tie.Need-same-length-2 Inv-loop μ-loop
-same-length-2 c = go-same (c .before .before .before .before .before .before .before .before .before .before .before .before .before .before .loop .inv) (c .before .before .before .before .before .before .before .before .before .before .before .before .read-front .ensures) (c .before .before .before .before .before .before .before .before .before .judge-block .ensures .0) (c .before .before .before .before .before .write-judged .ensures .0) (c .before .before .before .before .before .write-judged .ensures .1) refl (c .before .enum-told .given .1)
+same-length-2 c = c .before .before .before .before .before .before .before .before .before .before .before .before .before .before .before .loop .inv .run .same
 
 returns-2 : tie.Need-returns-2 Inv-loop μ-loop
-returns-2 c = go-full (c .before .before .before .before .before .before .before .before .before .before .before .before .before .before .loop .inv) (c .before .before .before .before .before .before .before .before .before .before .before .before .read-front .ensures) (c .before .before .before .before .before .before .before .before .before .judge-block .ensures .0) (c .before .before .before .before .before .write-judged .ensures .0) (c .before .before .before .before .before .write-judged .ensures .1) refl (c .before .enum-told .given .1) (c .ran-to2 .ensures)
+returns-2 c = go-full (c .before .before .before .before .before .before .before .before .before .before .before .before .before .before .before .loop .inv) (c .before .before .before .before .before .before .before .before .before .before .before .before .before .read-front .ensures) (c .before .before .before .before .before .before .before .before .before .before .before .before .before .before .loop-test .taken) (c .before .before .before .before .before .before .before .before .before .plan .ensures) (c .before .before .before .before .before .before .before .before .take .ensures .0) (c .before .before .before .before .before .before .or-else .ensures) (c .before .before .before .shown-with .ensures .0) (c .before .before .has-room .ensures) (not-true _ (c .before .if3 .taken)) (⊎-elim (λ w. inl (w .1)) (λ w. inr (w .0 .left)) (c .before .before .before .before .before .before .before .before .before .before .if2 .came)) (c .ran-to2 .ensures)
+
+sub-put-answer : tie.Need-sub-put-answer Inv-loop μ-loop
+sub-put-answer c = let g = c .before .before .before .before .before .before .before .before .before .before .before .before .before .before .loop .inv .run in omega (arith, g .within, g .same)
+
+part-put-answer-start : tie.Need-part-put-answer-start Inv-loop μ-loop
+part-put-answer-start c = let g = c .before .before .before .before .before .before .before .before .before .before .before .before .before .before .loop .inv .run in omega (arith, g .within, g .same)
+
+part-put-answer-end : tie.Need-part-put-answer-end Inv-loop μ-loop
+part-put-answer-end c = let g = c .before .before .before .before .before .before .before .before .before .before .before .before .before .before .loop .inv .run in omega (arith, g .within, g .same)
+
+put-answer-requires : tie.Need-put-answer-requires Inv-loop μ-loop
+put-answer-requires c κs = (c .before .before .before .shown-with .ensures .1, go-fits (c .before .before .before .before .before .before .before .before .before .before .before .before .before .before .before .loop .inv) (c .before .before .before .before .before .before .before .before .before .before .before .before .before .read-front .ensures) (c .before .before .before .before .before .before .before .before .before .before .before .before .before .before .loop-test .taken) (c .before .before .before .before .before .before .before .before .before .plan .ensures) (c .before .before .before .before .before .before .before .before .take .ensures .0) (c .before .before .before .before .before .before .or-else .ensures) (c .before .before .before .shown-with .ensures .0) (c .before .before .has-room .ensures) (not-false _ (c .before .if3 .left)))
 
 add-at : tie.Need-add-at Inv-loop μ-loop
-add-at c = omega (arith, (c .before .before .before .before .before .before .before .before .before .before .before .before .before .before .before .before .before .before .before) .good, go-room (c .before .before .before .before .before .before .before .before .before .before .before .before .before .before .before .loop .inv) (c .before .before .before .before .before .before .before .before .before .before .before .before .before .read-front .ensures) (c .before .before .before .before .before .before .before .before .before .before .judge-block .ensures .0) (c .before .before .before .before .before .before .write-judged .ensures .0) (c .before .before .w .given .1))
+add-at c = omega (arith, (c .before .before .before .before .before .before .before .before .before .before .before .before .before .before .before .before .before .before .before .before .before .before) .good, go-room (c .before .before .before .before .before .before .before .before .before .before .before .before .before .before .before .before .before .before .loop .inv) (c .before .before .before .before .before .before .before .before .before .before .before .before .before .before .before .before .read-front .ensures) (c .before .before .before .before .before .before .before .before .before .before .before .before .before .before .before .before .before .loop-test .taken) (c .before .before .before .before .before .before .before .before .before .before .before .before .plan .ensures) (c .before .before .before .before .before .before .before .before .before .before .before .take .ensures .0) (c .before .before .before .before .before .before .before .before .before .or-else .ensures) (c .before .before .before .before .before .before .shown-with .ensures .0) (c .before .before .before .before .before .has-room .ensures) (not-false _ (c .before .before .before .before .if3 .left)) (c .before .before .put-answer .ensures))
 
 front-rest-requires : tie.Need-front-rest-requires Inv-loop μ-loop
-front-rest-requires c κs = ap (λ (x : Front). x .used) (c .before .before .before .before .before .before .before .before .before .before .before .before .before .read-front .ensures)
+front-rest-requires c κs = ap (λ (x : Front). x .used) (c .before .before .before .before .before .before .before .before .before .before .before .before .before .before .before .before .read-front .ensures)
 
 sub-left : tie.Need-sub-left Inv-loop μ-loop
 sub-left c = search needs
@@ -91,10 +98,10 @@ part-left-end : tie.Need-part-left-end Inv-loop μ-loop
 part-left-end c = search needs
 
 loop-less : tie.Need-loop-less Inv-loop μ-loop
-loop-less c = run-less (c .before .before .before .before .before .before .before .before .before .before .before .before .before .before .before .before .before .loop .inv .run) (c .before .before .before .before .before .before .before .before .before .before .before .before .before .before .before .read-front .ensures) (whole-part (c .before .front-rest .result .now) ∙ c .before .front-rest .ensures) (c .before .before .before .before .before .before .before .before .before .before .before .before .before .before .before .before .loop-test .taken)
+loop-less c = run-less (c .before .before .before .before .before .before .before .before .before .before .before .before .before .before .before .before .before .before .before .before .loop .inv .run) (c .before .before .before .before .before .before .before .before .before .before .before .before .before .before .before .before .before .before .read-front .ensures) (whole-part (c .before .front-rest .result .now) ∙ c .before .front-rest .ensures) (c .before .before .before .before .before .before .before .before .before .before .before .before .before .before .before .before .before .before .before .loop-test .taken)
 
 loop-again : tie.Need-loop-again Inv-loop μ-loop
-loop-again c = go-turn (c .before .before .before .before .before .before .before .before .before .before .before .before .before .before .before .before .before .loop .inv) (c .before .before .before .before .before .before .before .before .before .before .before .before .before .before .before .read-front .ensures) (c .before .before .before .before .before .before .before .before .before .before .before .before .judge-block .ensures .0) (c .before .before .before .before .before .before .before .before .write-judged .ensures .0) (c .before .before .before .before .before .before .before .before .write-judged .ensures .1) refl (c .before .before .before .before .w .given .1) (not-false _ (c .before .before .before .before .before .before .before .before .before .before .before .before .before .if1 .left)) (c .before .before .before .before .before .before .before .before .before .before .before .before .judge-block .ensures .1) (c .before .before .before .before .before .before .before .before .before .before .stands-after .ensures) (whole-part (c .before .front-rest .result .now) ∙ c .before .front-rest .ensures)
+loop-again c = go-turn (c .before .before .before .before .before .before .before .before .before .before .before .before .before .before .before .before .before .before .before .before .loop .inv) (c .before .before .before .before .before .before .before .before .before .before .before .before .before .before .before .before .before .before .read-front .ensures) (c .before .before .before .before .before .before .before .before .before .before .before .before .before .before .before .before .before .before .before .loop-test .taken) (c .before .before .before .before .before .before .before .before .before .before .before .before .before .before .plan .ensures) (c .before .before .before .before .before .before .before .before .before .before .before .before .before .take .ensures .0) (c .before .before .before .before .before .before .before .before .before .before .before .or-else .ensures) (c .before .before .before .before .before .before .before .before .shown-with .ensures .0) (c .before .before .before .before .before .before .before .has-room .ensures) (not-false _ (c .before .before .before .before .before .before .if3 .left)) (c .before .before .before .before .put-answer .ensures) refl (not-false _ (c .before .before .before .before .before .before .before .before .before .before .before .before .before .before .before .before .if1 .left)) (c .before .before .before .before .before .before .before .before .before .before .before .before .before .take .ensures .1) (c .before .before .before .before .before .before .before .before .before .stands-after .ensures) (whole-part (c .before .front-rest .result .now) ∙ c .before .front-rest .ensures)
 
 ran-to-requires-3 : tie.Need-ran-to-requires-3 Inv-loop μ-loop
 ran-to-requires-3 c κs = c .before .loop .inv .run .inside
@@ -117,18 +124,21 @@ in-place-spec =
     ran-to-requires
     same-length
     returns
-    judge-block-requires
+    sub-room
+    plan-requires
+    take-requires
+    or-else-requires
     keeps-pots-requires
     stands-after-requires
-    sub-write-judged
-    part-write-judged-start
-    part-write-judged-end
-    write-judged-requires
-    enum-known-w
-    enum-told
+    shown-with-requires
+    has-room-requires
     ran-to-requires-2
     same-length-2
     returns-2
+    sub-put-answer
+    part-put-answer-start
+    part-put-answer-end
+    put-answer-requires
     add-at
     front-rest-requires
     sub-left
