@@ -3,9 +3,10 @@ use crate::table;
 use crate::table::Table;
 use chairs::Chair;
 use chairs::Sweep;
-use chairs::Who;
 use laws::both;
 use laws::either;
+use paper::Entry;
+use paper::Numbers;
 use paper::NOT_ALLOWED;
 use paper::NOT_IN_TURN;
 use paper::WRONG_MOMENT;
@@ -17,12 +18,11 @@ ghost use Prim.Native.Nat.{_+_, _≤_};
 ghost use lib.Dec.{leb};
 ghost use Rattle.chairs.specs.Chairs.{chipsOf};
 ghost use Rattle.table.specs.Betting.{liveHands, firstOwing, nobodyOwes, turnCode, afterAct, foldedTo, checkCode, checkedTo, callCode, calledTo, mayRaise, isWager, wagerCode, isFullLift, liftAfter, wageredTo, deadCode, turnAfter, deadTo, newRound};
-ghost use Rattle.table.specs.State.{seatOf};
 ghost use Rattle.table.specs.Standing.{Standing, Seated};
 
-// The codes that stop an act out of its moment, at a seat that is not live, or out of turn. c is the seat's chair, which is read once.
-fn turn_code(t: Table, c: Chair, s: u32) -> u8
-    requires { ⌜ Standing t × (c ≡ seatOf t s) ⌝ }
+// The codes that stop an act out of its moment, at a seat that is not live, or out of turn.
+pub(crate) fn turn_code(t: Table, c: Chair, s: u32) -> u8
+    requires { ⌜ Standing t ⌝ }
     ensures { λ r. ⌜ r ≡ turnCode t s ⌝ }
 {
     let none = nobody_owes(t);
@@ -34,59 +34,63 @@ fn turn_code(t: Table, c: Chair, s: u32) -> u8
     )
 }
 
-pub(crate) fn fold_code(t: Table, s: u32) -> u8
-    requires { ⌜ Standing t ⌝ }
-    ensures { λ r. ⌜ r ≡ turnCode t s ⌝ }
+pub(crate) fn fold_code(t: Table, c: Chair, s: u32) -> u8
 {
-    let c = table::seat_of(t, s);
     turn_code(t, c, s)
 }
 
 // The round total equals the mark.
-pub(crate) fn check_code(t: Table, s: u32) -> u8
+pub(crate) fn check_code(t: Table, c: Chair, s: u32) -> u8
     requires { ⌜ Standing t ⌝ }
     ensures { λ r. ⌜ r ≡ checkCode t s ⌝ }
 {
-    let c = table::seat_of(t, s);
     let short = chairs::round_of(c) != t.play.mark;
     or_else(turn_code(t, c, s), when(short, NOT_ALLOWED))
 }
 
 // The round total is below the mark.
-pub(crate) fn call_code(t: Table, s: u32) -> u8
+pub(crate) fn call_code(t: Table, c: Chair, s: u32) -> u8
     requires { ⌜ Standing t ⌝ }
     ensures { λ r. ⌜ r ≡ callCode t s ⌝ }
 {
-    let c = table::seat_of(t, s);
     let below = chairs::round_of(c) < t.play.mark;
     or_else(turn_code(t, c, s), when(!below, NOT_ALLOWED))
 }
 
-pub(crate) fn folded(t: Table, s: u32) -> Table
-    requires { ⌜ Seated t × (s ≤ t .sheet .seats) ⌝ }
-    ensures { λ r. ⌜ r ≡ foldedTo t s ⌝ }
-{
-    let c = chairs::folded(table::seat_of(t, s));
-    after_act(t, s, c)
+pub(crate) fn act_chair(t: Table, c: Chair, e: Entry) -> Chair {
+    match e {
+        Entry::Fold(s) => chairs::folded(c),
+        Entry::Check(s) => chairs::acting(c),
+        Entry::Call(s) => chairs::acting(chairs::paid(c, laws::short_of(t.play.mark, chairs::round_of(c)))),
+        Entry::Wager(s, a) => chairs::acting(chairs::paid(c, laws::short_of(a, chairs::round_of(c)))),
+        _ => c,
+    }
 }
 
-pub(crate) fn checked(t: Table, s: u32) -> Table
-    requires { ⌜ Seated t × (s ≤ t .sheet .seats) ⌝ }
-    ensures { λ r. ⌜ r ≡ checkedTo t s ⌝ }
-{
-    let c = chairs::acting(table::seat_of(t, s));
-    after_act(t, s, c)
+fn lifted(t: Table, x: Numbers) -> Table {
+    if x.kind != 7 { return t; }
+    let cs = t.chairs;
+    let full = is_full_lift(t, x.a);
+    let ds = chairs::seats::sweep_all(cs, t.sheet.seats, Sweep::Again { full });
+    table::with_mark(table::with_chairs(t, ds), x.a, lift_after(t, x.a))
 }
 
-// The seat pays the difference or its whole stack.
-pub(crate) fn called(t: Table, s: u32) -> Table
-    requires { ⌜ (chipsOf (t .chairs) ≤ 100000000) × Seated t × (s ≤ t .sheet .seats) ⌝ }
-    ensures { λ r. ⌜ r ≡ calledTo t s ⌝ }
-{
-    let c = table::seat_of(t, s);
-    let due = laws::short_of(t.play.mark, chairs::round_of(c));
-    let d = chairs::acting(chairs::paid(c, due));
-    after_act(t, s, d)
+pub(crate) fn acted(t: Table, c: Chair, e: Entry) -> Table {
+    let x = paper::numbers_of(e);
+    let d = act_chair(t, c, e);
+    let wager = x.kind == 7;
+    let full = is_full_lift(t, x.a);
+    let cs = t.chairs;
+    let ds = chairs::seats::swept_put(cs, laws::chosen(wager, t.sheet.seats, 0), Sweep::Again { full }, x.seat, d);
+    let mark = laws::chosen(wager, x.a, t.play.mark);
+    let lift = laws::chosen(wager, lift_after(t, x.a), t.play.lift);
+    let next = chairs::seats::turn_from(ds, t.sheet.seats, mark, x.seat);
+    let mut u = t;
+    u.chairs = ds;
+    u.play.mark = mark;
+    u.play.lift = lift;
+    u.play.turn = next;
+    u
 }
 
 // "a is at least mark plus lift".
@@ -114,43 +118,27 @@ fn may_wager(t: Table, c: Chair, a: u32) -> bool
     both(may_raise(c), enough)
 }
 
-pub(crate) fn wager_code(t: Table, s: u32, a: u32) -> u8
+pub(crate) fn wager_code(t: Table, c: Chair, s: u32, a: u32) -> u8
     requires { ⌜ Standing t ⌝ }
     ensures { λ r. ⌜ r ≡ wagerCode t s a ⌝ }
 {
-    let c = table::seat_of(t, s);
     let ok = may_wager(t, c, a);
     or_else(turn_code(t, c, s), when(!ok, NOT_ALLOWED))
 }
 
 // Whether a wager to a, above the mark, is a full lift.
-fn is_full_lift(t: Table, a: u32) -> bool
+pub(crate) fn is_full_lift(t: Table, a: u32) -> bool
     ensures { λ r. ⌜ r ≡ isFullLift t a ⌝ }
 {
     t.play.lift <= laws::short_of(a, t.play.mark)
 }
 
 // The lift after a wager to a.
-fn lift_after(t: Table, a: u32) -> u32
+pub(crate) fn lift_after(t: Table, a: u32) -> u32
     ensures { λ r. ⌜ r ≡ liftAfter t a ⌝ }
 {
     let rise = laws::short_of(a, t.play.mark);
     laws::chosen(is_full_lift(t, a), rise, t.play.lift)
-}
-
-// The mark becomes a, and every other live seat with chips owes again; a short lift leaves a spent right to raise spent.
-pub(crate) fn wagered(t: Table, s: u32, a: u32) -> Table
-    requires { ⌜ (chipsOf (t .chairs) ≤ 100000000) × Seated t × (s ≤ t .sheet .seats) ⌝ }
-    ensures { λ r. ⌜ r ≡ wageredTo t s a ⌝ }
-{
-    let c = table::seat_of(t, s);
-    let put = laws::short_of(a, chairs::round_of(c));
-    let d = chairs::acting(chairs::paid(c, put));
-    let cs = t.chairs;
-    let full = is_full_lift(t, a);
-    let ds = chairs::seats::sweep_all(cs, t.sheet.seats, Sweep::Again { full });
-    let u = table::with_mark(table::with_chairs(t, ds), a, lift_after(t, a));
-    after_act(u, s, d)
 }
 
 // The seat is live, in a hand with two live or more.
@@ -216,15 +204,7 @@ pub(crate) fn first_owing(t: Table, s: u32) -> u32
     ensures { λ r. ⌜ r ≡ firstOwing t s ⌝ }
 {
     let cs = t.chairs;
-    let k = chairs::seats::lives(cs, t.sheet.seats);
-    if k.hands < 2 {
-        return 0;
-    }
-    let w = Who::Owing {
-        mark: t.play.mark,
-        alone: k.stacks <= 1,
-    };
-    chairs::seats::first_from(cs, t.sheet.seats, w, s)
+    chairs::seats::turn_from(cs, t.sheet.seats, t.play.mark, s)
 }
 
 // Whether nobody owes: then, and only then, it is nobody's turn.
@@ -240,7 +220,21 @@ fn after_act(t: Table, s: u32, c: Chair) -> Table
     requires { ⌜ Seated t × (s ≤ t .sheet .seats) ⌝ }
     ensures { λ r. ⌜ r ≡ afterAct t s c ⌝ }
 {
-    let u = table::with_chair(t, s, c);
-    let next = first_owing(u, s);
-    table::with_turn(u, next)
+    let cs = t.chairs;
+    let ds = chairs::seats::put_chair(cs, s, c);
+    let next = chairs::seats::turn_from(ds, t.sheet.seats, t.play.mark, s);
+    let mut u = t;
+    u.chairs = ds;
+    u.play.turn = next;
+    u
+}
+
+pub(crate) fn act_code(t: Table, c: Chair, e: Entry) -> u8 {
+    match e {
+        Entry::Fold(s) => fold_code(t, c, s),
+        Entry::Check(s) => check_code(t, c, s),
+        Entry::Call(s) => call_code(t, c, s),
+        Entry::Wager(s, a) => wager_code(t, c, s, a),
+        _ => WRONG_MOMENT,
+    }
 }

@@ -18,11 +18,10 @@ ghost use Rattle.table.specs.Dealing.{inThisHand, holeCode, heldTo, boar
 ghost use Rattle.table.specs.Standing.{Standing, Seated};
 
 // The seat is live and has not all its cards yet, and the cards are two new ones.
-pub(crate) fn hole_code(t: Table, s: u32, a: u32, b: u32) -> u8
+pub(crate) fn hole_code(t: Table, c: chairs::Chair, a: u32, b: u32) -> u8
     requires { ⌜ Standing t ⌝ }
     ensures { λ r. ⌜ r ≡ holeCode t s a b ⌝ }
 {
-    let c = table::seat_of(t, s);
     let off = !t.play.opened;
     let out = !c.dealt.live;
     let full = c.hole.count as u32 == t.sheet.game;

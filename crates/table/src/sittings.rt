@@ -24,11 +24,10 @@ fn too_many(all: u64, a: u32) -> bool
 }
 
 // A seat must be empty, and the chips not too many.
-pub(crate) fn sit_code(t: Table, s: u32, a: u32) -> u8
+pub(crate) fn sit_code(t: Table, c: chairs::Chair, a: u32) -> u8
     requires { ⌜ Standing t ⌝ }
     ensures { λ r. ⌜ r ≡ sitCode t s a ⌝ }
 {
-    let c = table::seat_of(t, s);
     let cs = t.chairs;
     let taken = c.sitting != 0;
     let over = too_many(chairs::seats::chips(cs, t.sheet.seats), a);
@@ -46,10 +45,9 @@ pub(crate) fn sat(t: Table, s: u32, a: u32) -> Table
 }
 
 // The seat is occupied, its sitter not live in a hand.
-pub(crate) fn leave_code(t: Table, s: u32) -> u8
+pub(crate) fn leave_code(c: chairs::Chair) -> u8
     ensures { λ r. ⌜ r ≡ leaveCode t s ⌝ }
 {
-    let c = table::seat_of(t, s);
     let empty = c.sitting == 0;
     when(either(empty, c.dealt.live), WRONG_SEAT)
 }

@@ -139,3 +139,10 @@ pub(crate) fn no_board() -> Board
         cards: [0; 5],
     }
 }
+
+pub(crate) fn place(s: u32) -> usize
+{
+    if s == 0 { return 0; }
+    if 10 < s { return 0; }
+    (s - 1) as usize
+}
