@@ -67,31 +67,7 @@ pub(crate) fn act_chair(t: Table, c: Chair, e: Entry) -> Chair {
     }
 }
 
-fn lifted(t: Table, x: Numbers) -> Table {
-    if x.kind != 7 { return t; }
-    let cs = t.chairs;
-    let full = is_full_lift(t, x.a);
-    let ds = chairs::seats::sweep_all(cs, t.sheet.seats, Sweep::Again { full });
-    table::with_mark(table::with_chairs(t, ds), x.a, lift_after(t, x.a))
-}
 
-pub(crate) fn acted(t: Table, c: Chair, e: Entry) -> Table {
-    let x = paper::numbers_of(e);
-    let d = act_chair(t, c, e);
-    let wager = x.kind == 7;
-    let full = is_full_lift(t, x.a);
-    let cs = t.chairs;
-    let ds = chairs::seats::swept_put(cs, laws::chosen(wager, t.sheet.seats, 0), Sweep::Again { full }, x.seat, d);
-    let mark = laws::chosen(wager, x.a, t.play.mark);
-    let lift = laws::chosen(wager, lift_after(t, x.a), t.play.lift);
-    let next = chairs::seats::turn_from(ds, t.sheet.seats, mark, x.seat);
-    let mut u = t;
-    u.chairs = ds;
-    u.play.mark = mark;
-    u.play.lift = lift;
-    u.play.turn = next;
-    u
-}
 
 // "a is at least mark plus lift".
 fn reaches_lift(mark: u32, lift: u32, a: u32) -> bool
