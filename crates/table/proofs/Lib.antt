@@ -10,3 +10,6 @@ pub mod Standing
 pub mod Reached
 pub mod Chips
 pub mod Refusals
+pub mod Arms
+pub mod Acts
+pub mod Taking

@@ -1,9 +1,11 @@
 -- Document 01, "Betting", sentence by sentence; and "in turn" of the table of entries. Assumes nothing.
 use Prim.Native.Nat.{ℕ, _+_, _-_}
-use mathlib.Core.Bool.{Bool, not}
+use mathlib.Core.Bool.{Bool, true, false, not}
 use mathlib.Core.List.{map}
 use lib.Dec.{ltb, leb, eqb}
 use Rattle.paper.specs.Paper.{wrongMoment, wrongSeat, notInTurn, notAllowed, when, orElse}
+use Rattle.paper.specs.declared.Entry.{Entry}
+use Rattle.paper.specs.declared.Entry.the-variants.{Sit, Leave, Hand, Hole, Fold, Check, Call, Wager, Board, Dead, Settle, Void}
 use Rattle.laws.specs.Tests.{both, either, pick}
 use Rattle.chairs.specs.Chairs.{isOwing, wantOf, countOf, firstOf, clockwise, sweepOf, roundOf, foldedOf, actedOf, paidOf}
 use Rattle.chairs.specs.declared.Chair.{Chair}
@@ -92,6 +94,36 @@ unfoldable pub wageredTo : Table → ℕ → ℕ → Table
 wageredTo t s a =
     afterAct (withMark (withChairs t (map (sweepOf (Again (isFullLift t a))) (t .chairs))) a (liftAfter t a)) s
     (actedOf (paidOf (seatOf t s) (a - roundOf (seatOf t s))))
+
+-- the acts of a seat in turn: fold, check, call and wager
+abbrev pub isAct : Entry → Bool
+isAct (Sit s a) = false
+isAct (Leave s) = false
+isAct (Hand s) = false
+isAct (Hole s a b) = false
+isAct (Fold s) = true
+isAct (Check s) = true
+isAct (Call s) = true
+isAct (Wager s a) = true
+isAct (Board k) = false
+isAct (Dead s) = false
+isAct Settle = false
+isAct Void = false
+
+-- the chair of the seat that acts, after its act
+abbrev pub actedBy : Table → Chair → Entry → Chair
+actedBy t c (Sit s a) = c
+actedBy t c (Leave s) = c
+actedBy t c (Hand s) = c
+actedBy t c (Hole s a b) = c
+actedBy t c (Fold s) = foldedOf c
+actedBy t c (Check s) = actedOf c
+actedBy t c (Call s) = actedOf (paidOf c (t .play .mark - roundOf c))
+actedBy t c (Wager s a) = actedOf (paidOf c (a - roundOf c))
+actedBy t c (Board k) = c
+actedBy t c (Dead s) = c
+actedBy t c Settle = c
+actedBy t c Void = c
 
 -- dead: "a hand is open, two live or more"; the seat is "live"
 unfoldable pub deadCode : Table → ℕ → ℕ

@@ -1,21 +1,28 @@
 // Document 01, "Opening": a hand opens, with its puck and its blinds.
 use crate::betting;
+use crate::settle;
 use crate::table;
 use crate::table::Play;
 use crate::table::Table;
+use crate::table::Taken;
 use chairs::Sweep;
 use chairs::Who;
 use laws::both;
 use laws::either;
+use paper::TAKEN;
 use paper::WRONG_MOMENT;
 use paper::WRONG_SEAT;
 use paper::or_else;
 use paper::when;
 ghost use mathlib.Core.Path.{_≡_};
+ghost use mathlib.Core.Bool.{true};
 ghost use Prim.Native.Nat.{_≤_};
+ghost use Rattle.paper.specs.Paper.{inKind};
+ghost use Rattle.paper.specs.declared.Entry.the-variants.{Hand};
 ghost use Rattle.chairs.specs.Chairs.{chipsOf};
 ghost use Rattle.table.specs.Opening.{nextDealtIn, isPuck, handCode, postedTo, withHand, openedTo};
 ghost use Rattle.table.specs.Standing.{Standing, Seated};
+ghost use Rattle.table.specs.Take.{Sound, kindTaken};
 
 // Whether the seat may have the puck.
 fn may_puck(t: Table, s: u32) -> bool
@@ -29,7 +36,7 @@ fn may_puck(t: Table, s: u32) -> bool
 }
 
 // No hand, and two seats or more hold chips; then the puck seat.
-pub(crate) fn hand_code(t: Table, s: u32) -> u8
+fn hand_code(t: Table, s: u32) -> u8
     requires { ⌜ Standing t ⌝ }
     ensures { λ r. ⌜ r ≡ handCode t s ⌝ }
 {
@@ -52,7 +59,7 @@ fn posted(t: Table, s: u32, a: u32) -> Table
 }
 
 // A hand opens: the puck sitter posts small, the next dealt-in seat big; first turn to the first owing seat after the big blind.
-pub(crate) fn opened(t: Table, s: u32) -> Table
+fn opened(t: Table, s: u32) -> Table
     requires { ⌜ (chipsOf (t .chairs) ≤ 100000000) × Seated t × (s ≤ t .sheet .seats) ⌝ }
     ensures { λ r. ⌜ r ≡ openedTo t s ⌝ }
 {
@@ -64,6 +71,18 @@ pub(crate) fn opened(t: Table, s: u32) -> Table
     let big = posted(small, next, t.sheet.big);
     let u = with_hand(big, s);
     table::with_turn(u, betting::first_owing(u, next))
+}
+
+// A hand opens, or it is refused.
+pub(crate) fn hand(t: Table, s: u32) -> Taken
+    requires { ⌜ Sound t × (inKind (t .sheet) (Hand s) ≡ true) ⌝ }
+    ensures { λ r. ⌜ r ≡ kindTaken t (Hand s) ⌝ }
+{
+    let k = hand_code(t, s);
+    if k != TAKEN {
+        return settle::judged(t, k);
+    }
+    settle::judged(opened(t, s), TAKEN)
 }
 
 // A hand opens with its puck: the mark is big even if posted short, and the lift is big.

@@ -5,6 +5,7 @@ use crate::table::Board;
 use crate::table::Payout;
 use crate::table::Play;
 use crate::table::Table;
+use crate::table::Taken;
 use chairs::Chair;
 use chairs::Hole;
 use chairs::What;
@@ -13,6 +14,7 @@ use chairs::seats::PutIn;
 use laws::both;
 use laws::either;
 use paper::CARDS_MISSING;
+use paper::TAKEN;
 use paper::WRONG_MOMENT;
 use paper::or_else;
 use paper::when;
@@ -30,15 +32,11 @@ ghost use Rattle.pots.specs.Runs.{padded};
 ghost use Rattle.pots.specs.Settle.{sole};
 ghost use Rattle.table.specs.Settle.{Payable, settleCode, totalsOf, livesOf, hereOf, handScore, scoreOf, potsNow, backNow, commissionOf, payoutNow, settledTo, closedPlay, noPayout};
 ghost use Rattle.table.specs.Standing.{Standing};
-
-// The table after an entry that is taken, and what it pays.
-pub struct Done {
-    pub table: Table,
-    pub payout: Payout,
-}
+ghost use Rattle.table.specs.Take.{Sound, kindTaken};
+ghost use Rattle.paper.specs.declared.Entry.the-variants.{Settle};
 
 // One live; or nobody owes and five board cards lie. With two live or more each live seat has all its cards.
-pub(crate) fn settle_code(t: Table) -> u8
+fn settle_code(t: Table) -> u8
     requires { ⌜ Standing t ⌝ }
     ensures { λ r. ⌜ r ≡ settleCode t ⌝ }
 {
@@ -215,24 +213,30 @@ fn shut(t: Table, p: Payout) -> Table
 }
 
 // A settle: the table after it, and what it pays.
-pub(crate) fn settled(t: Table) -> Done
-    requires { ⌜ Payable t × Standing t ⌝ }
-    ensures { λ r. ⌜ (r .table ≡ settledTo t) × (r .payout ≡ payoutNow t) ⌝ }
+pub(crate) fn settle_hand(t: Table) -> Taken
+    requires { ⌜ Sound t ⌝ }
+    ensures { λ r. ⌜ r ≡ kindTaken t Settle ⌝ }
 {
+    let k = settle_code(t);
+    if k != TAKEN {
+        return judged(t, k);
+    }
     let p = payout(t);
     let u = shut(t, p);
-    Done {
+    Taken {
+        code: TAKEN,
         table: u,
         payout: p,
     }
 }
 
-// Any other entry pays nothing.
-pub(crate) fn plain(t: Table) -> Done
-    ensures { λ r. ⌜ (r .table ≡ t) × (r .payout ≡ noPayout) ⌝ }
+// A code and a table, and nothing is paid: any entry but a settle that is taken.
+pub(crate) fn judged(t: Table, k: u8) -> Taken
+    ensures { λ r. ⌜ (r .code ≡ k) × (r .table ≡ t) × (r .payout ≡ noPayout) ⌝ }
 {
     let p = no_payout();
-    Done {
+    Taken {
+        code: k,
         table: t,
         payout: p,
     }
