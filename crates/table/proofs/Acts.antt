@@ -37,7 +37,7 @@ use Rattle.table.specs.declared.table.Board.{Board as Cards}
 use Rattle.table.specs.declared.table.Table.{Table}
 use Rattle.table.specs.declared.table.Taken.{Taken}
 use Rattle.table.proofs.Laws.{owing-few, owing-many}
-use Rattle.table.proofs.Arms.{put-same, plain-taken, seat-place}
+use Rattle.table.proofs.Arms.{set-place, put-same, plain-taken}
 
 -- the first owing seat, as it is found: none where fewer than two hands are live
 pub owing-is : (u : Table) (s : ℕ)
@@ -67,6 +67,13 @@ last-most false n last h e = omega arith
 pub seats-by : (k : Sweep) (w : Bool) (n : ℕ) (cs : List Chair) → Seats n cs → Seats n (pick w (map (sweepOf k) cs) cs)
 seats-by k true n cs h = seats-sweep k n cs h
 seats-by k false n cs h = h
+
+-- the chairs after the sweep, and after the seat's own is put down
+pub swept-put : (k : Sweep) (w : Bool) (t : Table) (last j i s : ℕ) (d : Chair) (ds : List Chair) → Sound t → last ≡ pick w (t .sheet .seats) 0 → j ≡ last
+    → ds ≡ sweepTo (sweepOf k) j (t .chairs) → i + 1 ≡ s → set ds i d ≡ putAt (pick w (map (sweepOf k) (t .chairs)) (t .chairs)) s d
+swept-put k w t last j i s d ds h l e q p =
+    set-place ds i s d p
+    ∙ ap (λ (x : List Chair). putAt x s d) (swept-by (sweepOf k) (sweep-none k) w (t .sheet .seats) last j (t .chairs) ds (h .standing .seated .above) l e q)
 
 -- ---- which entries are acts
 among : (x : ℕ) → OneOf (4 ∷ 5 ∷ 6 ∷ 7 ∷ []) x → (4 ≤ x) × (x ≤ 7)
@@ -128,20 +135,23 @@ no-acted t c (Dead s) q = refl
 no-acted t c Settle q = refl
 no-acted t c Void q = refl
 
--- the seat of an act has a place, within the table's seats
-pub act-seat : (t : Table) (e : Entry) → Sound t → isAct e ≡ true → inKind (t .sheet) e ≡ true → isSeat (t .sheet) (numbersOf e .seat) ≡ true
-act-seat t (Sit s a) h q r = absurd (false≢true q)
-act-seat t (Leave s) h q r = absurd (false≢true q)
-act-seat t (Hand s) h q r = absurd (false≢true q)
-act-seat t (Hole s a b) h q r = absurd (false≢true q)
-act-seat t (Fold s) h q r = r
-act-seat t (Check s) h q r = r
-act-seat t (Call s) h q r = r
-act-seat t (Wager s a) h q r = both-true (isSeat (t .sheet) s) (between 1 100000000 a) r .0
-act-seat t (Board k) h q r = absurd (false≢true q)
-act-seat t (Dead s) h q r = absurd (false≢true q)
-act-seat t Settle h q r = absurd (false≢true q)
-act-seat t Void h q r = absurd (false≢true q)
+-- the seat of an act is one of the table's
+seat-in : (t : Table) (e : Entry) → isAct e ≡ true → inKind (t .sheet) e ≡ true → isSeat (t .sheet) (numbersOf e .seat) ≡ true
+seat-in t (Sit s a) q r = absurd (false≢true q)
+seat-in t (Leave s) q r = absurd (false≢true q)
+seat-in t (Hand s) q r = absurd (false≢true q)
+seat-in t (Hole s a b) q r = absurd (false≢true q)
+seat-in t (Fold s) q r = r
+seat-in t (Check s) q r = r
+seat-in t (Call s) q r = r
+seat-in t (Wager s a) q r = both-true (isSeat (t .sheet) s) (between 1 100000000 a) r .0
+seat-in t (Board k) q r = absurd (false≢true q)
+seat-in t (Dead s) q r = absurd (false≢true q)
+seat-in t Settle q r = absurd (false≢true q)
+seat-in t Void q r = absurd (false≢true q)
+
+pub act-seat : (t : Table) (e : Entry) (x : Numbers) → x ≡ numbersOf e → isAct e ≡ true → inKind (t .sheet) e ≡ true → isSeat (t .sheet) (x .seat) ≡ true
+act-seat t e x n q r = ap (λ (y : Numbers). isSeat (t .sheet) (y .seat)) n ∙ seat-in t e q r
 
 act-plain : (t : Table) (e : Entry) → isAct e ≡ true → payoutBy t e ≡ noPayout
 act-plain t (Sit s a) q = refl

@@ -1,3 +1,17 @@
+use Rattle.table.proofs.Acts.{act-seat, swept-put, sweep-turn, last-most, seats-by, act-taken}
+use Rattle.table.proofs.Arms.{seat-place, seat-read}
+use Rattle.table.proofs.Standing.{seat-within}
+use Rattle.table.specs.State.{seatOf}
+use Rattle.paper.specs.declared.Numbers.{Numbers}
+use Rattle.chairs.proofs.Above.{seats-put}
+use Rattle.chairs.proofs.Laws.{sweepTo, chips-at}
+use Rattle.chairs.specs.declared.Sweep.the-variants.{Again}
+use Rattle.chairs.specs.declared.Chair.{Chair}
+use Rattle.chairs.specs.Chairs.{againOf}
+use borrow.Author.Needs.{needs}
+use native.Mathlib.Omega.{arith}
+use mathlib.Core.Path.{_≡_, refl, ap, _∙_}
+use Prim.Native.Nat.{_+_, _-_, _≤_}
 use Rattle.table.proofs.betting.act.Statement.{statement}
 use Rattle.table.proofs.betting.act.Tie as tie
 use Rattle.table.proofs.betting.act.Reads as reads
@@ -23,115 +37,138 @@ abbrev μ-loop : tie.MeasureT-loop
 
 -- src/betting.rt:238:9
 numbers-of-requires : tie.Need-numbers-of-requires Inv-loop μ-loop
-numbers-of-requires c κs = ?
+numbers-of-requires c κs = search needs
 
 -- src/betting.rt:240:9
 place-requires : tie.Need-place-requires Inv-loop μ-loop
-place-requires c κs = ?
+place-requires c κs = seat-place ((c .before .before) .args .t) (c .before .numbers-of .result .seat) ((c .before .before) .pre .0) (act-seat ((c .before .before) .args .t) ((c .before .before) .args .e) (c .before .numbers-of .result) (c .before .numbers-of .ensures) ((c .before .before) .pre .2) ((c .before .before) .pre .1))
 
 -- src/betting.rt:241:13
 mul-c : tie.Need-mul-c Inv-loop μ-loop
-mul-c c = ?
+mul-c c = search needs
 
 -- src/betting.rt:241:13
 array-copy-out-c : tie.Need-array-copy-out-c Inv-loop μ-loop
-array-copy-out-c c = ?
+array-copy-out-c c = search needs
 
 -- src/betting.rt:242:9
 act-code-requires : tie.Need-act-code-requires Inv-loop μ-loop
-act-code-requires c κs = ?
+act-code-requires c κs = let t = (c .before .before .before .before) .args .t in
+    let x = c .before .before .before .numbers-of in
+    ((c .before .before .before .before) .pre .0 .standing, (c .before .before .before .before) .pre .2, seat-read t (c .before .place .result) (x .result .seat) ((c .before .before .before .before) .pre .0) (c .before .place .ensures .0) (c .before .place .ensures .1) ∙ ap (λ (n : Numbers). seatOf t (n .seat)) (x .ensures))
 
 -- src/betting.rt:244:33
 act-chair-requires : tie.Need-act-chair-requires Inv-loop μ-loop
-act-chair-requires c κs = ?
+act-chair-requires c κs = let t = (c .before .before .before .before .before) .args .t in
+    let s = c .before .before .before .before .numbers-of .result .seat in
+    let q = seat-read t (c .before .before .place .result) s ((c .before .before .before .before .before) .pre .0) (c .before .before .place .ensures .0) (c .before .before .place .ensures .1) in
+    omega (arith, ap (λ (d : Chair). d .stack + d .dealt .total) q, chips-at (t .chairs) s, (c .before .before .before .before .before) .pre .0 .payable .chips)
 
 -- src/betting.rt:244:9
 chair-by-requires : tie.Need-chair-by-requires Inv-loop μ-loop
-chair-by-requires c κs = ?
+chair-by-requires c κs = search needs
 
 -- src/betting.rt:245:9
 both-requires : tie.Need-both-requires Inv-loop μ-loop
-both-requires c κs = ?
+both-requires c κs = search needs
 
 -- src/betting.rt:246:9
 is-full-lift-requires : tie.Need-is-full-lift-requires Inv-loop μ-loop
-is-full-lift-requires c κs = ?
+is-full-lift-requires c κs = search needs
 
 -- src/betting.rt:247:16
 chosen-requires : tie.Need-chosen-requires Inv-loop μ-loop
-chosen-requires c κs = ?
+chosen-requires c κs = search needs
 
 -- src/betting.rt:247:16
 cast-last : tie.Need-cast-last Inv-loop μ-loop
-cast-last c = ?
+cast-last c = search needs
 
 -- src/betting.rt:249:5
 loop-holds : tie.Need-loop-holds Inv-loop μ-loop
-loop-holds c = ?
+loop-holds c = (omega arith, last-most (c .before .before .both .result) ((c .before .before .before .before .before .before .before .before .before .before .before) .args .t .sheet .seats) _ ((c .before .before .before .before .before .before .before .before .before .before .before) .pre .0 .standing .seated .few) (c .chosen .ensures), refl)
 
 -- src/betting.rt:250:17
 mul-b : tie.Need-mul-b Inv-loop μ-loop
-mul-b c = ?
+mul-b c = search needs
 
 -- src/betting.rt:250:17
 array-copy-out-b : tie.Need-array-copy-out-b Inv-loop μ-loop
-array-copy-out-b c = ?
+array-copy-out-b c = search needs
 
 -- src/betting.rt:251:13
 again-requires : tie.Need-again-requires Inv-loop μ-loop
-again-requires c κs = ?
+again-requires c κs = search needs
 
 -- src/betting.rt:252:9
 mul-cs : tie.Need-mul-cs Inv-loop μ-loop
-mul-cs c = ?
+mul-cs c = search needs
 
 -- src/betting.rt:252:9
 array-set-from-cs : tie.Need-array-set-from-cs Inv-loop μ-loop
-array-set-from-cs c = ?
+array-set-from-cs c = search needs
 
 -- src/betting.rt:253:9
 add-j : tie.Need-add-j Inv-loop μ-loop
-add-j c = ?
+add-j c = search needs
 
 -- src/betting.rt:249:5
 loop-less : tie.Need-loop-less Inv-loop μ-loop
-loop-less c = ?
+loop-less c = search needs
 
 -- src/betting.rt:249:5
 loop-again : tie.Need-loop-again Inv-loop μ-loop
-loop-again c = ?
+loop-again c = let t = (c .before .before .before .before .before .before .before .before .before .before .before .before .before .before .before) .args .t in
+    (omega arith, c .before .before .before .loop .inv .1, sweep-turn (againOf (c .before .before .before .before .before .is-full-lift .result)) (c .before .before .before .loop .j) (t .chairs) (c .before .before .before .loop .cs) _ (omega (arith, c .before .before .before .loop .inv .1, (c .before .before .before .before .before .before .before .before .before .before .before .before .before .before .before) .pre .0 .standing .size)) (c .before .before .before .loop .inv .2) (c .again .ensures))
 
 -- src/betting.rt:255:5
 mul-cs-2 : tie.Need-mul-cs-2 Inv-loop μ-loop
-mul-cs-2 c = ?
+mul-cs-2 c = search needs
 
 -- src/betting.rt:255:5
 array-set-from-cs-2 : tie.Need-array-set-from-cs-2 Inv-loop μ-loop
-array-set-from-cs-2 c = ?
+array-set-from-cs-2 c = search needs
 
 -- src/betting.rt:256:9
 chosen-requires-2 : tie.Need-chosen-requires-2 Inv-loop μ-loop
-chosen-requires-2 c κs = ?
+chosen-requires-2 c κs = search needs
 
 -- src/betting.rt:257:36
 lift-after-requires : tie.Need-lift-after-requires Inv-loop μ-loop
-lift-after-requires c κs = ?
+lift-after-requires c κs = search needs
 
 -- src/betting.rt:257:9
 chosen-requires-3 : tie.Need-chosen-requires-3 Inv-loop μ-loop
-chosen-requires-3 c κs = ?
+chosen-requires-3 c κs = search needs
 
 -- src/betting.rt:258:9
 next-turn-requires : tie.Need-next-turn-requires Inv-loop μ-loop
-next-turn-requires c κs = ?
+next-turn-requires c κs = let h = (c .before .before .before .before .before .before .before .before .before .before .before .before .before .before .before .before) .pre .0 in
+    let t = (c .before .before .before .before .before .before .before .before .before .before .before .before .before .before .before .before) .args .t in
+    let x = c .before .before .before .before .before .before .before .before .before .before .before .before .before .before .before .numbers-of in
+    let s = x .result .seat in
+    let d = c .before .before .before .before .before .before .before .before .before .chair-by .result in
+    let k = Again (c .before .before .before .before .before .before .is-full-lift .result) in
+    let e : c .before .before .before .before .loop .j ≡ c .before .before .before .before .before .chosen .result = omega (arith, c .before .before .before .before .loop .inv .0) in
+    let put = swept-put k (c .before .before .before .before .before .before .before .both .result) t _ (c .before .before .before .before .loop .j) (c .before .before .before .before .before .before .before .before .before .before .before .before .before .place .result) s d (c .before .before .before .before .loop .cs) h (c .before .before .before .before .before .chosen .ensures) e (c .before .before .before .before .loop .inv .2) (c .before .before .before .before .before .before .before .before .before .before .before .before .before .place .ensures .0) in
+    let within = seat-within (t .sheet) s (act-seat t ((c .before .before .before .before .before .before .before .before .before .before .before .before .before .before .before .before) .args .e) (x .result) (x .ensures) ((c .before .before .before .before .before .before .before .before .before .before .before .before .before .before .before .before) .pre .2) ((c .before .before .before .before .before .before .before .before .before .before .before .before .before .before .before .before) .pre .1)) in
+    (rw put (seats-put (t .sheet .seats) _ s d within (seats-by k (c .before .before .before .before .before .before .before .both .result) (t .sheet .seats) (t .chairs) (h .standing .seated))), within)
 
 -- src/betting.rt:264:5
 judged-requires : tie.Need-judged-requires Inv-loop μ-loop
-judged-requires c κs = ?
+judged-requires c κs = search needs
 
 -- src/betting.rt:234:1
 returns : tie.Need-returns Inv-loop μ-loop
-returns c = ?
+returns c = let h = (c .before .before .before .before .before .before .before .before .before .before .before .before .before .before .before .before .before .before .before .before .before) .pre .0 in
+    let t = (c .before .before .before .before .before .before .before .before .before .before .before .before .before .before .before .before .before .before .before .before .before) .args .t in
+    let x = c .before .before .before .before .before .before .before .before .before .before .before .before .before .before .before .before .before .before .before .before .numbers-of in
+    let s = x .result .seat in
+    let k = Again (c .before .before .before .before .before .before .before .before .before .before .before .is-full-lift .result) in
+    let e : c .before .before .before .before .before .before .before .before .before .loop .j ≡ c .before .before .before .before .before .before .before .before .before .before .chosen .result = omega (arith, c .before .before .before .before .before .before .before .before .before .loop .inv .0) in
+    let put = swept-put k (c .before .before .before .before .before .before .before .before .before .before .before .before .both .result) t _ (c .before .before .before .before .before .before .before .before .before .loop .j) (c .before .before .before .before .before .before .before .before .before .before .before .before .before .before .before .before .before .before .place .result) s (c .before .before .before .before .before .before .before .before .before .before .before .before .before .before .chair-by .result) (c .before .before .before .before .before .before .before .before .before .loop .cs) h (c .before .before .before .before .before .before .before .before .before .before .chosen .ensures) e (c .before .before .before .before .before .before .before .before .before .loop .inv .2) (c .before .before .before .before .before .before .before .before .before .before .before .before .before .before .before .before .before .before .place .ensures .0) in
+    let q = seat-read t (c .before .before .before .before .before .before .before .before .before .before .before .before .before .before .before .before .before .before .place .result) s h (c .before .before .before .before .before .before .before .before .before .before .before .before .before .before .before .before .before .before .place .ensures .0) (c .before .before .before .before .before .before .before .before .before .before .before .before .before .before .before .before .before .before .place .ensures .1) in
+    act-taken t ((c .before .before .before .before .before .before .before .before .before .before .before .before .before .before .before .before .before .before .before .before .before) .args .e) (x .result) _ _ _ _ _ _ _ _ _ _ _ _ ((c .before .before .before .before .before .before .before .before .before .before .before .before .before .before .before .before .before .before .before .before .before) .pre .2) (x .ensures) q (c .before .before .before .before .before .before .before .before .before .before .before .before .before .before .before .before .act-code .ensures) (c .before .before .before .before .before .before .before .before .before .before .before .before .before .before .before .act-chair .ensures) (c .before .before .before .before .before .before .before .before .before .before .before .before .before .before .chair-by .ensures) (c .before .before .before .before .before .before .before .before .before .before .before .before .both .ensures) (c .before .before .before .before .before .before .before .before .before .before .before .is-full-lift .ensures) put (c .before .before .before .before .before .before .before .chosen2 .ensures) (c .before .before .before .before .before .before .lift-after .ensures) (c .before .before .before .before .before .chosen3 .ensures) (c .before .before .before .before .next-turn .ensures) (c .judged .ensures)
 
 pub act-spec : {M : Type 1} → statement M
 act-spec =
