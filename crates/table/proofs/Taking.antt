@@ -55,6 +55,19 @@ taken-is : (t : Table) (n : ℕ) (e : Entry) (r : Taken) → r .code ≡ codeOf 
 unfolding takenOf
 taken-is t n e r p q w = rw (p, q, w)
 
+-- `take` keeps `Sound`
+sound-next : (t : Table) (n : ℕ) (e : Entry) → Sound t → Sound (nextOf t n e)
+unfolding nextOf
+sound-next t n e h =
+    ⊎-elim
+    (λ (q : eqb (codeOf t n e) 0 ≡ true). rw q (sound-taken t n e h (eqb-true (codeOf t n e) 0 q)))
+    (λ (q : eqb (codeOf t n e) 0 ≡ false). rw q h)
+    (test (eqb (codeOf t n e) 0))
+
+sound-of : (t : Table) (n : ℕ) (e : Entry) (r : Taken) → Sound t → r ≡ takenOf t n e → Sound (r .table)
+unfolding takenOf
+sound-of t n e r h q = rw q (sound-next t n e h)
+
 module _ (t : Table) (n : ℕ) (e f : Entry) (early : ℕ) (d r : Taken) (q : early ≡ earlyOf t n e) (m : f ≡ pick (eqb early 0) e Void) (d-is : d ≡ kindTaken t f)
     (code : r .code ≡ orElse early (d .code)) (next : r .table ≡ withTaken (d .table) (pick (eqb (d .code) 0) n (t .taken))) (paid : r .payout ≡ d .payout) where
   -- it is in its ranges and the next
@@ -83,18 +96,8 @@ module _ (t : Table) (n : ℕ) (e f : Entry) (early : ℕ) (d r : Taken) (q : ea
       (next ∙ ap (λ (x : Taken). withTaken (x .table) (pick (eqb (x .code) 0) n (t .taken))) j ∙ sym (ap (λ (k : Bool). pick k (withTaken (appliedTo t e) n) t) c))
       (paid ∙ ap (λ (x : Taken). x .payout) j ∙ sym (ap (λ (k : Bool). pick k (payoutBy t e) noPayout) c))
 
-  pub take-is : r ≡ takenOf t n e
+  take-is : r ≡ takenOf t n e
   take-is = ⊎-elim judged barred (test (eqb early 0))
 
--- `take` keeps `Sound`
-sound-next : (t : Table) (n : ℕ) (e : Entry) → Sound t → Sound (nextOf t n e)
-unfolding nextOf
-sound-next t n e h =
-    ⊎-elim
-    (λ (q : eqb (codeOf t n e) 0 ≡ true). rw q (sound-taken t n e h (eqb-true (codeOf t n e) 0 q)))
-    (λ (q : eqb (codeOf t n e) 0 ≡ false). rw q h)
-    (test (eqb (codeOf t n e) 0))
-
-pub sound-taken-of : (t : Table) (n : ℕ) (e : Entry) (r : Taken) → Sound t → r ≡ takenOf t n e → Sound (r .table)
-unfolding takenOf
-sound-taken-of t n e r h q = rw q (sound-next t n e h)
+  pub take-kept : Sound t → (r ≡ takenOf t n e) × Sound (r .table)
+  take-kept h = (take-is, sound-of t n e r h take-is)

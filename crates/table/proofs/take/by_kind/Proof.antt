@@ -1,3 +1,8 @@
+use Rattle.table.proofs.Acts.{acts}
+use Rattle.table.proofs.Arms.{refused-by}
+use native.Mathlib.Omega.{arith}
+use mathlib.Core.Path.{_≡_, refl}
+use Rattle.paper.specs.declared.Entry.the-variants.{Void}
 use borrow.Author.Needs.{needs}
 use Rattle.table.proofs.take.by_kind.Statement.{statement}
 use Rattle.table.proofs.take.by_kind.Tie as tie
@@ -19,7 +24,7 @@ enum-known-e c = search needs
 
 -- src/take.rt:33:29
 sit-requires : tie.Need-sit-requires
-sit-requires c κs = ?
+sit-requires c κs = ((c .before .before .before) .pre .0, rw (c .before .e .given .1) at ((c .before .before .before) .pre .1))
 
 -- src/take.rt:34:22
 enum-known-e-2 : tie.Need-enum-known-e-2
@@ -27,7 +32,7 @@ enum-known-e-2 c = search needs
 
 -- src/take.rt:34:28
 leave-requires : tie.Need-leave-requires
-leave-requires c κs = ?
+leave-requires c κs = ((c .before .before .before) .pre .0, rw (c .before .e2 .given .1) at ((c .before .before .before) .pre .1))
 
 -- src/take.rt:35:21
 enum-known-e-3 : tie.Need-enum-known-e-3
@@ -35,7 +40,7 @@ enum-known-e-3 c = search needs
 
 -- src/take.rt:35:27
 hand-requires : tie.Need-hand-requires
-hand-requires c κs = ?
+hand-requires c κs = ((c .before .before .before) .pre .0, rw (c .before .e3 .given .1) at ((c .before .before .before) .pre .1))
 
 -- src/take.rt:36:21
 enum-known-e-4 : tie.Need-enum-known-e-4
@@ -43,7 +48,7 @@ enum-known-e-4 c = search needs
 
 -- src/take.rt:36:33
 hole-requires : tie.Need-hole-requires
-hole-requires c κs = ?
+hole-requires c κs = ((c .before .before .before) .pre .0, rw (c .before .e4 .given .1) at ((c .before .before .before) .pre .1))
 
 -- src/take.rt:37:22
 enum-known-e-5 : tie.Need-enum-known-e-5
@@ -51,7 +56,7 @@ enum-known-e-5 c = search needs
 
 -- src/take.rt:37:28
 board-requires : tie.Need-board-requires
-board-requires c κs = ?
+board-requires c κs = ((c .before .before .before) .pre .0, rw (c .before .e5 .given .1) at ((c .before .before .before) .pre .1))
 
 -- src/take.rt:38:21
 enum-known-e-6 : tie.Need-enum-known-e-6
@@ -59,7 +64,7 @@ enum-known-e-6 c = search needs
 
 -- src/take.rt:38:27
 dead-requires : tie.Need-dead-requires
-dead-requires c κs = ?
+dead-requires c κs = ((c .before .before .before) .pre .0, rw (c .before .e6 .given .1) at ((c .before .before .before) .pre .1))
 
 -- src/take.rt:39:26
 enum-told : tie.Need-enum-told
@@ -79,39 +84,39 @@ judged-requires c κs = search needs
 
 -- src/take.rt:41:14
 act-requires : tie.Need-act-requires
-act-requires c κs = ?
+act-requires c κs = ((c .before) .pre .0, (c .before) .pre .1, acts ((c .before) .args .e) (c .match .keys9))
 
 -- src/take.rt:28:1
 returns : tie.Need-returns
-returns c = ?
+returns c = rw (c .before .before .e .given .1) (c .sit .ensures)
 
 -- src/take.rt:28:1
 returns-2 : tie.Need-returns-2
-returns-2 c = ?
+returns-2 c = rw (c .before .before .e2 .given .1) (c .leave .ensures)
 
 -- src/take.rt:28:1
 returns-3 : tie.Need-returns-3
-returns-3 c = ?
+returns-3 c = rw (c .before .before .e3 .given .1) (c .hand .ensures)
 
 -- src/take.rt:28:1
 returns-4 : tie.Need-returns-4
-returns-4 c = ?
+returns-4 c = rw (c .before .before .e4 .given .1) (c .hole .ensures)
 
 -- src/take.rt:28:1
 returns-5 : tie.Need-returns-5
-returns-5 c = ?
+returns-5 c = rw (c .before .before .e5 .given .1) (c .board .ensures)
 
 -- src/take.rt:28:1
 returns-6 : tie.Need-returns-6
-returns-6 c = ?
+returns-6 c = rw (c .before .before .e6 .given .1) (c .dead .ensures)
 
 -- src/take.rt:28:1
 returns-7 : tie.Need-returns-7
-returns-7 c = ?
+returns-7 c = rw (c .before .enum-told .given .1) (c .settle-hand .ensures)
 
 -- src/take.rt:28:1
 returns-8 : tie.Need-returns-8
-returns-8 c = ?
+returns-8 c = rw (c .before .enum-told2 .given .1) (refused-by ((c .before .before .before) .args .t) Void _ 4 refl (λ (z : 4 ≡ 0). omega arith) (c .judged .ensures))
 
 -- src/take.rt:28:1
 returns-9 : tie.Need-returns-9
