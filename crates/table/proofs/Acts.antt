@@ -1,10 +1,11 @@
 -- The two arms with a sweep. An act: fold, check, call and wager are one, with a sweep up to 0 where it is no wager, and what is refused is put down as it
 -- was. A board card: with the sweep of a new round where one opens. Assumes nothing.
+-- the first owing seat, as it is found: none where fewer than two hands are live
 use Prim.Native.Nat.{ℕ, _+_, _-_, _≤_, _<_}
 use mathlib.Core.Bool.{Bool, true, false, true≢false, false≢true}
 use mathlib.Core.Path.{_≡_, refl, sym, ap, _∙_}
 use mathlib.Core.List.{List, [], _∷_, map}
-use mathlib.Core.Logic.{_⊎_, inl, inr}
+use mathlib.Core.Logic.{inl, inr}
 use native.Mathlib.Omega.{arith}
 use native.Mathlib.Numerals.{add-one}
 use lib.ListN.{length, getD, set}
@@ -17,7 +18,6 @@ use Rattle.laws.proofs.Tests.{both-true}
 use Rattle.paper.proofs.Entry.{the-type}
 use Rattle.paper.specs.Paper.{between, isSeat, inKind}
 use Rattle.paper.specs.SheetAndEntries.{numbersOf}
-use Rattle.paper.specs.declared.Sheet.{Sheet}
 use Rattle.paper.specs.declared.Numbers.{Numbers}
 use Rattle.paper.specs.declared.Entry.{Entry}
 use Rattle.paper.specs.declared.Entry.the-variants.{Sit, Leave, Hand, Hole, Fold, Check, Call, Wager, Board, Dead, Settle, Void}
@@ -39,7 +39,6 @@ use Rattle.table.specs.declared.table.Taken.{Taken}
 use Rattle.table.proofs.Laws.{owing-few, owing-many}
 use Rattle.table.proofs.Arms.{set-place, put-same, plain-taken}
 
--- the first owing seat, as it is found: none where fewer than two hands are live
 pub owing-is : (u : Table) (s : ℕ)
     → pick (leb 2 (liveHands u)) (firstOf (wantOf (Owing (u .play .mark) (onlyWithChips u))) (u .chairs) (clockwise (u .sheet .seats) s)) 0 ≡ firstOwing u s
 owing-is u s = go (leb 2 (liveHands u)) refl

@@ -1,62 +1,45 @@
+-- `act_chair` meets its contract.
 use Rattle.table.proofs.Acts.{no-act, no-acted}
 use borrow.Author.Needs.{needs}
 use Rattle.table.proofs.betting.act_chair.Statement.{statement}
 use Rattle.table.proofs.betting.act_chair.Tie as tie
-use Rattle.table.proofs.betting.act_chair.Reads as reads
-use Rattle.table.proofs.betting.act_chair.Lts as lts
-use Rattle.chairs.proofs.acting.Reads as acting-reads
-use Rattle.chairs.proofs.folded.Reads as folded-reads
-use Rattle.table.proofs.betting.paying.Reads as paying-reads
 
--- src/betting.rt:125:21
 enum-known-e : tie.Need-enum-known-e
 enum-known-e c = search needs
 
--- src/betting.rt:125:27
 folded-requires : tie.Need-folded-requires
 folded-requires c κs = search needs
 
--- src/betting.rt:126:22
 enum-known-e-2 : tie.Need-enum-known-e-2
 enum-known-e-2 c = search needs
 
--- src/betting.rt:126:28
 acting-requires : tie.Need-acting-requires
 acting-requires c κs = search needs
 
--- src/betting.rt:127:21
 enum-known-e-3 : tie.Need-enum-known-e-3
 enum-known-e-3 c = search needs
 
--- src/betting.rt:127:27
 paying-requires : tie.Need-paying-requires
 paying-requires c κs = search needs
 
--- src/betting.rt:128:22
 enum-known-e-4 : tie.Need-enum-known-e-4
 enum-known-e-4 c = search needs
 
--- src/betting.rt:128:31
 paying-requires-2 : tie.Need-paying-requires-2
 paying-requires-2 c κs = search needs
 
--- src/betting.rt:120:1
 returns : tie.Need-returns
 returns c = rw (c .before .before .e .given .1) (c .folded .ensures)
 
--- src/betting.rt:120:1
 returns-2 : tie.Need-returns-2
 returns-2 c = rw (c .before .before .e2 .given .1) (c .acting .ensures)
 
--- src/betting.rt:120:1
 returns-3 : tie.Need-returns-3
 returns-3 c = rw (c .before .before .e3 .given .1) (c .paying .ensures)
 
--- src/betting.rt:120:1
 returns-4 : tie.Need-returns-4
 returns-4 c = rw (c .before .before .e4 .given .1) (c .paying2 .ensures)
 
--- src/betting.rt:120:1
 returns-5 : tie.Need-returns-5
 returns-5 c = no-acted ((c .before) .args .t) ((c .before) .args .c) ((c .before) .args .e) (no-act ((c .before) .args .e) (c .match .keys5))
 

@@ -1,3 +1,4 @@
+-- `dead` meets its contract.
 use Rattle.table.proofs.Arms.{refused-by, applied-by}
 use Rattle.table.proofs.Standing.{seat-within}
 use Rattle.paper.specs.declared.Entry.the-variants.{Dead}
@@ -5,33 +6,22 @@ use mathlib.Core.Path.{_∙_}
 use borrow.Author.Needs.{needs}
 use Rattle.table.proofs.betting.dead.Statement.{statement}
 use Rattle.table.proofs.betting.dead.Tie as tie
-use Rattle.table.proofs.betting.dead.Reads as reads
-use Rattle.table.proofs.betting.dead.Lts as lts
-use Rattle.table.proofs.betting.dead_code.Reads as dead-code-reads
-use Rattle.table.proofs.betting.killed.Reads as killed-reads
-use Rattle.table.proofs.settle.judged.Reads as judged-reads
 
--- src/betting.rt:187:9
 dead-code-requires : tie.Need-dead-code-requires
 dead-code-requires c κs = search needs
 
--- src/betting.rt:189:9
 judged-requires : tie.Need-judged-requires
 judged-requires c κs = search needs
 
--- src/betting.rt:189:9
 returns : tie.Need-returns
 returns c = refused-by ((c .before .before .before) .args .t) (Dead ((c .before .before .before) .args .s)) _ _ (c .before .before .dead-code .ensures) (c .before .if1 .taken) (c .judged .ensures)
 
--- src/betting.rt:191:20
 killed-requires : tie.Need-killed-requires
 killed-requires c κs = ((c .before .before) .pre .0 .standing .seated, seat-within ((c .before .before) .args .t .sheet) ((c .before .before) .args .s) ((c .before .before) .pre .1))
 
--- src/betting.rt:191:5
 judged-requires-2 : tie.Need-judged-requires-2
 judged-requires-2 c κs = search needs
 
--- src/betting.rt:183:1
 returns-2 : tie.Need-returns-2
 returns-2 c = applied-by ((c .before .before .before .before) .args .t) (Dead ((c .before .before .before .before) .args .s)) _ _ (c .before .before .before .dead-code .ensures) (c .before .before .if1 .left) (c .judged2 .ensures .0) (c .judged2 .ensures .1 ∙ c .before .killed .ensures) (c .judged2 .ensures .2)
 

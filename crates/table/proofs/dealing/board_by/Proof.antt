@@ -1,19 +1,14 @@
+-- `board_by` meets its contract.
 use borrow.Author.Needs.{needs}
 use Rattle.table.proofs.dealing.board_by.Statement.{statement}
 use Rattle.table.proofs.dealing.board_by.Tie as tie
-use Rattle.table.proofs.dealing.board_by.Reads as reads
-use Rattle.table.proofs.dealing.board_by.Lts as lts
-use Rattle.table.proofs.table.card_added.Reads as card-added-reads
 
--- src/dealing.rt:83:13
 card-added-requires : tie.Need-card-added-requires
 card-added-requires c κs = ((c .before) .pre .0 (c .if1 .taken), (c .before) .pre .1)
 
--- src/dealing.rt:79:1
 returns : tie.Need-returns
 returns c = rw (c .before .if1 .taken) (c .card-added .ensures)
 
--- src/dealing.rt:79:1
 returns-2 : tie.Need-returns-2
 returns-2 c = search needs
 

@@ -1,3 +1,4 @@
+-- `hole` meets its contract.
 use Rattle.table.proofs.Arms.{seat-place, seat-read, put-taken}
 use Rattle.table.proofs.Sounds.{hole-cards}
 use Rattle.table.specs.Dealing.{heldTo}
@@ -11,59 +12,40 @@ use mathlib.Core.Path.{refl}
 use borrow.Author.Needs.{needs}
 use Rattle.table.proofs.dealing.hole.Statement.{statement}
 use Rattle.table.proofs.dealing.hole.Tie as tie
-use Rattle.table.proofs.dealing.hole.Reads as reads
-use Rattle.table.proofs.dealing.hole.Lts as lts
-use Rattle.chairs.proofs.held.Reads as held-reads
-use Rattle.table.proofs.dealing.hole_code.Reads as hole-code-reads
-use Rattle.table.proofs.settle.judged.Reads as judged-reads
-use Rattle.table.proofs.table.chair_by.Reads as chair-by-reads
-use Rattle.table.proofs.table.place.Reads as place-reads
-use Rattle.table.proofs.table.with_chairs.Reads as with-chairs-reads
 
--- src/dealing.rt:54:9
 place-requires : tie.Need-place-requires
 place-requires c κs = let t = (c .before) .args .t in
     let s = (c .before) .args .s in
     let deck = t .sheet .deck in
     seat-place t s ((c .before) .pre .0) (both-true (isSeat (t .sheet) s) (both (isCard deck ((c .before) .args .a)) (isCard deck ((c .before) .args .b))) ((c .before) .pre .1) .0)
 
--- src/dealing.rt:55:13
 mul-c : tie.Need-mul-c
 mul-c c = search needs
 
--- src/dealing.rt:55:13
 array-copy-out-c : tie.Need-array-copy-out-c
 array-copy-out-c c = search needs
 
--- src/dealing.rt:56:9
 hole-code-requires : tie.Need-hole-code-requires
 hole-code-requires c κs = ((c .before .before .before) .pre .0 .standing, seat-read ((c .before .before .before) .args .t) (c .before .place .result) ((c .before .before .before) .args .s) ((c .before .before .before) .pre .0) (c .before .place .ensures .0) (c .before .place .ensures .1))
 
--- src/dealing.rt:57:41
 held-requires : tie.Need-held-requires
 held-requires c κs = hole-cards ((c .before .before .before .before) .args .t .sheet) ((c .before .before .before .before) .args .s) ((c .before .before .before .before) .args .a) ((c .before .before .before .before) .args .b) ((c .before .before .before .before) .pre .1)
 
--- src/dealing.rt:57:9
 chair-by-requires : tie.Need-chair-by-requires
 chair-by-requires c κs = search needs
 
--- src/dealing.rt:58:5
 mul-cs : tie.Need-mul-cs
 mul-cs c = search needs
 
--- src/dealing.rt:58:5
 array-set-from-cs : tie.Need-array-set-from-cs
 array-set-from-cs c = search needs
 
--- src/dealing.rt:59:20
 with-chairs-requires : tie.Need-with-chairs-requires
 with-chairs-requires c κs = search needs
 
--- src/dealing.rt:59:5
 judged-requires : tie.Need-judged-requires
 judged-requires c κs = search needs
 
--- src/dealing.rt:49:1
 returns : tie.Need-returns
 unfolding heldTo
 returns c = let t = (c .before .before .before .before .before .before .before .before) .args .t in

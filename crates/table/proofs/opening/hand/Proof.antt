@@ -1,3 +1,4 @@
+-- `hand` meets its contract.
 use Rattle.table.proofs.Arms.{refused-by, applied-by}
 use Rattle.table.proofs.Standing.{seat-within}
 use Rattle.paper.specs.declared.Entry.the-variants.{Hand}
@@ -5,33 +6,22 @@ use mathlib.Core.Path.{_∙_}
 use borrow.Author.Needs.{needs}
 use Rattle.table.proofs.opening.hand.Statement.{statement}
 use Rattle.table.proofs.opening.hand.Tie as tie
-use Rattle.table.proofs.opening.hand.Reads as reads
-use Rattle.table.proofs.opening.hand.Lts as lts
-use Rattle.table.proofs.opening.hand_code.Reads as hand-code-reads
-use Rattle.table.proofs.opening.opened.Reads as opened-reads
-use Rattle.table.proofs.settle.judged.Reads as judged-reads
 
--- src/opening.rt:81:9
 hand-code-requires : tie.Need-hand-code-requires
 hand-code-requires c κs = search needs
 
--- src/opening.rt:83:9
 judged-requires : tie.Need-judged-requires
 judged-requires c κs = search needs
 
--- src/opening.rt:83:9
 returns : tie.Need-returns
 returns c = refused-by ((c .before .before .before) .args .t) (Hand ((c .before .before .before) .args .s)) _ _ (c .before .before .hand-code .ensures) (c .before .if1 .taken) (c .judged .ensures)
 
--- src/opening.rt:85:20
 opened-requires : tie.Need-opened-requires
 opened-requires c κs = ((c .before .before) .pre .0 .payable .chips, (c .before .before) .pre .0 .standing .seated, seat-within ((c .before .before) .args .t .sheet) ((c .before .before) .args .s) ((c .before .before) .pre .1))
 
--- src/opening.rt:85:5
 judged-requires-2 : tie.Need-judged-requires-2
 judged-requires-2 c κs = search needs
 
--- src/opening.rt:77:1
 returns-2 : tie.Need-returns-2
 returns-2 c = applied-by ((c .before .before .before .before) .args .t) (Hand ((c .before .before .before .before) .args .s)) _ _ (c .before .before .before .hand-code .ensures) (c .before .before .if1 .left) (c .judged2 .ensures .0) (c .judged2 .ensures .1 ∙ c .before .opened .ensures) (c .judged2 .ensures .2)
 

@@ -1,37 +1,26 @@
+-- `settle_hand` meets its contract.
 use Rattle.table.proofs.Arms.{refused-by, applied-by}
 use Rattle.paper.specs.declared.Entry.the-variants.{Settle}
 use mathlib.Core.Path.{refl}
 use borrow.Author.Needs.{needs}
 use Rattle.table.proofs.settle.settle_hand.Statement.{statement}
 use Rattle.table.proofs.settle.settle_hand.Tie as tie
-use Rattle.table.proofs.settle.settle_hand.Reads as reads
-use Rattle.table.proofs.settle.settle_hand.Lts as lts
-use Rattle.table.proofs.settle.judged.Reads as judged-reads
-use Rattle.table.proofs.settle.payout.Reads as payout-reads
-use Rattle.table.proofs.settle.settle_code.Reads as settle-code-reads
-use Rattle.table.proofs.settle.shut.Reads as shut-reads
 
--- src/settle.rt:220:9
 settle-code-requires : tie.Need-settle-code-requires
 settle-code-requires c κs = search needs
 
--- src/settle.rt:222:9
 judged-requires : tie.Need-judged-requires
 judged-requires c κs = search needs
 
--- src/settle.rt:222:9
 returns : tie.Need-returns
 returns c = refused-by ((c .before .before .before) .args .t) Settle _ _ (c .before .before .settle-code .ensures) (c .before .if1 .taken) (c .judged .ensures)
 
--- src/settle.rt:224:9
 payout-requires : tie.Need-payout-requires
 payout-requires c κs = search needs
 
--- src/settle.rt:225:9
 shut-requires : tie.Need-shut-requires
 shut-requires c κs = search needs
 
--- src/settle.rt:216:1
 returns-2 : tie.Need-returns-2
 returns-2 c = applied-by ((c .before .before .before .before) .args .t) Settle _ _ (c .before .before .before .settle-code .ensures) (c .before .before .if1 .left) refl (c .shut .ensures) (c .before .payout .ensures)
 

@@ -1,3 +1,4 @@
+-- `leave` meets its contract.
 use Rattle.table.proofs.Arms.{seat-place, seat-read, put-taken}
 use Rattle.table.specs.Sittings.{leaveCode, leftTo}
 use Rattle.chairs.specs.declared.Chair.{Chair}
@@ -10,56 +11,37 @@ use mathlib.Core.Path.{refl, ap, _∙_}
 use borrow.Author.Needs.{needs}
 use Rattle.table.proofs.sittings.leave.Statement.{statement}
 use Rattle.table.proofs.sittings.leave.Tie as tie
-use Rattle.table.proofs.sittings.leave.Reads as reads
-use Rattle.table.proofs.sittings.leave.Lts as lts
-use Rattle.chairs.proofs.seated.Reads as seated-reads
-use Rattle.table.proofs.settle.judged.Reads as judged-reads
-use Rattle.table.proofs.sittings.leave_code.Reads as leave-code-reads
-use Rattle.table.proofs.table.chair_by.Reads as chair-by-reads
-use Rattle.table.proofs.table.place.Reads as place-reads
-use Rattle.table.proofs.table.with_chairs.Reads as with-chairs-reads
 
--- src/sittings.rt:77:9
 place-requires : tie.Need-place-requires
 place-requires c κs = seat-place ((c .before) .args .t) ((c .before) .args .s) ((c .before) .pre .0) ((c .before) .pre .1)
 
--- src/sittings.rt:78:13
 mul-c : tie.Need-mul-c
 mul-c c = search needs
 
--- src/sittings.rt:78:13
 array-copy-out-c : tie.Need-array-copy-out-c
 array-copy-out-c c = search needs
 
--- src/sittings.rt:79:9
 leave-code-requires : tie.Need-leave-code-requires
 leave-code-requires c κs = search needs
 
--- src/sittings.rt:80:41
 seated-requires : tie.Need-seated-requires
 seated-requires c κs = search needs
 
--- src/sittings.rt:80:9
 chair-by-requires : tie.Need-chair-by-requires
 chair-by-requires c κs = search needs
 
--- src/sittings.rt:81:5
 mul-cs : tie.Need-mul-cs
 mul-cs c = search needs
 
--- src/sittings.rt:81:5
 array-set-from-cs : tie.Need-array-set-from-cs
 array-set-from-cs c = search needs
 
--- src/sittings.rt:82:20
 with-chairs-requires : tie.Need-with-chairs-requires
 with-chairs-requires c κs = search needs
 
--- src/sittings.rt:82:5
 judged-requires : tie.Need-judged-requires
 judged-requires c κs = search needs
 
--- src/sittings.rt:72:1
 returns : tie.Need-returns
 unfolding leaveCode leftTo
 returns c = let t = (c .before .before .before .before .before .before .before .before) .args .t in
