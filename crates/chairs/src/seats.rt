@@ -5,13 +5,16 @@ use crate::Sweep;
 use crate::What;
 use crate::Who;
 ghost use mathlib.Core.Path.{_≡_};
-ghost use Prim.Native.Nat.{ℕ, _+_, _≤_, _<_};
+ghost use Prim.Native.Nat.{ℕ, _+_, _-_, _≤_, _<_};
+ghost use mathlib.Core.Bool.{false};
+ghost use lib.Dec.{leb};
+ghost use Rattle.laws.specs.Tests.{pick};
 ghost use lib.ListN.{getD};
 ghost use mathlib.Core.List.{map};
 ghost use Rattle.pots.specs.Heights.{maskAt};
-ghost use Rattle.chairs.specs.declared.Who.the-variants.{Live, LiveWithChips, Holding};
+ghost use Rattle.chairs.specs.declared.Who.the-variants.{Live, LiveWithChips, Holding, Owing};
 ghost use Rattle.chairs.specs.declared.What.the-variants.{Total, Live as OfLive};
-ghost use Rattle.chairs.specs.Chairs.{wantOf, sweepOf, columnOf, noChair, chairAt, putAt, countOf, chipsOf, firstOf, clockwise, closeAll, Seats};
+ghost use Rattle.chairs.specs.Chairs.{wantOf, sweepOf, columnOf, noChair, chairAt, putAt, countOf, chipsOf, firstOf, seatsFrom, clockwise, closeAll, Seats};
 
 // How many chairs are among those looked for.
 pub fn count(cs: [Chair; 10], seats: u32, w: Who) -> u8
@@ -137,6 +140,60 @@ pub fn first_from(cs: [Chair; 10], seats: u32, w: Who, s: u32) -> u32
         k += 1;
     }
     0
+}
+
+// What the turn is found by: both counts of live hands; the first seat that owes where more than one of these has chips, of all and of those after a seat; 0 for none.
+struct Sought {
+    hands: u32,
+    stacks: u32,
+    first: u32,
+    over: u32,
+}
+
+// All four in one pass, from the last seat to the first.
+fn seek(cs: [Chair; 10], seats: u32, s: u32) -> Sought
+    requires { ⌜ Seats seats cs × (s ≤ seats) ⌝ }
+    ensures { λ r. ⌜ (r .hands ≡ countOf (wantOf Live) cs) × (r .stacks ≡ countOf (wantOf LiveWithChips) cs) × (r .first ≡ firstOf (wantOf (Owing 0 false)) cs (seatsFrom 0 (seats - 0))) × (r .over ≡ firstOf (wantOf (Owing 0 false)) cs (seatsFrom s (seats - s))) ⌝ }
+{
+    let from = s as usize;
+    let mut hands: u32 = 0;
+    let mut stacks: u32 = 0;
+    let mut first: u32 = 0;
+    let mut over: u32 = 0;
+    let mut i = seats as usize;
+    while 0 < i {
+        i -= 1;
+        let c = cs[i];
+        hands += laws::one(c.dealt.live);
+        stacks += laws::one(crate::live_with_chips(c));
+        first = laws::chosen(crate::owes(c, 0, false), i as u32 + 1, first);
+        over = laws::chosen(i == from, first, over);
+    }
+    Sought {
+        hands,
+        stacks,
+        first,
+        over,
+    }
+}
+
+// The first seat clockwise from s, which comes last, that owes; 0 where there is none, or fewer than two hands are live.
+pub fn turn_from(cs: [Chair; 10], seats: u32, mark: u32, s: u32) -> u32
+    requires { ⌜ Seats seats cs × (s ≤ seats) ⌝ }
+    ensures { λ r. ⌜ r ≡ pick (leb 2 (countOf (wantOf Live) cs)) (firstOf (wantOf (Owing mark (leb (countOf (wantOf LiveWithChips) cs) 1))) cs (clockwise seats s)) 0 ⌝ }
+{
+    let k = seek(cs, seats, s);
+    if k.hands < 2 {
+        return 0;
+    }
+    if k.stacks <= 1 {
+        let w = Who::Owing {
+            mark: mark,
+            alone: true,
+        };
+        return first_from(cs, seats, w, s);
+    }
+    laws::chosen(k.over == 0, k.first, k.over)
 }
 
 // All chips: the stacks and what lies in the open hand.
