@@ -8,5 +8,6 @@ pub mod Closing
 pub mod InTurn
 pub mod Standing
 pub mod Reached
+pub mod Blinds
 pub mod Chips
 pub mod Refusals
