@@ -31,10 +31,7 @@ pub fn shows(cs: [Chair; 10], seats: u32, game: u32) -> ShowCount
         less += laws::one(crate::bare(c, game));
         i += 1;
     }
-    ShowCount {
-        hands,
-        bare: less,
-    }
+    ShowCount { hands, bare: less }
 }
 
 // How many hands are live, and for how many hands a card was entered.

@@ -2,11 +2,10 @@
 use mathlib.Core.Path.{refl, sym, ap, _∙_, _≡_}
 use mathlib.Core.Bool.{false}
 use lib.ListN.{length, drop, getD}
-use lib.Dec.{eqb}
 use borrow.Author.Needs.{needs}
-use Prim.Native.Nat.{suc, _≤_, _<_, _+_, _-_}
+use Prim.Native.Nat.{_≤_, _+_, _-_}
 use native.Mathlib.Omega.{arith}
-use Rattle.laws.specs.Tests.{one, pick}
+use Rattle.laws.specs.Tests.{one}
 use Rattle.laws.proofs.Often.{one-small}
 use Rattle.chairs.specs.Chairs.{noChair, wantOf, countOf}
 use Rattle.chairs.specs.declared.Who.the-variants.{Live, LiveWithChips, Owing}
