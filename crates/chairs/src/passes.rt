@@ -59,7 +59,7 @@ pub fn board_look(cs: [Chair; 10], seats: u32, card: u32) -> CardCount
 }
 
 // Of each sitting dealt in what it has put in and its number; and as masks which hands are live and which sittings are still there.
-pub struct Dues {
+pub struct HandRows {
     pub totals: [u32; 10],
     pub sittings: [u32; 10],
     pub live: u16,
@@ -67,7 +67,7 @@ pub struct Dues {
 }
 
 // What a payout goes by.
-pub fn rows(cs: [Chair; 10], seats: u32) -> Dues
+pub fn rows(cs: [Chair; 10], seats: u32) -> HandRows
     requires { ⌜ Seats seats cs ⌝ }
     ensures { λ r. ⌜ (r .totals ≡ map (columnOf Total) cs) × (r .sittings ≡ map (columnOf Sitting) cs) × (r .live ≡ maskAt (map (columnOf OfLive) cs) 1) × (r .here ≡ maskAt (map (columnOf Here) cs) 1) ⌝ }
 {
@@ -84,7 +84,7 @@ pub fn rows(cs: [Chair; 10], seats: u32) -> Dues
         live = crate::bit(c.dealt.live) + 2 * live;
         stay = crate::bit(crate::here(c)) + 2 * stay;
     }
-    Dues {
+    HandRows {
         totals,
         sittings,
         live,
