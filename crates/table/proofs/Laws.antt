@@ -38,11 +38,6 @@ use Rattle.table.specs.Dealing.{inThisHand, boardCode}
 use Rattle.table.specs.declared.table.Table.{Table}
 use Rattle.chairs.specs.declared.What.the-variants as what
 
--- the same asked twice
-pub either-same : (r b : Bool) → r ≡ either b b → r ≡ b
-either-same r true e = e
-either-same r false e = e
-
 first-false : (cs : List Chair) (ss : List ℕ) → firstOf (λ c. false) cs ss ≡ 0
 first-false cs [] = refl
 first-false cs (s ∷ ss) = first-false cs ss

@@ -8,6 +8,7 @@ pub mod Closing
 pub mod InTurn
 pub mod Standing
 pub mod Reached
+pub mod Blinds
 pub mod Chips
 pub mod Refusals
 pub mod Arms

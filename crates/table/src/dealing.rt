@@ -66,9 +66,12 @@ fn board_code(t: Table, k: u32) -> u8
 {
     let off = !t.play.opened;
     let owed = !betting::nobody_owes(t);
-    let few = betting::lives(t) < 2;
-    let full = 5 <= t.board.count;
-    let old = used(t, k, k);
+    let cs = t.chairs;
+    let bd = t.board;
+    let n = chairs::passes::board_look(cs, t.sheet.seats, k);
+    let few = n.hands < 2;
+    let full = 5 <= bd.count;
+    let old = either(lies(bd, k), n.holders != 0);
     or_else(
         when(either(off, either(owed, either(few, full))), WRONG_MOMENT),
         when(old, CARD_TWICE),

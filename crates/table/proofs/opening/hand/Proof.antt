@@ -1,8 +1,7 @@
 -- `hand` meets its contract.
 use Rattle.table.proofs.Arms.{refused-by, applied-by}
-use Rattle.table.proofs.Standing.{seat-within}
 use Rattle.paper.specs.declared.Entry.the-variants.{Hand}
-use mathlib.Core.Path.{_∙_}
+use mathlib.Core.Path.{sym, _∙_}
 use borrow.Author.Needs.{needs}
 use Rattle.table.proofs.opening.hand.Statement.{statement}
 use Rattle.table.proofs.opening.hand.Tie as tie
@@ -17,7 +16,7 @@ returns : tie.Need-returns
 returns c = refused-by ((c .before .before .before) .args .t) (Hand ((c .before .before .before) .args .s)) _ _ (c .before .before .hand-code .ensures) (c .before .if1 .taken) (c .judged .ensures)
 
 opened-requires : tie.Need-opened-requires
-opened-requires c κs = ((c .before .before) .pre .0 .payable .chips, (c .before .before) .pre .0 .standing .seated, seat-within ((c .before .before) .args .t .sheet) ((c .before .before) .args .s) ((c .before .before) .pre .1))
+opened-requires c κs = ((c .before .before) .pre .0 .payable .chips, (c .before .before) .pre .0 .standing, (c .before .before) .pre .1, sym (c .before .hand-code .ensures) ∙ c .if1 .left)
 
 judged-requires-2 : tie.Need-judged-requires-2
 judged-requires-2 c κs = search needs
