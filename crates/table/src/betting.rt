@@ -241,7 +241,7 @@ pub(crate) fn act(t: Table, e: Entry) -> Taken
     let c = cs[i];
     let k = act_code(t, c, e);
     let ok = k == TAKEN;
-    let d = table::chair_by(ok, act_chair(t, c, e), c);
+    let d = act_by(ok, t, c, e);
     let wager = laws::both(ok, x.kind == 7);
     let full = is_full_lift(t, x.a);
     let last = laws::chosen(wager, t.sheet.seats, 0) as usize;
@@ -262,4 +262,9 @@ pub(crate) fn act(t: Table, e: Entry) -> Taken
     u.play.lift = lift;
     u.play.turn = next;
     settle::judged(u, k)
+}
+
+fn act_by(ok: bool, t: Table, c: Chair, e: Entry) -> Chair
+{
+    if ok { act_chair(t, c, e) } else { c }
 }

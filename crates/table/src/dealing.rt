@@ -54,7 +54,7 @@ pub(crate) fn hole(t: Table, s: u32, a: u32, b: u32) -> Taken
     let i = table::place(s);
     let c = cs[i];
     let k = hole_code(t, c, s, a, b);
-    let d = table::chair_by(k == TAKEN, chairs::held(c, a, b), c);
+    let d = held_by(k == TAKEN, c, a, b);
     cs[i] = d;
     settle::judged(table::with_chairs(t, cs), k)
 }
@@ -136,4 +136,9 @@ fn used(t: Table, a: u32, b: u32) -> bool
     let first = either(lies(bd, a), k.first != 0);
     let second = either(lies(bd, b), k.second != 0);
     either(first, second)
+}
+
+fn held_by(ok: bool, c: chairs::Chair, a: u32, b: u32) -> chairs::Chair
+{
+    if ok { chairs::held(c, a, b) } else { c }
 }

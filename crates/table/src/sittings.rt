@@ -55,7 +55,7 @@ pub(crate) fn sit(t: Table, s: u32, a: u32) -> Taken
     let k = sit_code(t, c, s, a);
     let ok = k == TAKEN;
     let n = laws::chosen(ok, t.sittings + 1, t.sittings);
-    let d = table::chair_by(ok, chairs::seated(c, n, a), c);
+    let d = seated_by(ok, c, n, a);
     cs[i] = d;
     settle::judged(table::with_sitting(table::with_chairs(t, cs), n), k)
 }
@@ -77,7 +77,12 @@ pub(crate) fn leave(t: Table, s: u32) -> Taken
     let i = table::place(s);
     let c = cs[i];
     let k = leave_code(c);
-    let d = table::chair_by(k == TAKEN, chairs::seated(c, 0, 0), c);
+    let d = seated_by(k == TAKEN, c, 0, 0);
     cs[i] = d;
     settle::judged(table::with_chairs(t, cs), k)
+}
+
+fn seated_by(ok: bool, c: chairs::Chair, n: u32, a: u32) -> chairs::Chair
+{
+    if ok { chairs::seated(c, n, a) } else { c }
 }
