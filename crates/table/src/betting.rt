@@ -264,7 +264,10 @@ pub(crate) fn act(t: Table, e: Entry) -> Taken
     settle::judged(u, k)
 }
 
+// The chair after an act, or as it was where the act is refused.
 fn act_by(ok: bool, t: Table, c: Chair, e: Entry) -> Chair
+    requires { ⌜ c .stack + c .dealt .total ≤ 100000000 ⌝ }
+    ensures { λ r. ⌜ r ≡ pick ok (actedBy t c e) c ⌝ }
 {
     if ok { act_chair(t, c, e) } else { c }
 }

@@ -17,7 +17,7 @@ ghost use mathlib.Core.Path.{_≡_};
 ghost use mathlib.Core.Bool.{true};
 ghost use Prim.Native.Nat.{_≤_, _<_};
 ghost use lib.ListN.{take};
-ghost use Rattle.chairs.specs.Chairs.{hasCard};
+ghost use Rattle.chairs.specs.Chairs.{hasCard, heldOf};
 ghost use Rattle.laws.specs.Tests.{either as eitherOf, pick};
 ghost use Rattle.paper.specs.Paper.{inKind};
 ghost use Rattle.paper.specs.declared.Entry.the-variants.{Hole, Board as OnBoard};
@@ -138,7 +138,10 @@ fn used(t: Table, a: u32, b: u32) -> bool
     either(first, second)
 }
 
+// The chair with two hole cards more, or as it was.
 fn held_by(ok: bool, c: chairs::Chair, a: u32, b: u32) -> chairs::Chair
+    requires { ⌜ (a ≤ 51) × (b ≤ 51) ⌝ }
+    ensures { λ r. ⌜ r ≡ pick ok (heldOf c a b) c ⌝ }
 {
     if ok { chairs::held(c, a, b) } else { c }
 }

@@ -14,7 +14,8 @@ ghost use mathlib.Core.Path.{_≡_};
 ghost use mathlib.Core.Bool.{true};
 ghost use Prim.Native.Nat.{_+_};
 ghost use lib.Dec.{eqb, ltb};
-ghost use Rattle.laws.specs.Tests.{either as eitherOf};
+ghost use Rattle.chairs.specs.Chairs.{seatedOf};
+ghost use Rattle.laws.specs.Tests.{either as eitherOf, pick};
 ghost use Rattle.paper.specs.Paper.{when as whenOf, wrongSeat, inKind};
 ghost use Rattle.paper.specs.declared.Entry.the-variants.{Sit, Leave};
 ghost use Rattle.table.specs.State.{seatOf};
@@ -82,7 +83,9 @@ pub(crate) fn leave(t: Table, s: u32) -> Taken
     settle::judged(table::with_chairs(t, cs), k)
 }
 
+// The chair with another sitting, or as it was.
 fn seated_by(ok: bool, c: chairs::Chair, n: u32, a: u32) -> chairs::Chair
+    ensures { λ r. ⌜ r ≡ pick ok (seatedOf c n a) c ⌝ }
 {
     if ok { chairs::seated(c, n, a) } else { c }
 }

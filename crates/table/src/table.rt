@@ -127,10 +127,3 @@ pub(crate) fn place(s: u32) -> usize
 {
     (s - 1) as usize
 }
-
-// One of two chairs, by a test.
-pub(crate) fn chair_by(ok: bool, c: Chair, d: Chair) -> Chair
-    ensures { λ r. ⌜ r ≡ pick ok c d ⌝ }
-{
-    if ok { c } else { d }
-}

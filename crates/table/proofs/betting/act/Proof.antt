@@ -39,14 +39,11 @@ act-code-requires c κs = let t = (c .before .before .before .before) .args .t i
     let x = c .before .before .before .numbers-of in
     ((c .before .before .before .before) .pre .0 .standing, (c .before .before .before .before) .pre .2, seat-read t (c .before .place .result) (x .result .seat) ((c .before .before .before .before) .pre .0) (c .before .place .ensures .0) (c .before .place .ensures .1) ∙ ap (λ (n : Numbers). seatOf t (n .seat)) (x .ensures))
 
-act-chair-requires : tie.Need-act-chair-requires Inv-loop μ-loop
-act-chair-requires c κs = let t = (c .before .before .before .before .before) .args .t in
+act-by-requires : tie.Need-act-by-requires Inv-loop μ-loop
+act-by-requires c κs = let t = (c .before .before .before .before .before) .args .t in
     let s = c .before .before .before .before .numbers-of .result .seat in
     let q = seat-read t (c .before .before .place .result) s ((c .before .before .before .before .before) .pre .0) (c .before .before .place .ensures .0) (c .before .before .place .ensures .1) in
     omega (arith, ap (λ (d : Chair). d .stack + d .dealt .total) q, chips-at (t .chairs) s, (c .before .before .before .before .before) .pre .0 .payable .chips)
-
-chair-by-requires : tie.Need-chair-by-requires Inv-loop μ-loop
-chair-by-requires c κs = search needs
 
 both-requires : tie.Need-both-requires Inv-loop μ-loop
 both-requires c κs = search needs
@@ -61,7 +58,7 @@ cast-last : tie.Need-cast-last Inv-loop μ-loop
 cast-last c = search needs
 
 loop-holds : tie.Need-loop-holds Inv-loop μ-loop
-loop-holds c = (omega arith, last-most (c .before .before .both .result) ((c .before .before .before .before .before .before .before .before .before .before .before) .args .t .sheet .seats) _ ((c .before .before .before .before .before .before .before .before .before .before .before) .pre .0 .standing .seated .few) (c .chosen .ensures), refl)
+loop-holds c = (omega arith, last-most (c .before .before .both .result) ((c .before .before .before .before .before .before .before .before .before .before) .args .t .sheet .seats) _ ((c .before .before .before .before .before .before .before .before .before .before) .pre .0 .standing .seated .few) (c .chosen .ensures), refl)
 
 mul-b : tie.Need-mul-b Inv-loop μ-loop
 mul-b c = search needs
@@ -85,8 +82,8 @@ loop-less : tie.Need-loop-less Inv-loop μ-loop
 loop-less c = search needs
 
 loop-again : tie.Need-loop-again Inv-loop μ-loop
-loop-again c = let t = (c .before .before .before .before .before .before .before .before .before .before .before .before .before .before .before) .args .t in
-    (omega arith, c .before .before .before .loop .inv .1, sweep-turn (againOf (c .before .before .before .before .before .is-full-lift .result)) (c .before .before .before .loop .j) (t .chairs) (c .before .before .before .loop .cs) _ (omega (arith, c .before .before .before .loop .inv .1, (c .before .before .before .before .before .before .before .before .before .before .before .before .before .before .before) .pre .0 .standing .size)) (c .before .before .before .loop .inv .2) (c .again .ensures))
+loop-again c = let t = (c .before .before .before .before .before .before .before .before .before .before .before .before .before .before) .args .t in
+    (omega arith, c .before .before .before .loop .inv .1, sweep-turn (againOf (c .before .before .before .before .before .is-full-lift .result)) (c .before .before .before .loop .j) (t .chairs) (c .before .before .before .loop .cs) _ (omega (arith, c .before .before .before .loop .inv .1, (c .before .before .before .before .before .before .before .before .before .before .before .before .before .before) .pre .0 .standing .size)) (c .before .before .before .loop .inv .2) (c .again .ensures))
 
 mul-cs-2 : tie.Need-mul-cs-2 Inv-loop μ-loop
 mul-cs-2 c = search needs
@@ -104,30 +101,30 @@ chosen-requires-3 : tie.Need-chosen-requires-3 Inv-loop μ-loop
 chosen-requires-3 c κs = search needs
 
 next-turn-requires : tie.Need-next-turn-requires Inv-loop μ-loop
-next-turn-requires c κs = let h = (c .before .before .before .before .before .before .before .before .before .before .before .before .before .before .before .before) .pre .0 in
-    let t = (c .before .before .before .before .before .before .before .before .before .before .before .before .before .before .before .before) .args .t in
-    let x = c .before .before .before .before .before .before .before .before .before .before .before .before .before .before .before .numbers-of in
+next-turn-requires c κs = let h = (c .before .before .before .before .before .before .before .before .before .before .before .before .before .before .before) .pre .0 in
+    let t = (c .before .before .before .before .before .before .before .before .before .before .before .before .before .before .before) .args .t in
+    let x = c .before .before .before .before .before .before .before .before .before .before .before .before .before .before .numbers-of in
     let s = x .result .seat in
-    let d = c .before .before .before .before .before .before .before .before .before .chair-by .result in
+    let d = c .before .before .before .before .before .before .before .before .before .act-by .result in
     let k = Again (c .before .before .before .before .before .before .is-full-lift .result) in
     let e : c .before .before .before .before .loop .j ≡ c .before .before .before .before .before .chosen .result = omega (arith, c .before .before .before .before .loop .inv .0) in
-    let put = swept-put k (c .before .before .before .before .before .before .before .both .result) t _ (c .before .before .before .before .loop .j) (c .before .before .before .before .before .before .before .before .before .before .before .before .before .place .result) s d (c .before .before .before .before .loop .cs) h (c .before .before .before .before .before .chosen .ensures) e (c .before .before .before .before .loop .inv .2) (c .before .before .before .before .before .before .before .before .before .before .before .before .before .place .ensures .0) in
-    let within = seat-within (t .sheet) s (act-seat t ((c .before .before .before .before .before .before .before .before .before .before .before .before .before .before .before .before) .args .e) (x .result) (x .ensures) ((c .before .before .before .before .before .before .before .before .before .before .before .before .before .before .before .before) .pre .2) ((c .before .before .before .before .before .before .before .before .before .before .before .before .before .before .before .before) .pre .1)) in
+    let put = swept-put k (c .before .before .before .before .before .before .before .both .result) t _ (c .before .before .before .before .loop .j) (c .before .before .before .before .before .before .before .before .before .before .before .before .place .result) s d (c .before .before .before .before .loop .cs) h (c .before .before .before .before .before .chosen .ensures) e (c .before .before .before .before .loop .inv .2) (c .before .before .before .before .before .before .before .before .before .before .before .before .place .ensures .0) in
+    let within = seat-within (t .sheet) s (act-seat t ((c .before .before .before .before .before .before .before .before .before .before .before .before .before .before .before) .args .e) (x .result) (x .ensures) ((c .before .before .before .before .before .before .before .before .before .before .before .before .before .before .before) .pre .2) ((c .before .before .before .before .before .before .before .before .before .before .before .before .before .before .before) .pre .1)) in
     (rw put (seats-put (t .sheet .seats) _ s d within (seats-by k (c .before .before .before .before .before .before .before .both .result) (t .sheet .seats) (t .chairs) (h .standing .seated))), within)
 
 judged-requires : tie.Need-judged-requires Inv-loop μ-loop
 judged-requires c κs = search needs
 
 returns : tie.Need-returns Inv-loop μ-loop
-returns c = let h = (c .before .before .before .before .before .before .before .before .before .before .before .before .before .before .before .before .before .before .before .before .before) .pre .0 in
-    let t = (c .before .before .before .before .before .before .before .before .before .before .before .before .before .before .before .before .before .before .before .before .before) .args .t in
-    let x = c .before .before .before .before .before .before .before .before .before .before .before .before .before .before .before .before .before .before .before .before .numbers-of in
+returns c = let h = (c .before .before .before .before .before .before .before .before .before .before .before .before .before .before .before .before .before .before .before .before) .pre .0 in
+    let t = (c .before .before .before .before .before .before .before .before .before .before .before .before .before .before .before .before .before .before .before .before) .args .t in
+    let x = c .before .before .before .before .before .before .before .before .before .before .before .before .before .before .before .before .before .before .before .numbers-of in
     let s = x .result .seat in
     let k = Again (c .before .before .before .before .before .before .before .before .before .before .before .is-full-lift .result) in
     let e : c .before .before .before .before .before .before .before .before .before .loop .j ≡ c .before .before .before .before .before .before .before .before .before .before .chosen .result = omega (arith, c .before .before .before .before .before .before .before .before .before .loop .inv .0) in
-    let put = swept-put k (c .before .before .before .before .before .before .before .before .before .before .before .before .both .result) t _ (c .before .before .before .before .before .before .before .before .before .loop .j) (c .before .before .before .before .before .before .before .before .before .before .before .before .before .before .before .before .before .before .place .result) s (c .before .before .before .before .before .before .before .before .before .before .before .before .before .before .chair-by .result) (c .before .before .before .before .before .before .before .before .before .loop .cs) h (c .before .before .before .before .before .before .before .before .before .before .chosen .ensures) e (c .before .before .before .before .before .before .before .before .before .loop .inv .2) (c .before .before .before .before .before .before .before .before .before .before .before .before .before .before .before .before .before .before .place .ensures .0) in
-    let q = seat-read t (c .before .before .before .before .before .before .before .before .before .before .before .before .before .before .before .before .before .before .place .result) s h (c .before .before .before .before .before .before .before .before .before .before .before .before .before .before .before .before .before .before .place .ensures .0) (c .before .before .before .before .before .before .before .before .before .before .before .before .before .before .before .before .before .before .place .ensures .1) in
-    act-taken t ((c .before .before .before .before .before .before .before .before .before .before .before .before .before .before .before .before .before .before .before .before .before) .args .e) (x .result) _ _ _ _ _ _ _ _ _ _ _ _ ((c .before .before .before .before .before .before .before .before .before .before .before .before .before .before .before .before .before .before .before .before .before) .pre .2) (x .ensures) q (c .before .before .before .before .before .before .before .before .before .before .before .before .before .before .before .before .act-code .ensures) (c .before .before .before .before .before .before .before .before .before .before .before .before .before .before .before .act-chair .ensures) (c .before .before .before .before .before .before .before .before .before .before .before .before .before .before .chair-by .ensures) (c .before .before .before .before .before .before .before .before .before .before .before .before .both .ensures) (c .before .before .before .before .before .before .before .before .before .before .before .is-full-lift .ensures) put (c .before .before .before .before .before .before .before .chosen2 .ensures) (c .before .before .before .before .before .before .lift-after .ensures) (c .before .before .before .before .before .chosen3 .ensures) (c .before .before .before .before .next-turn .ensures) (c .judged .ensures)
+    let put = swept-put k (c .before .before .before .before .before .before .before .before .before .before .before .before .both .result) t _ (c .before .before .before .before .before .before .before .before .before .loop .j) (c .before .before .before .before .before .before .before .before .before .before .before .before .before .before .before .before .before .place .result) s (c .before .before .before .before .before .before .before .before .before .before .before .before .before .before .act-by .result) (c .before .before .before .before .before .before .before .before .before .loop .cs) h (c .before .before .before .before .before .before .before .before .before .before .chosen .ensures) e (c .before .before .before .before .before .before .before .before .before .loop .inv .2) (c .before .before .before .before .before .before .before .before .before .before .before .before .before .before .before .before .before .place .ensures .0) in
+    let q = seat-read t (c .before .before .before .before .before .before .before .before .before .before .before .before .before .before .before .before .before .place .result) s h (c .before .before .before .before .before .before .before .before .before .before .before .before .before .before .before .before .before .place .ensures .0) (c .before .before .before .before .before .before .before .before .before .before .before .before .before .before .before .before .before .place .ensures .1) in
+    act-taken t ((c .before .before .before .before .before .before .before .before .before .before .before .before .before .before .before .before .before .before .before .before) .args .e) (x .result) _ _ _ _ _ _ _ _ _ _ _ _ ((c .before .before .before .before .before .before .before .before .before .before .before .before .before .before .before .before .before .before .before .before) .pre .2) (x .ensures) q (c .before .before .before .before .before .before .before .before .before .before .before .before .before .before .before .act-code .ensures) refl (c .before .before .before .before .before .before .before .before .before .before .before .before .before .before .act-by .ensures) (c .before .before .before .before .before .before .before .before .before .before .before .before .both .ensures) (c .before .before .before .before .before .before .before .before .before .before .before .is-full-lift .ensures) put (c .before .before .before .before .before .before .before .chosen2 .ensures) (c .before .before .before .before .before .before .lift-after .ensures) (c .before .before .before .before .before .chosen3 .ensures) (c .before .before .before .before .next-turn .ensures) (c .judged .ensures)
 
 pub act-spec : {M : Type 1} → statement M
 act-spec =
@@ -140,8 +137,7 @@ act-spec =
     mul-c
     array-copy-out-c
     act-code-requires
-    act-chair-requires
-    chair-by-requires
+    act-by-requires
     both-requires
     is-full-lift-requires
     chosen-requires

@@ -28,11 +28,8 @@ array-copy-out-c c = search needs
 hole-code-requires : tie.Need-hole-code-requires
 hole-code-requires c κs = ((c .before .before .before) .pre .0 .standing, seat-read ((c .before .before .before) .args .t) (c .before .place .result) ((c .before .before .before) .args .s) ((c .before .before .before) .pre .0) (c .before .place .ensures .0) (c .before .place .ensures .1))
 
-held-requires : tie.Need-held-requires
-held-requires c κs = hole-cards ((c .before .before .before .before) .args .t .sheet) ((c .before .before .before .before) .args .s) ((c .before .before .before .before) .args .a) ((c .before .before .before .before) .args .b) ((c .before .before .before .before) .pre .1)
-
-chair-by-requires : tie.Need-chair-by-requires
-chair-by-requires c κs = search needs
+held-by-requires : tie.Need-held-by-requires
+held-by-requires c κs = hole-cards ((c .before .before .before .before) .args .t .sheet) ((c .before .before .before .before) .args .s) ((c .before .before .before .before) .args .a) ((c .before .before .before .before) .args .b) ((c .before .before .before .before) .pre .1)
 
 mul-cs : tie.Need-mul-cs
 mul-cs c = search needs
@@ -48,11 +45,11 @@ judged-requires c κs = search needs
 
 returns : tie.Need-returns
 unfolding heldTo
-returns c = let t = (c .before .before .before .before .before .before .before .before) .args .t in
-    let s = (c .before .before .before .before .before .before .before .before) .args .s in
-    let p = c .before .before .before .before .before .before .place in
-    let q = seat-read t (p .result) s ((c .before .before .before .before .before .before .before .before) .pre .0) (p .ensures .0) (p .ensures .1) in
-    put-taken t (Hole s ((c .before .before .before .before .before .before .before .before) .args .a) ((c .before .before .before .before .before .before .before .before) .args .b)) (p .result) s _ (λ (y : Chair). heldOf y ((c .before .before .before .before .before .before .before .before) .args .a) ((c .before .before .before .before .before .before .before .before) .args .b)) _ _ _ _ _ refl refl (p .ensures .0) q (c .before .before .before .before .hole-code .ensures) (c .before .before .before .held .ensures) (c .before .before .chair-by .ensures) (c .before .with-chairs .ensures) (c .judged .ensures)
+returns c = let t = (c .before .before .before .before .before .before .before) .args .t in
+    let s = (c .before .before .before .before .before .before .before) .args .s in
+    let p = c .before .before .before .before .before .place in
+    let q = seat-read t (p .result) s ((c .before .before .before .before .before .before .before) .pre .0) (p .ensures .0) (p .ensures .1) in
+    put-taken t (Hole s ((c .before .before .before .before .before .before .before) .args .a) ((c .before .before .before .before .before .before .before) .args .b)) (p .result) s _ (λ (y : Chair). heldOf y ((c .before .before .before .before .before .before .before) .args .a) ((c .before .before .before .before .before .before .before) .args .b)) _ _ _ _ _ refl refl (p .ensures .0) q (c .before .before .before .hole-code .ensures) refl (c .before .before .held-by .ensures) (c .before .with-chairs .ensures) (c .judged .ensures)
 
 pub hole-spec : {M : Type 1} → statement M
 hole-spec =
@@ -62,8 +59,7 @@ hole-spec =
     mul-c
     array-copy-out-c
     hole-code-requires
-    held-requires
-    chair-by-requires
+    held-by-requires
     mul-cs
     array-set-from-cs
     with-chairs-requires

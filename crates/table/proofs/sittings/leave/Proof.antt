@@ -24,11 +24,8 @@ array-copy-out-c c = search needs
 leave-code-requires : tie.Need-leave-code-requires
 leave-code-requires c κs = search needs
 
-seated-requires : tie.Need-seated-requires
-seated-requires c κs = search needs
-
-chair-by-requires : tie.Need-chair-by-requires
-chair-by-requires c κs = search needs
+seated-by-requires : tie.Need-seated-by-requires
+seated-by-requires c κs = search needs
 
 mul-cs : tie.Need-mul-cs
 mul-cs c = search needs
@@ -44,12 +41,12 @@ judged-requires c κs = search needs
 
 returns : tie.Need-returns
 unfolding leaveCode leftTo
-returns c = let t = (c .before .before .before .before .before .before .before .before) .args .t in
-    let s = (c .before .before .before .before .before .before .before .before) .args .s in
-    let p = c .before .before .before .before .before .before .place in
-    let q = seat-read t (p .result) s ((c .before .before .before .before .before .before .before .before) .pre .0) (p .ensures .0) (p .ensures .1) in
-    let k = c .before .before .before .before .leave-code .ensures ∙ ap (λ (y : Chair). when (either (eqb (y .sitting) 0) (y .dealt .live)) 5) q in
-    put-taken t (Leave s) (p .result) s _ (λ (y : Chair). seatedOf y 0 0) _ _ _ _ _ refl refl (p .ensures .0) q k (c .before .before .before .seated .ensures) (c .before .before .chair-by .ensures) (c .before .with-chairs .ensures) (c .judged .ensures)
+returns c = let t = (c .before .before .before .before .before .before .before) .args .t in
+    let s = (c .before .before .before .before .before .before .before) .args .s in
+    let p = c .before .before .before .before .before .place in
+    let q = seat-read t (p .result) s ((c .before .before .before .before .before .before .before) .pre .0) (p .ensures .0) (p .ensures .1) in
+    let k = c .before .before .before .leave-code .ensures ∙ ap (λ (y : Chair). when (either (eqb (y .sitting) 0) (y .dealt .live)) 5) q in
+    put-taken t (Leave s) (p .result) s _ (λ (y : Chair). seatedOf y 0 0) _ _ _ _ _ refl refl (p .ensures .0) q k refl (c .before .before .seated-by .ensures) (c .before .with-chairs .ensures) (c .judged .ensures)
 
 pub leave-spec : {M : Type 1} → statement M
 leave-spec =
@@ -59,8 +56,7 @@ leave-spec =
     mul-c
     array-copy-out-c
     leave-code-requires
-    seated-requires
-    chair-by-requires
+    seated-by-requires
     mul-cs
     array-set-from-cs
     with-chairs-requires

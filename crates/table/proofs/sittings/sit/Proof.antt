@@ -2,6 +2,7 @@
 use Rattle.table.proofs.Arms.{seat-place, seat-read, sit-taken}
 use Rattle.paper.specs.Paper.{isSeat, between}
 use Rattle.laws.proofs.Tests.{both-true}
+use mathlib.Core.Path.{refl}
 use borrow.Author.Needs.{needs}
 use Rattle.table.proofs.sittings.sit.Statement.{statement}
 use Rattle.table.proofs.sittings.sit.Tie as tie
@@ -26,11 +27,8 @@ add-chosen c = search needs
 chosen-requires : tie.Need-chosen-requires
 chosen-requires c κs = search needs
 
-seated-requires : tie.Need-seated-requires
-seated-requires c κs = search needs
-
-chair-by-requires : tie.Need-chair-by-requires
-chair-by-requires c κs = search needs
+seated-by-requires : tie.Need-seated-by-requires
+seated-by-requires c κs = search needs
 
 mul-cs : tie.Need-mul-cs
 mul-cs c = search needs
@@ -48,11 +46,11 @@ judged-requires : tie.Need-judged-requires
 judged-requires c κs = search needs
 
 returns : tie.Need-returns
-returns c = let t = (c .before .before .before .before .before .before .before .before .before .before .before) .args .t in
-    let s = (c .before .before .before .before .before .before .before .before .before .before .before) .args .s in
-    let p = c .before .before .before .before .before .before .before .before .before .place in
-    let q = seat-read t (p .result) s ((c .before .before .before .before .before .before .before .before .before .before .before) .pre .0) (p .ensures .0) (p .ensures .1) in
-    sit-taken t (p .result) s ((c .before .before .before .before .before .before .before .before .before .before .before) .args .a) _ _ _ _ _ _ _ _ (p .ensures .0) q (c .before .before .before .before .before .before .before .sit-code .ensures) (c .before .before .before .before .before .chosen .ensures) (c .before .before .before .before .seated .ensures) (c .before .before .before .chair-by .ensures) (c .before .before .with-chairs .ensures) (c .before .with-sitting .ensures) (c .judged .ensures)
+returns c = let t = (c .before .before .before .before .before .before .before .before .before .before) .args .t in
+    let s = (c .before .before .before .before .before .before .before .before .before .before) .args .s in
+    let p = c .before .before .before .before .before .before .before .before .place in
+    let q = seat-read t (p .result) s ((c .before .before .before .before .before .before .before .before .before .before) .pre .0) (p .ensures .0) (p .ensures .1) in
+    sit-taken t (p .result) s ((c .before .before .before .before .before .before .before .before .before .before) .args .a) _ _ _ _ _ _ _ _ (p .ensures .0) q (c .before .before .before .before .before .before .sit-code .ensures) (c .before .before .before .before .chosen .ensures) refl (c .before .before .before .seated-by .ensures) (c .before .before .with-chairs .ensures) (c .before .with-sitting .ensures) (c .judged .ensures)
 
 pub sit-spec : {M : Type 1} → statement M
 sit-spec =
@@ -64,8 +62,7 @@ sit-spec =
     sit-code-requires
     add-chosen
     chosen-requires
-    seated-requires
-    chair-by-requires
+    seated-by-requires
     mul-cs
     array-set-from-cs
     with-chairs-requires
