@@ -11,9 +11,7 @@ use Rattle.laws.specs.Tests.{one}
 use Rattle.pots.specs.Heights.{maskAt, has}
 use Rattle.pots.proofs.Chips.{has-none}
 use Rattle.pots.proofs.Masks.{mask-lt}
-use Rattle.chairs.specs.Chairs.{putAt, noChair, wantOf, countOf, chipsOf, sweepOf, columnOf, closedOf, closeAll, Above, Seats}
-use Rattle.chairs.specs.declared.Who.{Who}
-use Rattle.chairs.specs.declared.Who.the-variants.{Live, LiveWithChips, Chips, Owing, Holding, Bare}
+use Rattle.chairs.specs.Chairs.{putAt, noChair, countOf, chipsOf, sweepOf, columnOf, closedOf, closeAll, Above, Seats}
 use Rattle.chairs.specs.declared.Sweep.{Sweep}
 use Rattle.chairs.specs.declared.Sweep.the-variants.{Again, Round, Deal}
 use Rattle.chairs.specs.declared.What.{What}
@@ -33,15 +31,7 @@ above-map f e n cs h s k = map-at f cs s e ∙ ap f (h s k) ∙ e
 pub seats-put : (n : ℕ) (cs : List Chair) (x : ℕ) (d : Chair) → x ≤ n → Seats n cs → Seats n (putAt cs x d)
 seats-put n cs x d l h = record { few = h .few; above = above-put n cs x d l (h .above) }
 
--- no chair that nobody ever had is looked for, and no sweep changes one
-pub want-none : (w : Who) → wantOf w noChair ≡ false
-want-none Live = refl
-want-none LiveWithChips = refl
-want-none Chips = refl
-want-none (Owing mark alone) = refl
-want-none (Holding card) = refl
-want-none (Bare game) = refl
-
+-- no sweep changes a chair that nobody ever had
 pub sweep-none : (k : Sweep) → sweepOf k noChair ≡ noChair
 sweep-none (Again full) = refl
 sweep-none Round = refl

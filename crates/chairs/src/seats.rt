@@ -16,24 +16,6 @@ ghost use Rattle.chairs.specs.declared.Who.the-variants.{Live, LiveWithC
 ghost use Rattle.chairs.specs.declared.What.the-variants.{Total, Live as OfLive};
 ghost use Rattle.chairs.specs.Chairs.{wantOf, sweepOf, columnOf, noChair, chairAt, putAt, countOf, chipsOf, firstOf, seatsFrom, clockwise, closeAll, Seats};
 
-// How many chairs are among those looked for.
-pub fn count(cs: [Chair; 10], seats: u32, w: Who) -> u8
-    requires { ⌜ Seats seats cs ⌝ }
-    ensures { λ r. ⌜ r ≡ countOf (wantOf w) cs ⌝ }
-{
-    let last = seats as usize;
-    let mut n: u8 = 0;
-    let mut i: usize = 0;
-    while i < last {
-        let c = cs[i];
-        if crate::wants(w, c) {
-            n += 1;
-        }
-        i += 1;
-    }
-    n
-}
-
 // How many hands are live, and how many of those have chips.
 pub struct LiveCount {
     pub hands: u32,

@@ -7,9 +7,11 @@ use answers::answer_len;
 use answers::write_answer;
 use blocks::Block;
 use blocks::Parsed;
+use paper::Entry;
 use paper::MALFORMED;
 use paper::NO_ROOM;
 use paper::OUT_OF_RANGE;
+use paper::TAKEN;
 use quiet::shown_with;
 use table::settle::stands_now;
 use table::table::Table;
@@ -22,6 +24,7 @@ ghost use Rattle.answers.specs.Answer.{SmallShown};
 ghost use Rattle.table.specs.Take.{Sound};
 ghost use Rattle.desk.specs.Desk.{rowsOf, payoutShown, shownOf, judgeParsed, refusedAt, noBlock, judgeBlock, judgedOf, judgedBytes, blockBytes, answeredFrom, answeredOf, numberOfBlock, SmallPaid, Closed};
 ghost use Rattle.desk.specs.Room.{roomOf};
+ghost use Rattle.desk.specs.Plans.{planParsed, planOf};
 
 pub mod log;
 pub mod quiet;
@@ -239,4 +242,56 @@ pub fn rest(log: &[u8]) -> &[u8]
     ensures { λ r. ⌜ now r ≡ restOf (now (log .entry)) ⌝ }
 {
     blocks::rest(log)
+}
+
+// A block as an entry for the table: its number, the code that it has already where it makes no entry, and the entry, or one that every table refuses. So each
+// block is taken, and no two tables meet where the ways part.
+pub struct Planned {
+    pub n: u32,
+    pub code: u8,
+    pub entry: Entry,
+}
+
+fn plan_parsed(n: u32, p: Parsed) -> Planned
+    ensures { λ r. ⌜ r ≡ planParsed n p ⌝ }
+{
+    match p {
+        Parsed::OutOfRange => Planned {
+            n: n,
+            code: OUT_OF_RANGE,
+            entry: Entry::Void,
+        },
+        Parsed::Read(e) => Planned {
+            n: n,
+            code: TAKEN,
+            entry: e,
+        },
+    }
+}
+
+pub fn plan(b: Block) -> Planned
+    ensures { λ r. ⌜ r ≡ planOf b ⌝ }
+{
+    match b {
+        Block::Raw {
+            n,
+            kind,
+            seat,
+            a,
+            b,
+        } => {
+            let p = blocks::entry_of(kind, seat, a, b);
+            plan_parsed(n, p)
+        }
+        Block::Malformed => Planned {
+            n: 0,
+            code: MALFORMED,
+            entry: Entry::Void,
+        },
+        Block::Nothing => Planned {
+            n: 0,
+            code: MALFORMED,
+            entry: Entry::Void,
+        },
+    }
 }

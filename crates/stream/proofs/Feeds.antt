@@ -22,7 +22,7 @@ use Rattle.lines.specs.Kept.{Kept, nothing, Gathered, gatherOf, keptIn, fillOf,
 use Rattle.lines.proofs.Keeps.{kept-back, fill-back, none-kept}
 use Rattle.table.specs.declared.table.Table.{Table}
 use Rattle.stream.specs.declared.Clerk.{Clerk}
-use Rattle.stream.specs.declared.RanInPlace.{RanInPlace}
+use Rattle.stream.specs.declared.place.RanInPlace.{RanInPlace}
 use Rattle.stream.specs.declared.Fed.{Fed}
 use Rattle.stream.specs.declared.ClerkAfter.{ClerkAfter}
 use Rattle.stream.specs.Onward.{State, Unread, Open, Shut, Given, still, openOf, linesDone, linesOf, onward}

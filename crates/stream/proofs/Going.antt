@@ -1,31 +1,40 @@
--- The pots of the table go with it from block to block: the loop of `in_place`. For any part and any room. Assumes nothing.
+-- The pots of the table go with it from block to block, and each block is taken by its plan: the loop of `in_place`. For any part and any room. Assumes nothing.
 use mathlib.Core.Path.{_≡_, refl, sym, ap, subst, _∙_}
-use mathlib.Core.List.{List}
+use mathlib.Core.List.{List, []}
 use mathlib.Core.Bool.{Bool, true, false}
-use Prim.Native.Nat.{ℕ, _+_, _-_, _≤_}
+use mathlib.Core.Logic.{_⊎_, ⊎-elim}
+use Prim.Native.Nat.{ℕ, _+_, _-_, _≤_, _<_, _^_}
 use native.Mathlib.Omega.{arith}
-use lib.ListN.{length, drop, length-append, length-drop}
+use lib.ListN.{length, length-drop}
+use lib.Dec.{leb}
+use borrow.Author.Tests.{leb-true, leb-false}
 use borrow.Rule.Slice.PartMut.{midOf, putMid}
+use Rattle.text.proofs.Parts.{part-is}
+use Rattle.paper.specs.Paper.{orElse}
 use Rattle.blocks.specs.Block.{blockOf, restOf}
 use Rattle.blocks.specs.Front.{frontOf}
 use Rattle.blocks.specs.declared.Block.{Block}
 use Rattle.blocks.specs.declared.front.Front.{Front}
 use Rattle.pots.specs.declared.Stands.{Stands}
-use Rattle.writing.specs.declared.Written.{Written}
-use Rattle.writing.specs.declared.Written.the-variants.{Bytes, NoRoom}
-use Rattle.writing.specs.AnswerSheet.{over, sheetAfter, writtenOf}
+use Rattle.writing.specs.AnswerSheet.{over, Wrote}
+use Rattle.answers.specs.declared.Shown.{Shown}
+use Rattle.answers.specs.Answer.{answerBytes, longestShared}
 use Rattle.table.specs.declared.table.Table.{Table}
-use Rattle.table.specs.Take.{Sound}
+use Rattle.table.specs.declared.table.Taken.{Taken}
+use Rattle.table.specs.Take.{Sound, takenOf}
 use Rattle.desk.specs.declared.Judged.{Judged}
-use Rattle.desk.specs.declared.Answered.{Answered}
-use Rattle.desk.specs.Desk.{judgeBlock, judgedOf, judgedBytes, answeredFrom, Closed}
+use Rattle.desk.specs.declared.Planned.{Planned}
+use Rattle.desk.specs.Desk.{shownOf, judgeBlock, judgedOf, judgedBytes, blockBytes, numberOfBlock, SmallPaid, Closed}
+use Rattle.desk.specs.Plans.{planOf}
 use Rattle.desk.specs.Quiet.{ShowsPots, keepsPots}
-use Rattle.desk.proofs.Laws.{judged-most}
+use Rattle.desk.proofs.Laws.{block-small, some-block, read-answered}
+use Rattle.desk.proofs.Plans.{plan-judged, plan-number, plan-paid}
 use Rattle.desk.proofs.SamePots.{kept-shows}
 use Rattle.desk.proofs.Room.{judged-closed}
-use Rattle.stream.specs.declared.RanInPlace.{RanInPlace}
+use Rattle.stream.specs.declared.place.RanInPlace.{RanInPlace}
 use Rattle.stream.specs.InPlace.{inPlaceOf, ranOf}
-use Rattle.stream.proofs.Runs.{Running, Ends, run-start, run-out, run-open, run-room, run-full, run-turn}
+use Rattle.stream.proofs.Longest.{longest}
+use Rattle.stream.proofs.Runs.{Running, Ends, run-start, run-out, run-open, run-full, run-turn}
 
 -- what was written and what is left, and the pots of the table
 pub record Going (t : Table) (part out : List ℕ) (table : Table) (stands : Stands) (left now : List ℕ) (at : ℕ) : Type 0 where
@@ -60,57 +69,67 @@ module _ {t : Table} {part out : List ℕ} {table : Table} {stands : Stands} {le
     pub go-open : {r : RanInPlace} → f .whole ≡ false → r ≡ record { table = table; used = length part - length left; written = at } → Ran t part out r now
     go-open h m = ran-as t part out table (length part - length left) now at m (run-open (g .run) e h refl)
 
-    -- its pots are those of the table after a block that leaves them
-    pub go-shows : {keeps : Bool} {j : Judged} → keeps ≡ keepsPots (f .block) (j .code) → j ≡ judgeBlock table (f .block) → keeps ≡ true → ShowsPots (j .table) stands
-    go-shows k p h = kept-shows table (f .block) p (sym k ∙ h) (g .shows)
+    -- the table's word on the plan of the block is what the desk judges
+    module _ {p : Planned} {k : Taken} {code : ℕ} (o : 0 < length left) (a : p ≡ planOf (f .block)) (b : k ≡ takenOf table (p .n) (p .entry))
+        (c : code ≡ orElse (p .code) (k .code)) where
+      abbrev said : Judged
+      said = record { block = true; n = p .n; code = code; table = k .table; payout = k .payout }
 
-    pub go-closed : {j : Judged} → j ≡ judgeBlock table (f .block) → Closed (j .table) (j .payout)
-    go-closed p = judged-closed table (f .block) p
+      front : judgeBlock table (f .block) ≡ judgedOf table left
+      front = judged-front table left (ap (λ (x : Front). x .block) e)
 
-    module _ {j : Judged} (p : j ≡ judgeBlock table (f .block)) {w : Written} (q : w ≡ writtenOf (judgedBytes j) (midOf at (length now - at) now)) where
-      abbrev sheet : List ℕ
-      sheet = midOf at (length now - at) now
+      judged : said ≡ judgeBlock table (f .block)
+      judged = plan-judged table (f .block) a b c (ap (λ (x : Judged). x .block) front ∙ some-block table left o)
 
-      abbrev all : Judged
-      all = judgeBlock table (f .block)
+      -- the pots that are kept are those of the table after a block that leaves them
+      pub go-shows : {keeps : Bool} → keeps ≡ keepsPots (f .block) code → keeps ≡ true → ShowsPots (k .table) stands
+      go-shows q h = kept-shows table (f .block) {j = said} judged (sym q ∙ h) (g .shows)
 
-      -- what the desk would say
-      abbrev said : Answered
-      said = answeredFrom table all (writtenOf (judgedBytes all) sheet)
+      -- what showing it asks for
+      pub go-asked : {next : Stands} → Sound (k .table) → ShowsPots (k .table) next
+          → Sound (k .table) × (p .n < 10 ^ 9) × SmallPaid (k .payout) × Closed (k .table) (k .payout) × ShowsPots (k .table) next
+      go-asked i y = (
+        i,
+        plan-number (f .block) a (subst (λ (x : Front). numberOfBlock (x .block) < 10 ^ 9) (sym e) (block-small left)),
+        plan-paid table (p .n) (p .entry) (g .run .sound) b,
+        judged-closed table (f .block) {j = said} judged,
+        y,
+      )
 
-      said-by : {v : Written} → w ≡ v → said ≡ answeredFrom table all v
-      said-by h = ap (answeredFrom table all) (ap (λ (x : Judged). writtenOf (judgedBytes x) sheet) (sym p) ∙ sym q ∙ h)
+      -- and what is shown is its answer
+      module _ {s : Shown} (v : s ≡ shownOf (p .n) code (k .table) (k .payout)) where
+        shown : answerBytes s ≡ blockBytes table left
+        shown = ap answerBytes v ∙ ap judgedBytes judged ∙ read-answered table left [] (ap (λ (x : Front). x .block) e) .1
 
-      pub go-room : {k : ℕ} → w ≡ Bytes k → at + k ≤ length out
-      go-room h = omega (arith, run-room (g .run) e {a = said} refl, ap (λ (x : Answered). x .written) (said-by h))
+        -- it has no room: then so little room was left that the table before was kept
+        pub go-full : {old : Table} {fit : Bool} {r : RanInPlace} → fit ≡ leb (length (answerBytes s)) (length now - at) → fit ≡ false
+            → (old ≡ table) ⊎ (longestShared ≤ length now - at) → r ≡ record { table = old; used = length part - length left; written = at } → Ran t part out r now
+        go-full {old} q h w m =
+            let less : length now - at < length (answerBytes s) = leb-false (length (answerBytes s)) (length now - at) (sym q ∙ h) in
+            let none : length out - at < length (blockBytes table left) = omega (arith, less, ap length shown, g .run .same) in
+            let kept : old ≡ table = ⊎-elim (λ x. x) (λ x. absurd (omega (arith, x, none, longest table left (g .run .sound), g .run .same))) w in
+            ran-as t part out table (length part - length left) now at
+            (m ∙ ap (λ (x : Table). record { table = x; used = length part - length left; written = at }) kept)
+            (run-full (g .run) none refl)
 
-      module _ {mid after : List ℕ} (s : mid ≡ sheetAfter (judgedBytes j) (midOf at (length now - at) now)) (r : after ≡ putMid at (length now - at) now mid) where
-        sheet-by : mid ≡ sheetAfter (judgedBytes all) sheet
-        sheet-by = s ∙ ap (λ (x : Judged). sheetAfter (judgedBytes x) sheet) p
+        module _ {fit : Bool} (q : fit ≡ leb (length (answerBytes s)) (length now - at)) (h : fit ≡ true) where
+          fits : length (answerBytes s) ≤ length now - at
+          fits = leb-true (length (answerBytes s)) (length now - at) (sym q ∙ h)
 
-        -- its answer has no room
-        pub go-full : {z : RanInPlace} → w ≡ NoRoom → z ≡ record { table = table; used = length part - length left; written = at } → Ran t part out z after
-        go-full h m = ran-as t part out table (length part - length left) after at m (run-full (g .run) e {a = said} refl sheet-by r (ap (λ (x : Answered). x .code) (said-by h)) refl)
+          pub go-fits : length (answerBytes s) ≤ length (midOf at (length now - at) now)
+          go-fits = omega (arith, fits, ap length (part-is at now), length-drop at now)
 
-        -- and the sheet is as long as before
-        pub go-same : w ≡ NoRoom → length after ≡ length out
-        go-same h =
-            let k = run-full (g .run) e {a = said} refl sheet-by r {used = length part - length left} (ap (λ (x : Answered). x .code) (said-by h)) refl in
-            let bs : List ℕ = inPlaceOf t part (length out) .bytes in
-            omega (arith, ap length (k .1 .0), length-append bs (drop (length bs) out), length-drop (length bs) out, ap (λ (x : RanInPlace). x .written) (k .0), k .1 .1 .2)
+          module _ {mid : List ℕ} {n : ℕ} (w : Wrote (answerBytes s) (midOf at (length now - at) now) mid n) where
+            pub go-room : at + n ≤ length out
+            go-room = omega (arith, w .count, fits, g .run .within, g .run .same)
 
-        -- it was answered
-        pub go-turn : {k : ℕ} {next : Stands} {rest : List ℕ} → w ≡ Bytes k → f .whole ≡ true → Sound (j .table) → ShowsPots (j .table) next → rest ≡ restOf left
-            → Going t part out (j .table) next rest after (at + k)
-        go-turn {k} {next} {rest} h v i n d =
-            let own : said .table ≡ j .table = ap (λ (x : Answered). x .table) (said-by h) ∙ ap (λ (x : Judged). x .table) (sym p) in
-            let size : said .written ≡ k = ap (λ (x : Answered). x .written) (said-by h) in
-            let code : said .code ≡ judgedOf table left .code =
-            ap (λ (x : Answered). x .code) (said-by h) ∙ ap (λ (x : Judged). x .code) (judged-front table left (ap (λ (x : Front). x .block) e)) in
-            let go = run-turn (g .run) e {a = said} refl sheet-by r {rest = rest} v (λ z. omega (arith, code, judged-most table left)) (subst Sound (sym own) i) d in
-            record {
+            -- it was answered
+            pub go-turn : {after : List ℕ} {next : Stands} {rest : List ℕ} → after ≡ putMid at (length now - at) now mid → f .whole ≡ true → Sound (k .table) → ShowsPots (k .table) next
+                → rest ≡ restOf left → Going t part out (k .table) next rest after (at + n)
+            go-turn r z i y d = record {
               run =
-                  subst (λ (x : ℕ). Running t part out (j .table) rest after (at + x)) size
-                  (subst (λ (x : Table). Running t part out x rest after (at + said .written)) own go);
-              shows = n;
+                  run-turn (g .run) e z (omega (arith, fits, ap length shown, g .run .same))
+                  (subst (λ (x : List ℕ). Wrote x (midOf at (length now - at) now) mid n) shown w) r
+                  (ap (λ (x : Judged). x .table) (judged ∙ front)) i d;
+              shows = y;
             }

@@ -32,7 +32,7 @@ use Rattle.desk.specs.declared.Answered.{Answered}
 use Rattle.desk.specs.Desk.{judgedOf, blockBytes, answeredFrom, answeredOf}
 use Rattle.desk.proofs.Laws.{judged-most, nothing-answered}
 use Rattle.stream.specs.declared.ClerkAfter.{ClerkAfter}
-use Rattle.stream.specs.declared.RanInPlace.{RanInPlace}
+use Rattle.stream.specs.declared.place.RanInPlace.{RanInPlace}
 use Rattle.stream.specs.Onward.{linesDone}
 use Rattle.stream.specs.InPlace.{InPlace, stopped, behind, answersFront, inPlaceOf, ranOf}
 use Rattle.stream.specs.Feeding.{stateAt, Held, Gave}

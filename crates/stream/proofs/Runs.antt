@@ -8,30 +8,23 @@ use native.Mathlib.Omega.{arith}
 use lib.ListN.{length, drop, length-append, length-drop}
 use lib.Seq.{drop-drop}
 use lib.Dec.{leb}
-use borrow.Author.Tests.{ltb-true, le-leb}
+use borrow.Author.Tests.{ltb-true, le-leb, lt-leb}
 use borrow.Rule.Slice.PartMut.{midOf, putMid}
-use Rattle.laws.specs.Tests.{pick, both}
+use Rattle.laws.specs.Tests.{both}
 use Rattle.laws.proofs.Tests.{test, both-true}
 use Rattle.laws.proofs.Conjunction.{both-none}
-use Rattle.laws.proofs.Sums.{le-or-lt}
 use Rattle.text.specs.Line.{lineLen, afterLines}
 use Rattle.blocks.specs.Block.{restOf}
 use Rattle.blocks.specs.Front.{blockEnded, frontOf}
 use Rattle.blocks.specs.declared.front.Front.{Front}
-use Rattle.writing.specs.declared.Written.the-variants.{Bytes, NoRoom}
-use Rattle.writing.specs.AnswerSheet.{Wrote, over, sheetAfter, writtenOf}
+use Rattle.writing.specs.AnswerSheet.{Wrote, over}
 use Rattle.writing.proofs.Sheets.{then}
-use Rattle.text.proofs.Parts.{part-is}
 use Rattle.blocks.proofs.Blocks.{rest-shorter, drop-own, rest-drop}
 use Rattle.text.proofs.Lines.{after-lines-no-longer}
 use Rattle.table.specs.declared.table.Table.{Table}
 use Rattle.table.specs.Take.{Sound}
-use Rattle.desk.specs.declared.Answered.{Answered}
-use Rattle.desk.specs.Desk.{judgeBlock, judgedOf, judgedBytes, blockBytes, answeredFrom, answeredOf}
-use Rattle.desk.specs.Log.{fitting}
-use Rattle.desk.proofs.Laws.{read-answered, judged-most, twelve-when}
-use Rattle.desk.proofs.Whole.{answered-parts, fitting-within}
-use Rattle.stream.specs.declared.RanInPlace.{RanInPlace}
+use Rattle.desk.specs.Desk.{judgedOf, blockBytes}
+use Rattle.stream.specs.declared.place.RanInPlace.{RanInPlace}
 use Rattle.stream.specs.InPlace.{InPlace, stopped, behind, answersFront, inPlaceFrom, inPlaceOf, ranOf}
 
 -- ---- one block more
@@ -116,19 +109,6 @@ uses-none t part room e = omega (arith, ap (λ (p : InPlace). length (p .left)) 
 pub behind-behind : (xs ys : List ℕ) (p : InPlace) → behind xs (behind ys p) ≡ behind (xs ++ ys) p
 behind-behind xs ys p = ap (λ (bs : List ℕ). record { table = p .table; bytes = bs; left = p .left }) (sym (append-assoc xs ys (p .bytes)))
 
--- ---- 12 tells whether there was room
-
-twelve-full : (t : Table) (log sheet : List ℕ) → answeredOf t log sheet .code ≡ 12 → leb (length (blockBytes t log)) (length sheet) ≡ false
-unfolding answeredOf
-twelve-full t log sheet h = go (leb (length (blockBytes t log)) (length sheet)) h
-  where
-    go : (b : Bool) → answeredFrom t (judgedOf t log) (pick b (Bytes (length (blockBytes t log))) NoRoom) .code ≡ 12 → b ≡ false
-    go false e = refl
-    go true e = absurd (omega (arith, judged-most t log, e))
-
-else-room : (t : Table) (log sheet : List ℕ) → (answeredOf t log sheet .code ≡ 12 → ⊥) → length (blockBytes t log) ≤ length sheet
-else-room t log sheet h = ⊎-elim (λ p. p) (λ p. absurd (h (twelve-when t log sheet p))) (le-or-lt (length (blockBytes t log)) (length sheet))
-
 -- ---- the loop: what was written so far, and what is left
 
 pub record Running (t : Table) (part out : List ℕ) (table : Table) (left now : List ℕ) (at : ℕ) : Type 0 where
@@ -159,25 +139,25 @@ Ends t part out table used now at =
 
 module _ {t : Table} {part out : List ℕ} {table : Table} {left now : List ℕ} {at : ℕ} (g : Running t part out table left now at) where
   -- no further block is answered
-  run-ends : {after : List ℕ} {n used : ℕ} → answersFront table left (length out - at) ≡ false → Wrote (g .bs ++ []) out after n → n ≡ at
-      → used ≡ length part - length left → Ends t part out table used after at
-  run-ends {after} {n} {used} z w m u =
+  run-ends : {used : ℕ} → answersFront table left (length out - at) ≡ false → used ≡ length part - length left → Ends t part out table used now at
+  run-ends {used} z u =
+      let w : Wrote (g .bs ++ []) out now at = subst (λ (x : List ℕ). Wrote x out now at) (sym (append-nil (g .bs))) (g .wrote) in
       let q : inPlaceOf t part (length out) ≡ record { table = table; bytes = g .bs ++ []; left = left } =
-      g .all ∙ ap (behind (g .bs)) (place-none table left (length out - at) z) in
-      let k : at ≡ length (g .bs ++ []) = sym m ∙ w .count in (
-        same-ran u k ∙ ap (λ (p : InPlace). ranOf p part) (sym q),
+      g .all ∙ ap (behind (g .bs)) (place-none table left (length out - at) z) in (
+        same-ran u (w .count) ∙ ap (λ (p : InPlace). ranOf p part) (sym q),
         (w .sheet ∙ ap (λ (p : InPlace). over (p .bytes) out) (sym q), (g .sound, omega (arith, u), g .within)),
       )
     where
       same-ran : {u v m n : ℕ} → u ≡ v → m ≡ n → _≡_ {A = RanInPlace} (record { table = table; used = u; written = m }) (record { table = table; used = v; written = n })
       same-ran e f = cc
 
-  wrote-nil : Wrote (g .bs ++ []) out now at
-  wrote-nil = subst (λ (x : List ℕ). Wrote x out now at) (sym (append-nil (g .bs))) (g .wrote)
-
   -- the part is used up
   pub run-out : {used : ℕ} → length left ≤ 0 → used ≡ length part - length left → Ends t part out table used now at
-  run-out h u = run-ends (empty-front table left (length out - at) h) wrote-nil refl u
+  run-out h u = run-ends (empty-front table left (length out - at) h) u
+
+  -- the answer to the next block has no room
+  pub run-full : {used : ℕ} → length out - at < length (blockBytes table left) → used ≡ length part - length left → Ends t part out table used now at
+  run-full h u = run-ends (ap (both (blockEnded left)) (lt-leb (length (blockBytes table left)) (length out - at) h) ∙ both-none (blockEnded left)) u
 
   module _ {f : Front} (e : f ≡ frontOf left) where
     -- what follows the block is shorter
@@ -188,70 +168,34 @@ module _ {t : Table} {part out : List ℕ} {table : Table} {left now : List ℕ}
     pub run-open : {used : ℕ} → f .whole ≡ false → used ≡ length part - length left → Ends t part out table used now at
     run-open h u =
         let z : blockEnded left ≡ false = sym (ap (λ (x : Front). x .whole) e) ∙ h in
-        run-ends (ap (λ (x : Bool). both x (leb (length (blockBytes table left)) (length out - at))) z) wrote-nil refl u
+        run-ends (ap (λ (x : Bool). both x (leb (length (blockBytes table left)) (length out - at))) z) u
 
-    module _ {a : Answered} (p : a ≡ answeredFrom table (judgeBlock table (f .block)) (writtenOf (judgedBytes (judgeBlock table (f .block))) (midOf at (length now - at) now))) where
-      abbrev sheet : List ℕ
-      sheet = midOf at (length now - at) now
-
-      abbrev bytes : List ℕ
-      bytes = blockBytes table left
-
-      read : (a ≡ answeredOf table left sheet) × (judgedBytes (judgeBlock table (f .block)) ≡ bytes)
-      read = let k = read-answered table left sheet (ap (λ (x : Front). x .block) e) in (p ∙ k .0, k .1)
-
-      room : length sheet ≡ length out - at
-      room = ap length (part-is at now) ∙ length-drop at now ∙ rw (g .same)
-
-      count : a .written ≡ length (fitting bytes (length sheet))
-      count = ap (λ (x : Answered). x .written) (read .0) ∙ answered-parts table left sheet .1 .count
-
-      pub run-room : at + a .written ≤ length out
-      run-room = omega (arith, count, room, g .within, fitting-within bytes (length sheet))
-
-      module _ {mid after : List ℕ} (q : mid ≡ sheetAfter (judgedBytes (judgeBlock table (f .block))) (midOf at (length now - at) now))
-          (r : after ≡ putMid at (length now - at) now mid) where
-        one : Wrote (fitting bytes (length sheet)) sheet mid (a .written)
-        one = rw (q, read .1, read .0) (answered-parts table left sheet .1)
-
-        two : Wrote (g .bs ++ fitting bytes (length sheet)) out after (at + a .written)
-        two = rw r (then (g .wrote) one)
-
-        -- its answer has no room
-        pub run-full : {used : ℕ} → a .code ≡ 12 → used ≡ length part - length left → Ends t part out table used after at
-        run-full h u =
-            let n : leb (length bytes) (length sheet) ≡ false = twelve-full table left sheet (sym (ap (λ (x : Answered). x .code) (read .0)) ∙ h) in
-            let none : fitting bytes (length sheet) ≡ [] = ap (λ (x : Bool). pick x bytes []) n in
-            run-ends (ap (both (blockEnded left)) (ap (leb (length bytes)) (sym room) ∙ n) ∙ both-none (blockEnded left))
-            (subst (λ (x : List ℕ). Wrote (g .bs ++ x) out after (at + a .written)) none two)
-            (omega (arith, count, ap length none)) u
-
-        -- it was answered
-        pub run-turn : {rest : List ℕ} → f .whole ≡ true → (a .code ≡ 12 → ⊥) → Sound (a .table) → rest ≡ restOf left
-            → Running t part out (a .table) rest after (at + a .written)
-        run-turn {rest} h n s d =
-            let xs : List ℕ = g .bs ++ fitting bytes (length sheet) in
-            let fit : length bytes ≤ length sheet = else-room table left sheet (λ z. n (ap (λ (x : Answered). x .code) (read .0) ∙ z)) in
-            let yes : leb (length bytes) (length sheet) ≡ true = le-leb (length bytes) (length sheet) fit in
-            let full : fitting bytes (length sheet) ≡ bytes = ap (λ (x : Bool). pick x bytes []) yes in
-            let tab : a .table ≡ judgedOf table left .table =
-            ap (λ (x : Answered). x .table) (read .0) ∙ answered-parts table left sheet .0 ∙ ap (λ (x : Bool). pick x (judgedOf table left .table) table) yes in
-            let whole : blockEnded left ≡ true = sym (ap (λ (x : Front). x .whole) e) ∙ h in
-            let front : answersFront table left (length out - at) ≡ true =
-            ap (λ (x : Bool). both x (leb (length bytes) (length out - at))) whole ∙ ap (leb (length bytes)) (sym room) ∙ yes in
-            let m : length out - (at + a .written) ≡ length out - at - length bytes = omega (arith, count, ap length full) in
-            record {
-              bs = g .bs ++ bytes;
-              wrote = subst (λ (x : List ℕ). Wrote (g .bs ++ x) out after (at + a .written)) full two;
-              within = run-room;
-              same = omega (arith, ap length (two .sheet), length-append xs (drop (length xs) out), length-drop (length xs) out, two .count, run-room);
-              inside = omega (arith, ap length d, rest-shorter left (front-some table left (length out - at) front), g .inside);
-              all =
-                  g .all
-                  ∙ ap (behind (g .bs)) (place-more table left (length out - at) front)
-                  ∙ behind-behind (g .bs) bytes (inPlaceOf (judgedOf table left .table) (restOf left) (length out - at - length bytes))
-                  ∙ ap (λ (x : Table). behind (g .bs ++ bytes) (inPlaceOf x (restOf left) (length out - at - length bytes))) (sym tab)
-                  ∙ ap (λ (x : List ℕ). behind (g .bs ++ bytes) (inPlaceOf (a .table) x (length out - at - length bytes))) (sym d)
-                  ∙ ap (λ (x : ℕ). behind (g .bs ++ bytes) (inPlaceOf (a .table) rest x)) (sym m);
-              sound = s;
-            }
+    -- it was answered
+    pub run-turn : {u : Table} {k : ℕ} {mid after rest : List ℕ} → f .whole ≡ true → length (blockBytes table left) ≤ length out - at
+        → Wrote (blockBytes table left) (midOf at (length now - at) now) mid k → after ≡ putMid at (length now - at) now mid
+        → u ≡ judgedOf table left .table → Sound u → rest ≡ restOf left → Running t part out u rest after (at + k)
+    run-turn {u} {k} {mid} {after} {rest} h fit w r tab s d =
+        let bytes : List ℕ = blockBytes table left in
+        let xs : List ℕ = g .bs ++ bytes in
+        let more : Wrote xs out after (at + k) = subst (λ (x : List ℕ). Wrote xs out x (at + k)) (sym r) (then (g .wrote) w) in
+        let whole : blockEnded left ≡ true = sym (ap (λ (x : Front). x .whole) e) ∙ h in
+        let front : answersFront table left (length out - at) ≡ true =
+        ap (λ (x : Bool). both x (leb (length bytes) (length out - at))) whole ∙ le-leb (length bytes) (length out - at) fit in
+        let size : k ≡ length bytes = w .count in
+        let within : at + k ≤ length out = omega (arith, size, fit, g .within) in
+        let m : length out - (at + k) ≡ length out - at - length bytes = omega (arith, size) in
+        record {
+          bs = xs;
+          wrote = more;
+          within = within;
+          same = omega (arith, ap length (more .sheet), length-append xs (drop (length xs) out), length-drop (length xs) out, more .count, within);
+          inside = omega (arith, ap length d, rest-shorter left (front-some table left (length out - at) front), g .inside);
+          all =
+              g .all
+              ∙ ap (behind (g .bs)) (place-more table left (length out - at) front)
+              ∙ behind-behind (g .bs) bytes (inPlaceOf (judgedOf table left .table) (restOf left) (length out - at - length bytes))
+              ∙ ap (λ (x : Table). behind xs (inPlaceOf x (restOf left) (length out - at - length bytes))) (sym tab)
+              ∙ ap (λ (x : List ℕ). behind xs (inPlaceOf u x (length out - at - length bytes))) (sym d)
+              ∙ ap (λ (x : ℕ). behind xs (inPlaceOf u rest x)) (sym m);
+          sound = s;
+        }

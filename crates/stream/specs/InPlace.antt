@@ -11,7 +11,7 @@ use Rattle.blocks.specs.Front.{blockEnded}
 use Rattle.lines.specs.declared.Fill.{Fill}
 use Rattle.table.specs.declared.table.Table.{Table}
 use Rattle.desk.specs.Desk.{judgedOf, blockBytes}
-use Rattle.stream.specs.declared.RanInPlace.{RanInPlace}
+use Rattle.stream.specs.declared.place.RanInPlace.{RanInPlace}
 
 -- the table after the blocks that were answered, their answers, and what is left of the part
 pub record InPlace : Type 0 where

@@ -1,29 +1,23 @@
 // A log that comes in parts: the unfinished sheet or block is kept, each line cut after 33 bytes, and answered at its last LF.
 use answers::LONGEST;
-use blocks::front_rest;
-use blocks::read_front;
 use blocks::rest;
-use desk::judge_block;
 use desk::log::read_lone_sheet;
 use desk::log::refuse_sheet;
-use desk::quiet::first_stands;
-use desk::quiet::keeps_pots;
-use desk::quiet::stands_after;
-use desk::quiet::write_judged;
 use lines::Fill;
 use lines::empty;
 use lines::gather;
 use lines::lines_of;
 use paper::STAND_IN;
+use place::RanInPlace;
+use place::in_place;
 use table::table::Table;
 use table::take::new_table;
 use text::line::after_lines;
 use text::line::line_end;
 use text::sheet::SheetRead;
-use writing::Written;
 ghost use mathlib.Core.Path.{_≡_};
 ghost use mathlib.Core.Bool.{true, false};
-ghost use Prim.Native.Nat.{_+_, _-_, _≤_, _<_};
+ghost use Prim.Native.Nat.{_+_, _≤_, _<_};
 ghost use lib.ListN.{length};
 ghost use lib.Dec.{eqb};
 ghost use Rattle.blocks.specs.Front.{blockEnded};
@@ -31,8 +25,10 @@ ghost use Rattle.writing.specs.AnswerSheet.{over, Wrote};
 ghost use Rattle.lines.specs.Kept.{gatherOf, keptIn, nothing, fillOf, Room, keptMost};
 ghost use Rattle.table.specs.Take.{Sound};
 ghost use Rattle.stream.specs.Onward.{linesOf, linesDone, closing, anyShort};
-ghost use Rattle.stream.specs.InPlace.{inPlaceOf, ranOf, awaitsBlock};
+ghost use Rattle.stream.specs.InPlace.{awaitsBlock};
 ghost use Rattle.stream.specs.Feeding.{longestAnswer, stateOf, stateAt, keptBy, Held, startOf, Gave, FedOn, usedOf, bufferOf, goesOn};
+
+pub mod place;
 
 // The clerk between two bytes: whether the sheet was read, whether it was bad, the table, and what is kept.
 pub struct Clerk {
@@ -56,60 +52,6 @@ pub struct ClerkAfter {
     pub clerk: Clerk,
     pub written: usize,
     pub short: bool,
-}
-
-// What was answered where it lies: the table after it, the bytes used up and the bytes written.
-pub struct RanInPlace {
-    pub table: Table,
-    pub used: usize,
-    pub written: usize,
-}
-
-// The table, how much of the part is used up, by what is left of it, and how many bytes are written.
-fn ran_to(table: Table, part: &[u8], left: &[u8], written: usize) -> RanInPlace
-    requires { ⌜ length (now left) ≤ length (now part) ⌝ }
-    ensures { λ r. ⌜ r ≡ record { table = table; used = length (now (part .entry)) - length (now (left .entry)); written = written } ⌝ }
-{
-    RanInPlace {
-        table,
-        used: part.len() - left.len(),
-        written,
-    }
-}
-
-// The whole blocks at the front of a part, each answered where it lies, up to one whose answer has no room. What follows a block is handed on as the rest of
-// the part. The pots of the table go with it from block to block. Every block of a log is answered here and nowhere else, so that the compiler lays the desk
-// into this loop.
-pub fn in_place(t: Table, part: &[u8], out: &mut [u8]) -> RanInPlace
-    requires { ⌜ Sound t ⌝ }
-    ensures ran { λ r. ⌜ r ≡ ranOf (inPlaceOf t (now (part .entry)) (length (now (out .entry)))) (now (part .entry)) ⌝ }
-    ensures bytes { λ r. ⌜ now (out .exit) ≡ over (inPlaceOf t (now (part .entry)) (length (now (out .entry))) .bytes) (now (out .entry)) ⌝ }
-    ensures sound { λ r. ⌜ Sound (r .table) × (r .used ≤ length (now (part .entry))) × (r .written ≤ length (now (out .entry))) ⌝ }
-{
-    let mut table = t;
-    let mut stands = first_stands(t);
-    let mut left = part;
-    let mut at: usize = 0;
-    while 0 < left.len() {
-        let f = read_front(left);
-        if !f.whole {
-            return ran_to(table, part, left, at);
-        }
-        let b = f.block;
-        let j = judge_block(table, b);
-        let after = stands_after(stands, keeps_pots(b, j.code), j.table);
-        let w = write_judged(j, after, &mut out[at..]);
-        let Written::Bytes(k) = w else {
-            return ran_to(table, part, left, at)
-        };
-        let u = j.table;
-        table = u;
-        stands = after;
-        at += k;
-        let next = front_rest(left, f.used);
-        left = &next[0..];
-    }
-    ran_to(table, part, left, at)
 }
 
 // Whether the fifth line of a block is ended.

@@ -1,4 +1,4 @@
--- Laws of chips, of good sheets, of what a settle pays and of what a code of 0 says, over tables. Assumes nothing.
+-- Laws of owing seats, of cards that are out and of what a code of 0 says, over tables. Assumes nothing.
 use Prim.Native.Nat.{ℕ, zero, suc, _+_, _<_, _≤_}
 use mathlib.Core.Bool.{Bool, true, false, not}
 use mathlib.Core.Path.{_≡_, refl, sym, ap, _∙_}
@@ -7,7 +7,7 @@ use native.Mathlib.Omega.{arith}
 use lib.ListN.{length, getD, take}
 use lib.Seq.{take-all}
 use lib.Dec.{leb, ltb}
-use borrow.Author.Tests.{leb-false}
+use borrow.Author.Tests.{le-leb, lt-leb, leb-false}
 use Rattle.paper.proofs.Sheets.{good-ranged}
 use Rattle.paper.specs.Paper.{when, isGame, isSheet}
 use Rattle.laws.specs.Tests.{either, pick}
@@ -27,20 +27,36 @@ use Rattle.ladder.proofs.Showdown.{kept-small}
 use Rattle.table.specs.Settle.{Payable, totalsOf, livesOf, hereOf, isShown, handScore, scoreOf, scoresOf, dueNow, commissionOf, payoutNow}
 use Rattle.table.specs.declared.table.Board.{Board}
 use Rattle.table.specs.declared.table.Payout.{Payout}
-use Rattle.chairs.specs.Chairs.{holeOf, chipsOf, columnOf, noChair, paidOf as paysOf}
-use Rattle.chairs.proofs.Laws.{chips-put, chips-paid}
+use Rattle.chairs.specs.Chairs.{holeOf, firstOf, chipsOf, wantOf, clockwise, columnOf, noChair, paidOf as paysOf}
+use Rattle.chairs.proofs.Laws.{first-cong, chips-put, chips-paid}
 use Rattle.chairs.specs.declared.Chair.{Chair}
+use Rattle.chairs.specs.declared.Who.the-variants.{Owing}
 use Rattle.table.specs.State.{seatOf}
-use Rattle.table.specs.Betting.{liveHands, nobodyOwes}
+use Rattle.table.specs.Betting.{liveHands, onlyWithChips, owes, firstOwing, nobodyOwes}
 use Rattle.table.specs.Opening.{postedTo}
 use Rattle.table.specs.Dealing.{inThisHand, boardCode}
 use Rattle.table.specs.declared.table.Table.{Table}
 use Rattle.chairs.specs.declared.What.the-variants as what
 
--- the same asked twice
-pub either-same : (r b : Bool) → r ≡ either b b → r ≡ b
-either-same r true e = e
-either-same r false e = e
+first-false : (cs : List Chair) (ss : List ℕ) → firstOf (λ c. false) cs ss ≡ 0
+first-false cs [] = refl
+first-false cs (s ∷ ss) = first-false cs ss
+
+-- with fewer than two live hands nobody owes; with two or more, those that `Who.Owing` looks for
+pub owing-few : (t : Table) (s : ℕ) → liveHands t < 2 → firstOwing t s ≡ 0
+unfolding firstOwing owes
+owing-few t s h = first-cong (owes t) (λ c. false) (t .chairs) none (clockwise (t .sheet .seats) s) ∙ first-false (t .chairs) (clockwise (t .sheet .seats) s)
+  where
+    none : (c : Chair) → owes t c ≡ false
+    none c = rw (lt-leb 2 (liveHands t) h)
+
+pub owing-many : (t : Table) (s : ℕ) → 2 ≤ liveHands t
+    → firstOwing t s ≡ firstOf (wantOf (Owing (t .play .mark) (onlyWithChips t))) (t .chairs) (clockwise (t .sheet .seats) s)
+unfolding firstOwing owes
+owing-many t s h = first-cong (owes t) (wantOf (Owing (t .play .mark) (onlyWithChips t))) (t .chairs) same (clockwise (t .sheet .seats) s)
+  where
+    same : (c : Chair) → owes t c ≡ wantOf (Owing (t .play .mark) (onlyWithChips t)) c
+    same c = rw (le-leb 2 (liveHands t) h)
 
 -- a blind makes no chips
 pub chips-posted : (t : Table) (s a : ℕ) → chipsOf (postedTo t s a .chairs) ≤ chipsOf (t .chairs)

@@ -7,7 +7,10 @@ pub mod ChairsOk
 pub mod Closing
 pub mod InTurn
 pub mod Standing
-pub mod Acts
 pub mod Reached
+pub mod Blinds
 pub mod Chips
 pub mod Refusals
+pub mod Arms
+pub mod Acts
+pub mod Taking

@@ -1,10 +1,9 @@
 -- Document 01, "Betting", sentence by sentence; and "in turn" of the table of entries. Assumes nothing.
-use Prim.Native.Nat.{ℕ, _+_, _-_, _≤_}
-use mathlib.Core.Bool.{Bool, not}
+use Prim.Native.Nat.{ℕ, _+_, _-_}
+use mathlib.Core.Bool.{Bool, true, false, not}
 use mathlib.Core.List.{map}
 use lib.Dec.{ltb, leb, eqb}
 use Rattle.paper.specs.Paper.{wrongMoment, wrongSeat, notInTurn, notAllowed, when, orElse}
-use Rattle.paper.specs.SheetAndEntries.{numbersOf}
 use Rattle.paper.specs.declared.Entry.{Entry}
 use Rattle.paper.specs.declared.Entry.the-variants.{Sit, Leave, Hand, Hole, Fold, Check, Call, Wager, Board, Dead, Settle, Void}
 use Rattle.laws.specs.Tests.{both, either, pick}
@@ -96,28 +95,35 @@ wageredTo t s a =
     afterAct (withMark (withChairs t (map (sweepOf (Again (isFullLift t a))) (t .chairs))) a (liftAfter t a)) s
     (actedOf (paidOf (seatOf t s) (a - roundOf (seatOf t s))))
 
--- fold, check, call and wager: kinds 4 to 7 of the table of entries
-abbrev pub IsAct : Entry → Type 0
-IsAct e = (4 ≤ numbersOf e .kind) × (numbersOf e .kind ≤ 7)
+-- the acts of a seat in turn: fold, check, call and wager
+abbrev pub isAct : Entry → Bool
+isAct (Sit s a) = false
+isAct (Leave s) = false
+isAct (Hand s) = false
+isAct (Hole s a b) = false
+isAct (Fold s) = true
+isAct (Check s) = true
+isAct (Call s) = true
+isAct (Wager s a) = true
+isAct (Board k) = false
+isAct (Dead s) = false
+isAct Settle = false
+isAct Void = false
 
--- what a wager to a does to the table but for the seat's own chair and the turn; `wageredTo` says it whole
-abbrev pub liftedTo : Table → ℕ → Table
-liftedTo t a = withMark (withChairs t (map (sweepOf (Again (isFullLift t a))) (t .chairs))) a (liftAfter t a)
-
--- the chair of the seat after its own act, by the mark before; no other entry is an act
-abbrev pub actChair : ℕ → Chair → Entry → Chair
-actChair mark c (Fold s) = foldedOf c
-actChair mark c (Check s) = actedOf c
-actChair mark c (Call s) = actedOf (paidOf c (mark - roundOf c))
-actChair mark c (Wager s a) = actedOf (paidOf c (a - roundOf c))
-actChair mark c (Sit s a) = c
-actChair mark c (Leave s) = c
-actChair mark c (Hand s) = c
-actChair mark c (Hole s a b) = c
-actChair mark c (Board k) = c
-actChair mark c (Dead s) = c
-actChair mark c Settle = c
-actChair mark c Void = c
+-- the chair of the seat that acts, after its act
+abbrev pub actedBy : Table → Chair → Entry → Chair
+actedBy t c (Sit s a) = c
+actedBy t c (Leave s) = c
+actedBy t c (Hand s) = c
+actedBy t c (Hole s a b) = c
+actedBy t c (Fold s) = foldedOf c
+actedBy t c (Check s) = actedOf c
+actedBy t c (Call s) = actedOf (paidOf c (t .play .mark - roundOf c))
+actedBy t c (Wager s a) = actedOf (paidOf c (a - roundOf c))
+actedBy t c (Board k) = c
+actedBy t c (Dead s) = c
+actedBy t c Settle = c
+actedBy t c Void = c
 
 -- dead: "a hand is open, two live or more"; the seat is "live"
 unfoldable pub deadCode : Table → ℕ → ℕ

@@ -77,6 +77,15 @@ payoutBy t (Dead s) = noPayout
 payoutBy t Settle = payoutNow t
 payoutBy t Void = noPayout
 
+-- what the table's state gives an entry that is in its ranges and the next
+unfoldable pub kindTaken : Table → Entry → Taken
+kindTaken t e =
+    record {
+      code = kindCode t e;
+      table = pick (eqb (kindCode t e) taken) (appliedTo t e) t;
+      payout = pick (eqb (kindCode t e) taken) (payoutBy t e) noPayout;
+    }
+
 -- 2: a number outside its range, a seat above `seats`; 3: n is not the next; 4 to 10 by the table's state
 unfoldable pub codeOf : Table → ℕ → Entry → ℕ
 codeOf t n e = orElse (when (not (inRange (t .sheet) n e)) outOfRange) (orElse (when (not (eqb (t .taken + 1) n)) notNext) (kindCode t e))

@@ -1,30 +1,32 @@
 // Document 01, "Betting": who owes, whose turn it is, and fold, check, call, wager, dead. For each the code that refuses it, and the table after it.
+use crate::settle;
 use crate::table;
 use crate::table::Table;
+use crate::table::Taken;
 use chairs::Chair;
-use chairs::Sweep;
 use laws::both;
 use laws::either;
 use paper::Entry;
 use paper::NOT_ALLOWED;
 use paper::NOT_IN_TURN;
+use paper::TAKEN;
 use paper::WRONG_MOMENT;
 use paper::WRONG_SEAT;
 use paper::or_else;
 use paper::when;
 ghost use mathlib.Core.Path.{_≡_};
+ghost use mathlib.Core.Bool.{true};
 ghost use Prim.Native.Nat.{_+_, _-_, _≤_};
-ghost use lib.Dec.{leb, eqb};
+ghost use lib.Dec.{leb};
 ghost use Rattle.laws.specs.Tests.{pick};
+ghost use Rattle.paper.specs.Paper.{inKind};
 ghost use Rattle.paper.specs.SheetAndEntries.{numbersOf};
-ghost use Rattle.chairs.specs.Chairs.{chipsOf, roundOf, actedOf, paidOf};
-ghost use Rattle.table.specs.Betting.{liveHands, firstOwing, nobodyOwes, turnCode, afterAct, checkCode, callCode, mayRaise, isWager, wagerCode, isFullLift, liftAfter, IsAct, actChair, liftedTo, deadCode, turnAfter, deadTo, newRound};
-ghost use Rattle.table.specs.State.{seatOf};
+ghost use Rattle.paper.specs.declared.Entry.the-variants.{Dead};
+ghost use Rattle.chairs.specs.Chairs.{Seats, actedOf, paidOf, roundOf};
+ghost use Rattle.table.specs.State.{seatOf, withChairs, withMark};
+ghost use Rattle.table.specs.Betting.{liveHands, firstOwing, nobodyOwes, turnCode, checkCode, callCode, mayRaise, isWager, wagerCode, isAct, actedBy, isFullLift, liftAfter, deadCode, turnAfter, deadTo};
 ghost use Rattle.table.specs.Standing.{Standing, Seated};
-ghost use Rattle.table.specs.Take.{appliedTo};
-
-// The place of `wager` in the table of entries, from 0.
-const WAGER: u32 = 7;
+ghost use Rattle.table.specs.Take.{Sound, kindCode, kindTaken};
 
 // The codes that stop an act out of its moment, at a seat that is not live, or out of turn. c is the seat's chair, which is read once.
 fn turn_code(t: Table, c: Chair, s: u32) -> u8
@@ -40,30 +42,20 @@ fn turn_code(t: Table, c: Chair, s: u32) -> u8
     )
 }
 
-pub(crate) fn fold_code(t: Table, s: u32) -> u8
-    requires { ⌜ Standing t ⌝ }
-    ensures { λ r. ⌜ r ≡ turnCode t s ⌝ }
-{
-    let c = table::seat_of(t, s);
-    turn_code(t, c, s)
-}
-
 // The round total equals the mark.
-pub(crate) fn check_code(t: Table, s: u32) -> u8
-    requires { ⌜ Standing t ⌝ }
+fn check_code(t: Table, c: Chair, s: u32) -> u8
+    requires { ⌜ Standing t × (c ≡ seatOf t s) ⌝ }
     ensures { λ r. ⌜ r ≡ checkCode t s ⌝ }
 {
-    let c = table::seat_of(t, s);
     let short = chairs::round_of(c) != t.play.mark;
     or_else(turn_code(t, c, s), when(short, NOT_ALLOWED))
 }
 
 // The round total is below the mark.
-pub(crate) fn call_code(t: Table, s: u32) -> u8
-    requires { ⌜ Standing t ⌝ }
+fn call_code(t: Table, c: Chair, s: u32) -> u8
+    requires { ⌜ Standing t × (c ≡ seatOf t s) ⌝ }
     ensures { λ r. ⌜ r ≡ callCode t s ⌝ }
 {
-    let c = table::seat_of(t, s);
     let below = chairs::round_of(c) < t.play.mark;
     or_else(turn_code(t, c, s), when(!below, NOT_ALLOWED))
 }
@@ -93,13 +85,49 @@ fn may_wager(t: Table, c: Chair, a: u32) -> bool
     both(may_raise(c), enough)
 }
 
-pub(crate) fn wager_code(t: Table, s: u32, a: u32) -> u8
-    requires { ⌜ Standing t ⌝ }
+fn wager_code(t: Table, c: Chair, s: u32, a: u32) -> u8
+    requires { ⌜ Standing t × (c ≡ seatOf t s) ⌝ }
     ensures { λ r. ⌜ r ≡ wagerCode t s a ⌝ }
 {
-    let c = table::seat_of(t, s);
     let ok = may_wager(t, c, a);
     or_else(turn_code(t, c, s), when(!ok, NOT_ALLOWED))
+}
+
+// The code of an act. c is the chair of its seat.
+fn act_code(t: Table, c: Chair, e: Entry) -> u8
+    requires { ⌜ Standing t × (isAct e ≡ true) × (c ≡ seatOf t (numbersOf e .seat)) ⌝ }
+    ensures { λ r. ⌜ r ≡ kindCode t e ⌝ }
+{
+    match e {
+        Entry::Fold(s) => turn_code(t, c, s),
+        Entry::Check(s) => check_code(t, c, s),
+        Entry::Call(s) => call_code(t, c, s),
+        Entry::Wager(s, a) => wager_code(t, c, s, a),
+        _ => WRONG_MOMENT,
+    }
+}
+
+// A seat pays what it is short of a in this round, or its whole stack, and has acted.
+fn paying(c: Chair, a: u32) -> Chair
+    requires { ⌜ c .stack + c .dealt .total ≤ 100000000 ⌝ }
+    ensures { λ r. ⌜ r ≡ actedOf (paidOf c (a - roundOf c)) ⌝ }
+{
+    let put = laws::short_of(a, chairs::round_of(c));
+    chairs::acting(chairs::paid(c, put))
+}
+
+// The chair of the seat that acts, after its act.
+fn act_chair(t: Table, c: Chair, e: Entry) -> Chair
+    requires { ⌜ c .stack + c .dealt .total ≤ 100000000 ⌝ }
+    ensures { λ r. ⌜ r ≡ actedBy t c e ⌝ }
+{
+    match e {
+        Entry::Fold(s) => chairs::folded(c),
+        Entry::Check(s) => chairs::acting(c),
+        Entry::Call(s) => paying(c, t.play.mark),
+        Entry::Wager(s, a) => paying(c, a),
+        _ => c,
+    }
 }
 
 // Whether a wager to a, above the mark, is a full lift.
@@ -117,56 +145,8 @@ fn lift_after(t: Table, a: u32) -> u32
     laws::chosen(is_full_lift(t, a), rise, t.play.lift)
 }
 
-// The seat pays what its round total lacks to a, or its whole stack, and has acted.
-fn put_up_to(c: Chair, a: u32) -> Chair
-    requires { ⌜ c .stack + c .dealt .total ≤ 100000000 ⌝ }
-    ensures { λ r. ⌜ r ≡ actedOf (paidOf c (a - roundOf c)) ⌝ }
-{
-    let put = laws::short_of(a, chairs::round_of(c));
-    chairs::acting(chairs::paid(c, put))
-}
-
-// The chair after its own fold, check, call or wager. A chair is small: to make it first lets the four acts share all that is done to the table.
-fn act_chair(mark: u32, c: Chair, e: Entry) -> Chair
-    requires { ⌜ c .stack + c .dealt .total ≤ 100000000 ⌝ }
-    ensures { λ r. ⌜ r ≡ actChair mark c e ⌝ }
-{
-    match e {
-        Entry::Fold(_) => chairs::folded(c),
-        Entry::Check(_) => chairs::acting(c),
-        Entry::Call(_) => put_up_to(c, mark),
-        Entry::Wager(_, a) => put_up_to(c, a),
-        _ => c,
-    }
-}
-
-// A wager's mark becomes a, and every other live seat with chips owes again; a short lift leaves a spent right to raise spent. The other acts leave the table.
-fn lifted(t: Table, kind: u32, a: u32) -> Table
-    requires { ⌜ Seated t ⌝ }
-    ensures { λ r. ⌜ r ≡ pick (eqb kind 7) (liftedTo t a) t ⌝ }
-{
-    if kind != WAGER {
-        return t;
-    }
-    let cs = t.chairs;
-    let full = is_full_lift(t, a);
-    let ds = chairs::seats::sweep_all(cs, t.sheet.seats, Sweep::Again { full });
-    table::with_mark(table::with_chairs(t, ds), a, lift_after(t, a))
-}
-
-// Fold, check, call and wager, which differ in the chair and in the mark alone: so the turn is looked for at one place.
-pub(crate) fn acted(t: Table, e: Entry) -> Table
-    requires { ⌜ (chipsOf (t .chairs) ≤ 100000000) × Seated t × IsAct e × (numbersOf e .seat ≤ t .sheet .seats) ⌝ }
-    ensures { λ r. ⌜ r ≡ appliedTo t e ⌝ }
-{
-    let x = paper::numbers_of(e);
-    let c = act_chair(t.play.mark, table::seat_of(t, x.seat), e);
-    let u = lifted(t, x.kind, x.a);
-    after_act(u, x.seat, c)
-}
-
 // The seat is live, in a hand with two live or more.
-pub(crate) fn dead_code(t: Table, s: u32) -> u8
+fn dead_code(t: Table, s: u32) -> u8
     requires { ⌜ Standing t ⌝ }
     ensures { λ r. ⌜ r ≡ deadCode t s ⌝ }
 {
@@ -189,7 +169,7 @@ fn turn_after(t: Table, u: Table, s: u32) -> u32
 }
 
 // As a fold, in or out of turn.
-pub(crate) fn killed(t: Table, s: u32) -> Table
+fn killed(t: Table, s: u32) -> Table
     requires { ⌜ Seated t × (s ≤ t .sheet .seats) ⌝ }
     ensures { λ r. ⌜ r ≡ deadTo t s ⌝ }
 {
@@ -199,18 +179,16 @@ pub(crate) fn killed(t: Table, s: u32) -> Table
     table::with_turn(u, next)
 }
 
-// A new round: round totals and mark 0, lift big, nobody has acted; the first turn is from the puck seat on.
-pub(crate) fn new_round(t: Table) -> Table
-    requires { ⌜ Seated t × (t .play .puck ≤ t .sheet .seats) ⌝ }
-    ensures { λ r. ⌜ r ≡ newRound t ⌝ }
+// A hand is given up, or that is refused.
+pub(crate) fn dead(t: Table, s: u32) -> Taken
+    requires { ⌜ Sound t × (inKind (t .sheet) (Dead s) ≡ true) ⌝ }
+    ensures { λ r. ⌜ r ≡ kindTaken t (Dead s) ⌝ }
 {
-    let cs = t.chairs;
-    let ds = chairs::seats::sweep_all(cs, t.sheet.seats, Sweep::Round);
-    let big = t.sheet.big;
-    let puck = t.play.puck;
-    let u = table::with_mark(table::with_chairs(t, ds), 0, big);
-    let next = first_owing(u, laws::short_of(puck, 1));
-    table::with_turn(u, next)
+    let k = dead_code(t, s);
+    if k != TAKEN {
+        return settle::judged(t, k);
+    }
+    settle::judged(killed(t, s), TAKEN)
 }
 
 // How many hands are live.
@@ -239,16 +217,57 @@ pub(crate) fn nobody_owes(t: Table) -> bool
     t.play.turn == 0
 }
 
-// The seat s has acted, and its chair is now c: the turn goes on to the first owing seat clockwise.
-fn after_act(t: Table, s: u32, c: Chair) -> Table
-    requires { ⌜ Seated t × (s ≤ t .sheet .seats) ⌝ }
-    ensures { λ r. ⌜ r ≡ afterAct t s c ⌝ }
+// The turn with other chairs and another mark: the first owing seat clockwise from s; where the entry moves no turn, as it was.
+pub(crate) fn next_turn(ok: bool, t: Table, cs: [Chair; 10], mark: u32, s: u32) -> u32
+    requires { ⌜ Seats (t .sheet .seats) cs × (s ≤ t .sheet .seats) ⌝ }
+    ensures { λ r. ⌜ r ≡ pick ok (firstOwing (withMark (withChairs t cs) mark (t .play .lift)) s) (t .play .turn) ⌝ }
 {
-    let cs = t.chairs;
-    let ds = chairs::seats::put_chair(cs, s, c);
-    let next = chairs::seats::turn_from(ds, t.sheet.seats, t.play.mark, s);
+    if ok {
+        chairs::seats::turn_from(cs, t.sheet.seats, mark, s)
+    } else {
+        t.play.turn
+    }
+}
+
+// Fold, check, call and wager. The loop is the sweep of a wager, after which every other hand may act again: `last` is 0 where there is none.
+// The seat's chair is read once and put down once, where the act is refused as it was.
+pub(crate) fn act(t: Table, e: Entry) -> Taken
+    requires { ⌜ Sound t × (inKind (t .sheet) e ≡ true) × (isAct e ≡ true) ⌝ }
+    ensures { λ r. ⌜ r ≡ kindTaken t e ⌝ }
+{
+    let x = paper::numbers_of(e);
+    let mut cs = t.chairs;
+    let i = table::place(x.seat);
+    let c = cs[i];
+    let k = act_code(t, c, e);
+    let ok = k == TAKEN;
+    let d = act_by(ok, t, c, e);
+    let wager = laws::both(ok, x.kind == 7);
+    let full = is_full_lift(t, x.a);
+    let last = laws::chosen(wager, t.sheet.seats, 0) as usize;
+    let mut j: usize = 0;
+    while j < last {
+        let b = cs[j];
+        let g = chairs::again(b, full);
+        cs[j] = g;
+        j += 1;
+    }
+    cs[i] = d;
+    let mark = laws::chosen(wager, x.a, t.play.mark);
+    let lift = laws::chosen(wager, lift_after(t, x.a), t.play.lift);
+    let next = next_turn(ok, t, cs, mark, x.seat);
     let mut u = t;
-    u.chairs = ds;
+    u.chairs = cs;
+    u.play.mark = mark;
+    u.play.lift = lift;
     u.play.turn = next;
-    u
+    settle::judged(u, k)
+}
+
+// The chair after an act, or as it was where the act is refused.
+fn act_by(ok: bool, t: Table, c: Chair, e: Entry) -> Chair
+    requires { ⌜ c .stack + c .dealt .total ≤ 100000000 ⌝ }
+    ensures { λ r. ⌜ r ≡ pick ok (actedBy t c e) c ⌝ }
+{
+    if ok { act_chair(t, c, e) } else { c }
 }

@@ -5,14 +5,14 @@ use crate::table::Board;
 use crate::table::Payout;
 use crate::table::Play;
 use crate::table::Table;
+use crate::table::Taken;
 use chairs::Chair;
 use chairs::Hole;
-use chairs::What;
-use chairs::Who;
 use chairs::seats::PutIn;
 use laws::both;
 use laws::either;
 use paper::CARDS_MISSING;
+use paper::TAKEN;
 use paper::WRONG_MOMENT;
 use paper::or_else;
 use paper::when;
@@ -28,29 +28,24 @@ ghost use Rattle.chairs.specs.Chairs.{chipsOf};
 ghost use Rattle.laws.specs.Tests.{pick};
 ghost use Rattle.pots.specs.Runs.{padded};
 ghost use Rattle.pots.specs.Settle.{sole};
-ghost use Rattle.table.specs.Settle.{Payable, settleCode, totalsOf, livesOf, hereOf, handScore, scoreOf, potsNow, backNow, commissionOf, payoutNow, settledTo, closedPlay, noPayout};
+ghost use Rattle.table.specs.Settle.{Payable, settleCode, totalsOf, livesOf, handScore, scoreOf, potsNow, backNow, commissionOf, payoutNow, settledTo, closedPlay, noPayout};
 ghost use Rattle.table.specs.Standing.{Standing};
-
-// The table after an entry that is taken, and what it pays.
-pub struct Done {
-    pub table: Table,
-    pub payout: Payout,
-}
+ghost use Rattle.table.specs.Take.{Sound, kindTaken};
+ghost use Rattle.paper.specs.declared.Entry.the-variants.{Settle};
 
 // One live; or nobody owes and five board cards lie. With two live or more each live seat has all its cards.
-pub(crate) fn settle_code(t: Table) -> u8
+fn settle_code(t: Table) -> u8
     requires { ⌜ Standing t ⌝ }
     ensures { λ r. ⌜ r ≡ settleCode t ⌝ }
 {
     let cs = t.chairs;
-    let live = betting::lives(t);
+    let k = chairs::passes::shows(cs, t.sheet.seats, t.sheet.game);
     let none = betting::nobody_owes(t);
     let five = t.board.count == 5;
-    let now = both(t.play.opened, either(live == 1, both(none, five)));
-    let bare = chairs::seats::count(cs, t.sheet.seats, Who::Bare(t.sheet.game)) != 0;
+    let now = both(t.play.opened, either(k.hands == 1, both(none, five)));
     or_else(
         when(!now, WRONG_MOMENT),
-        when(both(2 <= live, bare), CARDS_MISSING),
+        when(both(2 <= k.hands, k.bare != 0), CARDS_MISSING),
     )
 }
 
@@ -61,15 +56,6 @@ fn put_in(t: Table) -> PutIn
 {
     let cs = t.chairs;
     chairs::seats::put_in(cs, t.sheet.seats)
-}
-
-// Those that are still there.
-fn here_seats(t: Table) -> u16
-    requires { ⌜ Standing t ⌝ }
-    ensures { λ r. ⌜ r ≡ hereOf t ⌝ }
-{
-    let cs = t.chairs;
-    pots::mask_at(chairs::seats::column(cs, t.sheet.seats, What::Here), 1)
 }
 
 // What is kept of the deck's best hand of two hole cards and the board, any mixture.
@@ -161,20 +147,21 @@ fn payout(t: Table) -> Payout
 {
     let cs = t.chairs;
     let b = t.board;
-    let put = put_in(t);
+    let put = chairs::passes::rows(cs, t.sheet.seats);
     let sc = scores_needed(t.sheet.deck, t.sheet.game, b, cs, put.live);
     let puck = t.play.puck as usize;
     let totals = put.totals;
     let s = pots::hand::settle_hand(totals, put.live, sc, commission(t), puck);
     let due = s.due;
-    let p = pots::hand::pay_out(due, here_seats(t));
+    let p = pots::hand::pay_out(due, put.here);
     let paid = p.paid;
+    let sittings = put.sittings;
     Payout {
         settled: true,
         fee: s.fee,
         drop: s.drop,
         paid,
-        sittings: chairs::seats::column(cs, t.sheet.seats, What::Sitting),
+        sittings,
         unclaimed: p.unclaimed,
     }
 }
@@ -215,24 +202,30 @@ fn shut(t: Table, p: Payout) -> Table
 }
 
 // A settle: the table after it, and what it pays.
-pub(crate) fn settled(t: Table) -> Done
-    requires { ⌜ Payable t × Standing t ⌝ }
-    ensures { λ r. ⌜ (r .table ≡ settledTo t) × (r .payout ≡ payoutNow t) ⌝ }
+pub(crate) fn settle_hand(t: Table) -> Taken
+    requires { ⌜ Sound t ⌝ }
+    ensures { λ r. ⌜ r ≡ kindTaken t Settle ⌝ }
 {
+    let k = settle_code(t);
+    if k != TAKEN {
+        return judged(t, k);
+    }
     let p = payout(t);
     let u = shut(t, p);
-    Done {
+    Taken {
+        code: TAKEN,
         table: u,
         payout: p,
     }
 }
 
-// Any other entry pays nothing.
-pub(crate) fn plain(t: Table) -> Done
-    ensures { λ r. ⌜ (r .table ≡ t) × (r .payout ≡ noPayout) ⌝ }
+// A code and a table, and nothing is paid: any entry but a settle that is taken.
+pub(crate) fn judged(t: Table, k: u8) -> Taken
+    ensures { λ r. ⌜ (r .code ≡ k) × (r .table ≡ t) × (r .payout ≡ noPayout) ⌝ }
 {
     let p = no_payout();
-    Done {
+    Taken {
+        code: k,
         table: t,
         payout: p,
     }

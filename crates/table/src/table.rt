@@ -2,8 +2,9 @@
 use chairs::Chair;
 use paper::Sheet;
 ghost use mathlib.Core.Path.{_≡_};
-ghost use Prim.Native.Nat.{_≤_, _<_};
-ghost use Rattle.table.specs.State.{withChairs, withSitting, withTaken, withTurn, withMark, seatOf, withChair, noBoard, cardAdded, withCard};
+ghost use Prim.Native.Nat.{_+_, _≤_, _<_};
+ghost use Rattle.laws.specs.Tests.{pick};
+ghost use Rattle.table.specs.State.{withChairs, withSitting, withTaken, withTurn, seatOf, withChair, noBoard, cardAdded};
 
 // How the open hand stands; without one, the puck seat of the last.
 pub struct Play {
@@ -63,16 +64,6 @@ pub(crate) fn with_turn(t: Table, s: u32) -> Table
     u
 }
 
-// The table with another mark and lift.
-pub(crate) fn with_mark(t: Table, mark: u32, lift: u32) -> Table
-    ensures { λ r. ⌜ r ≡ withMark t mark lift ⌝ }
-{
-    let mut u = t;
-    u.play.mark = mark;
-    u.play.lift = lift;
-    u
-}
-
 // The table with the count of sittings handed out.
 pub(crate) fn with_sitting(t: Table, k: u32) -> Table
     ensures { λ r. ⌜ r ≡ withSitting t k ⌝ }
@@ -120,17 +111,6 @@ pub(crate) fn card_added(b: Board, card: u32) -> Board
     d
 }
 
-pub(crate) fn with_card(t: Table, card: u32) -> Table
-    requires { ⌜ (t .board .count < 5) × (card ≤ 51) ⌝ }
-    ensures { λ r. ⌜ r ≡ withCard t card ⌝ }
-{
-    let b = t.board;
-    let d = card_added(b, card);
-    let mut u = t;
-    u.board = d;
-    u
-}
-
 pub(crate) fn no_board() -> Board
     ensures { λ r. ⌜ r ≡ noBoard ⌝ }
 {
@@ -138,4 +118,12 @@ pub(crate) fn no_board() -> Board
         count: 0,
         cards: [0; 5],
     }
+}
+
+// The place of a seat's chair among the chairs.
+pub(crate) fn place(s: u32) -> usize
+    requires { ⌜ (1 ≤ s) × (s ≤ 10) ⌝ }
+    ensures { λ r. ⌜ (r + 1 ≡ s) × (r < 10) ⌝ }
+{
+    (s - 1) as usize
 }

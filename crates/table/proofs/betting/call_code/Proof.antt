@@ -4,9 +4,6 @@ use borrow.Author.Needs.{needs}
 use Rattle.table.proofs.betting.call_code.Statement.{statement}
 use Rattle.table.proofs.betting.call_code.Tie as tie
 
-seat-of-requires : tie.Need-seat-of-requires
-seat-of-requires c κs = search needs
-
 round-of-requires : tie.Need-round-of-requires
 round-of-requires c κs = search needs
 
@@ -21,13 +18,12 @@ or-else-requires c κs = search needs
 
 returns : tie.Need-returns
 unfolding callCode
-returns c = rw (c .before .when .ensures, c .before .before .turn-code .ensures, c .before .before .before .before .round-of .ensures, c .before .before .before .before .before .seat-of .ensures) at (c .or-else .ensures)
+returns c = rw (c .before .when .ensures, c .before .before .turn-code .ensures, c .before .before .before .before .round-of .ensures, c .before .before .before .before .before .pre .1) at (c .or-else .ensures)
 
 pub call-code-spec : {M : Type 1} → statement M
 call-code-spec =
     tie.close
     (tie.spec
-    seat-of-requires
     round-of-requires
     turn-code-requires
     when-requires

@@ -4,9 +4,6 @@ use borrow.Author.Needs.{needs}
 use Rattle.table.proofs.betting.wager_code.Statement.{statement}
 use Rattle.table.proofs.betting.wager_code.Tie as tie
 
-seat-of-requires : tie.Need-seat-of-requires
-seat-of-requires c κs = search needs
-
 may-wager-requires : tie.Need-may-wager-requires
 may-wager-requires c κs = search needs
 
@@ -21,13 +18,12 @@ or-else-requires c κs = search needs
 
 returns : tie.Need-returns
 unfolding wagerCode
-returns c = rw (c .before .when .ensures, c .before .before .turn-code .ensures, c .before .before .before .may-wager .ensures, c .before .before .before .before .seat-of .ensures) at (c .or-else .ensures)
+returns c = rw (c .before .when .ensures, c .before .before .turn-code .ensures, c .before .before .before .may-wager .ensures, c .before .before .before .before .pre .1) at (c .or-else .ensures)
 
 pub wager-code-spec : {M : Type 1} → statement M
 wager-code-spec =
     tie.close
     (tie.spec
-    seat-of-requires
     may-wager-requires
     turn-code-requires
     when-requires

@@ -4,9 +4,6 @@ use borrow.Author.Needs.{needs}
 use Rattle.table.proofs.sittings.sit_code.Statement.{statement}
 use Rattle.table.proofs.sittings.sit_code.Tie as tie
 
-seat-of-requires : tie.Need-seat-of-requires
-seat-of-requires c κs = search needs
-
 chips-requires : tie.Need-chips-requires
 chips-requires c κs = search needs
 
@@ -24,13 +21,12 @@ or-else-requires c κs = search needs
 
 returns : tie.Need-returns
 unfolding sitCode
-returns c = rw (c .before .when2 .ensures, c .before .before .when .ensures, c .before .before .before .too-many .ensures, c .before .before .before .before .chips .ensures, c .before .before .before .before .before .before .before .seat-of .ensures) at (c .or-else .ensures)
+returns c = rw (c .before .when2 .ensures, c .before .before .when .ensures, c .before .before .before .too-many .ensures, c .before .before .before .before .chips .ensures, c .before .before .before .before .before .before .before .pre .1) at (c .or-else .ensures)
 
 pub sit-code-spec : {M : Type 1} → statement M
 sit-code-spec =
     tie.close
     (tie.spec
-    seat-of-requires
     chips-requires
     too-many-requires
     when-requires

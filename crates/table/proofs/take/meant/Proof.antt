@@ -1,0 +1,13 @@
+-- `meant` meets its contract.
+use borrow.Author.Tests.{eq-eqb, ne-eqb}
+use Rattle.table.proofs.take.meant.Statement.{statement}
+use Rattle.table.proofs.take.meant.Tie as tie
+
+returns : tie.Need-returns
+returns c = rw (eq-eqb _ 0 (c .if1 .taken))
+
+returns-2 : tie.Need-returns-2
+returns-2 c = rw (ne-eqb _ 0 (c .if1 .left))
+
+pub meant-spec : {M : Type 1} → statement M
+meant-spec = tie.close (tie.spec returns returns-2)
