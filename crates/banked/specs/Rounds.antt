@@ -7,7 +7,7 @@ use Rattle.laws.specs.Tests.{pick, either}
 use Rattle.paper.specs.RefusalNumbers.{taken, outOfRange, when, orElse}
 use Rattle.banked.specs.Hands.{playersHand, dealersHand, playersFlopHand, dealersFlopHand, standingOf, highCard, cardTwice}
 use Rattle.banked.specs.Fates.{anteFate, playFate, jackpotFate, playerExtraFate, dealerExtraFate}
-use Rattle.banked.specs.Books.{Wager, Gain, noGain, andGain, back, playersGains, housesGains}
+use Rattle.banked.specs.Books.{Wager, Gain, andGain, back, playersGains, housesGains}
 use Rattle.banked.specs.declared.Round.{Round}
 use Rattle.banked.specs.declared.Choice.{Choice}
 use Rattle.banked.specs.declared.Choice.the-variants.{Fold, Stay}
@@ -170,9 +170,6 @@ pub record Bounded (r : Round) : Type 0 where
 pub record Books : Type 0 where
   pub player : Gain
   pub house : Gain
-
-abbrev pub emptyBooks : Books
-emptyBooks = record { player = noGain; house = noGain }
 
 -- after one round more: a refused one changes nothing
 unfoldable pub booksAfter : Books → Round → Books

@@ -3,7 +3,7 @@ use mathlib.Core.Path.{_≡_, refl, sym, ap, _∙_}
 use mathlib.Core.Bool.{Bool, true, false}
 use Prim.Native.Nat.{ℕ, zero, suc, _≤_, _<_}
 use native.Mathlib.Omega.{arith}
-use borrow.Author.Tests.{le-leb, lt-leb, ltb-true, eqb-true}
+use borrow.Author.Tests.{le-leb, ltb-true, eqb-true}
 use lib.Dec.{ltb, eqb}
 use Rattle.laws.specs.Tests.{both, pick}
 use Rattle.laws.proofs.Tests.{both-true}
@@ -17,12 +17,6 @@ use Rattle.blocks.specs.Entry.{entryAt, parsedOf}
 use Rattle.blocks.specs.declared.Parsed.the-variants.{Read, OutOfRange}
 
 module _ (from to x : ℕ) where
-  pub below-range : x < from → between from to x ≡ false
-  below-range h = rw (lt-leb from x h)
-
-  pub above-range : from ≤ x → to < x → between from to x ≡ false
-  above-range h k = rw (le-leb from x h, lt-leb x to k)
-
   pub in-range : from ≤ x → x ≤ to → between from to x ≡ true
   in-range h k = rw (le-leb from x h, le-leb x to k)
 

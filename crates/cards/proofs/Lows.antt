@@ -10,11 +10,6 @@ use Rattle.laws.specs.Often.{count, SameNumbers}
 use Rattle.cards.specs.Packed.{digits}
 use Rattle.cards.specs.Searching.{lows, units}
 
-pub units-over : (k : ℕ) → 0 < units k
-unfolding units
-units-over zero = omega arith
-units-over (suc k) = omega (arith, units-over k)
-
 pub lows-length : (k n : ℕ) → length (lows k n) ≡ k
 unfolding lows
 lows-length zero n = refl

@@ -45,11 +45,6 @@ values-next t p k c l =
 abbrev Met : List ℕ → List (List ℕ) → Type 0
 Met m ms = List·Memᴰ m ms
 
-choices-on : (k c : ℕ) (l m : List ℕ) → Met m (choices k l) → Met m (choices k (c ∷ l))
-unfolding choices
-choices-on zero c l m i = i
-choices-on (suc k) c l m i = Memᴰ·append-right (map (λ n. c ∷ n) (choices k l)) i
-
 -- what is left of l when s are skipped is a choice of the others, and the other way round
 left-choice : (s k : ℕ) (l m : List ℕ) → s + k ≡ length l → Met m (leaving s l) → Met m (choices k l)
 unfolding leaving choices

@@ -1,17 +1,15 @@
 -- A sum over chairs, and a fact of every chair, after one chair is put down or every chair is swept. Over any number of chairs.
 -- Assumes nothing.
-use Prim.Native.Nat.{ℕ, zero, suc, _+_, _-_, _≤_, min}
+use Prim.Native.Nat.{ℕ, zero, suc, _+_, _-_, _≤_}
 use mathlib.Core.Bool.{Bool, true, false}
-use mathlib.Core.Path.{_≡_, refl, sym, ap, ap₂, subst}
+use mathlib.Core.Path.{_≡_, refl, sym, ap}
 use mathlib.Core.List.{List, [], _∷_, map}
 use native.Mathlib.Omega.{arith}
 use lib.Dec.{eqb}
-use borrow.Author.Tests.{eqb-true, eqb-false}
 use Rattle.laws.specs.Tests.{pick}
-use Rattle.chairs.specs.Chairs.{chairAt, putAt, noChair, closeAll, closedOf, paidOf}
+use Rattle.chairs.specs.Chairs.{chairAt, putAt, noChair}
 pub use Rattle.laws.specs.Lists.{All}
 use Rattle.chairs.specs.declared.Chair.{Chair}
-use Rattle.chairs.proofs.Clockwise.{put-other}
 
 abbrev pub sumOver : (Chair → ℕ) → List Chair → ℕ
 sumOver g [] = 0
@@ -25,25 +23,8 @@ over-up g [] (suc k) d m e z = omega (arith, z refl)
 over-up g (c ∷ cs) (suc zero) d m e z = omega (arith, e)
 over-up g (c ∷ cs) (suc (suc k)) d m e z = omega (arith, over-up g cs (suc k) d m e z)
 
--- a chair with less
-pub over-down : (g : Chair → ℕ) (cs : List Chair) (x : ℕ) (d : Chair) (m : ℕ) → g d + m ≡ g (chairAt cs x) → (chairAt cs x ≡ noChair → m ≡ 0)
-    → sumOver g (putAt cs x d) + m ≡ sumOver g cs
-over-down g cs zero d m e z = omega (arith, z refl)
-over-down g [] (suc k) d m e z = omega (arith, z refl)
-over-down g (c ∷ cs) (suc zero) d m e z = omega (arith, e)
-over-down g (c ∷ cs) (suc (suc k)) d m e z = omega (arith, over-down g cs (suc k) d m e z)
-
 pub over-same : (g : Chair → ℕ) (cs : List Chair) (x : ℕ) (d : Chair) → g d ≡ g (chairAt cs x) → sumOver g (putAt cs x d) ≡ sumOver g cs
 over-same g cs x d e = omega (arith, over-up g cs x d 0 (omega (arith, e)) (λ z. refl))
-
-pub over-map : (f : Chair → Chair) (g h : Chair → ℕ) (cs : List Chair) → ((c : Chair) → g (f c) ≡ h c) → sumOver g (map f cs) ≡ sumOver h cs
-over-map f g h [] e = refl
-over-map f g h (c ∷ cs) e = ap₂ _+_ (e c) (over-map f g h cs e)
-
-pub over-close : (g h : Chair → ℕ) (cs : List Chair) (ps : List ℕ) → ((c : Chair) (p : ℕ) → g (closedOf c p) ≡ h c) → sumOver g (closeAll cs ps) ≡ sumOver h cs
-over-close g h [] ps e = refl
-over-close g h (c ∷ cs) [] e = ap₂ _+_ (e c 0) (over-close g h cs [] e)
-over-close g h (c ∷ cs) (p ∷ ps) e = ap₂ _+_ (e c p) (over-close g h cs ps e)
 
 pub over-le : (g h : Chair → ℕ) (cs : List Chair) → ((c : Chair) → g c ≤ h c) → sumOver g cs ≤ sumOver h cs
 over-le g h [] e = omega arith
@@ -52,12 +33,6 @@ over-le g h (c ∷ cs) e = omega (arith, e c, over-le g h cs e)
 pub over-zero : (g : Chair → ℕ) (cs : List Chair) → ((c : Chair) → g c ≡ 0) → sumOver g cs ≡ 0
 over-zero g [] e = refl
 over-zero g (c ∷ cs) e = omega (arith, e c, over-zero g cs e)
-
-pub over-one : (g : Chair → ℕ) (cs : List Chair) (x : ℕ) → g noChair ≡ 0 → g (chairAt cs x) ≤ sumOver g cs
-over-one g cs zero z = omega (arith, z)
-over-one g [] (suc k) z = omega (arith, z)
-over-one g (c ∷ cs) (suc zero) z = omega arith
-over-one g (c ∷ cs) (suc (suc k)) z = omega (arith, over-one g cs (suc k) z)
 
 -- f of the chairs with a key of s; where one chair at most has it, that is f of the chair
 abbrev pub keyed : (Chair → ℕ) → ℕ → (Chair → ℕ) → Chair → ℕ
@@ -109,40 +84,6 @@ module _ (P : Chair → Type 0) where
   pub all-map : (Q : Chair → Type 0) (f : Chair → Chair) (cs : List Chair) → All P cs → ((c : Chair) → P c → Q (f c)) → All Q (map f cs)
   all-map Q f [] a h = tt
   all-map Q f (c ∷ cs) a h = (h c (a .0), all-map Q f cs (a .1) h)
-
--- the stack and the hand record's sitting at seat y after seat x has put in up to m
-stack-same : (cs : List Chair) (x m : ℕ) → chairAt (putAt cs x (paidOf (chairAt cs x) m)) x .stack ≡ chairAt cs x .stack - min m (chairAt cs x .stack)
-stack-same cs zero m = omega arith
-stack-same [] (suc k) m = omega arith
-stack-same (c ∷ cs) (suc zero) m = refl
-stack-same (c ∷ cs) (suc (suc k)) m = stack-same cs (suc k) m
-
-stack-other : (cs : List Chair) (x y : ℕ) (d : Chair) → (x ≡ y → ⊥) → chairAt (putAt cs x d) y .stack ≡ chairAt cs y .stack
-stack-other cs x y d h = ap (λ (c : Chair). c .stack) (put-other cs x y d h)
-
-pub paid-stack : (cs : List Chair) (x y m : ℕ)
-    → chairAt (putAt cs x (paidOf (chairAt cs x) m)) y .stack ≡ chairAt cs y .stack - pick (eqb x y) (min m (chairAt cs x .stack)) 0
-paid-stack cs x y m = go (eqb x y) refl
-  where
-    go : (b : Bool) → eqb x y ≡ b → chairAt (putAt cs x (paidOf (chairAt cs x) m)) y .stack ≡ chairAt cs y .stack - pick b (min m (chairAt cs x .stack)) 0
-    go true e = subst (λ (z : ℕ). chairAt (putAt cs x (paidOf (chairAt cs x) m)) z .stack ≡ chairAt cs z .stack - min m (chairAt cs x .stack)) (eqb-true x y e) (stack-same cs x m)
-    go false e = omega (arith, stack-other cs x y (paidOf (chairAt cs x) m) (eqb-false x y e))
-
-pub paid-dealt : (cs : List Chair) (x y m : ℕ) → chairAt (putAt cs x (paidOf (chairAt cs x) m)) y .dealt .sitting ≡ chairAt cs y .dealt .sitting
-paid-dealt cs zero y m = refl
-paid-dealt [] (suc k) y m = refl
-paid-dealt (c ∷ cs) (suc zero) zero m = refl
-paid-dealt (c ∷ cs) (suc zero) (suc zero) m = refl
-paid-dealt (c ∷ cs) (suc zero) (suc (suc j)) m = refl
-paid-dealt (c ∷ cs) (suc (suc k)) zero m = refl
-paid-dealt (c ∷ cs) (suc (suc k)) (suc zero) m = refl
-paid-dealt (c ∷ cs) (suc (suc k)) (suc (suc j)) m = paid-dealt cs (suc k) (suc j) m
-
-pub over-put : (g : Chair → ℕ) (cs : List Chair) (x : ℕ) (d : Chair) → sumOver g (putAt cs x d) ≤ sumOver g cs + g d
-over-put g cs zero d = omega arith
-over-put g [] (suc k) d = omega arith
-over-put g (c ∷ cs) (suc zero) d = omega arith
-over-put g (c ∷ cs) (suc (suc k)) d = omega (arith, over-put g cs (suc k) d)
 
 -- a sweep that leaves an empty chair as it is
 pub map-at : (f : Chair → Chair) (cs : List Chair) (x : ℕ) → f noChair ≡ noChair → chairAt (map f cs) x ≡ f (chairAt cs x)

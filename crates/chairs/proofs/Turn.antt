@@ -25,6 +25,10 @@ module _ (p : Chair → Bool) (cs : List Chair) (n : ℕ) where
   pub first-end : (k : ℕ) → n ≤ k → firstAfter k ≡ 0
   first-end k l = let e : n - k ≡ 0 = omega arith in ap (λ m. firstOf p cs (seatsFrom k m)) e
 
+  -- after none they are all
+  pub first-all : firstAfter 0 ≡ firstOf p cs (seatsFrom 0 n)
+  first-all = let e : n - 0 ≡ n = omega arith in ap (λ m. firstOf p cs (seatsFrom 0 m)) e
+
   -- one seat down
   pub first-down : (i : ℕ) (b : Bool) (f : ℕ) → 0 < i → i ≤ n → p (getD cs (i - 1) noChair) ≡ b → f ≡ firstAfter i → pick b (i - 1 + 1) f ≡ firstAfter (i - 1)
   first-down i b f l m e q =
@@ -84,7 +88,7 @@ module _ (cs : List Chair) (n m s h k : ℕ) (a : h ≡ countOf (wantOf Live) cs
   pub turn-alone : (r : ℕ) → 2 ≤ h → k ≤ 1 → r ≡ firstOf (wantOf (Owing m true)) cs (clockwise n s) → r ≡ turnOf
   turn-alone r l u e = rw (le-leb 2 (countOf (wantOf Live) cs) (omega (arith, a)), le-leb (countOf (wantOf LiveWithChips) cs) 1 (omega (arith, b))) e
 
-  pub turn-more : (r f o : ℕ) → s ≤ n → 2 ≤ h → 2 ≤ k → f ≡ firstAfter (wantOf (Owing 0 false)) cs n 0 → o ≡ firstAfter (wantOf (Owing 0 false)) cs n s → r ≡ pick (eqb o 0) f o → r ≡ turnOf
+  pub turn-more : (r f o : ℕ) → s ≤ n → 2 ≤ h → 2 ≤ k → f ≡ firstOf (wantOf (Owing 0 false)) cs (seatsFrom 0 n) → o ≡ firstAfter (wantOf (Owing 0 false)) cs n s → r ≡ pick (eqb o 0) f o → r ≡ turnOf
   turn-more r f o w l u x y e =
-      let q : r ≡ firstOf (wantOf (Owing m false)) cs (clockwise n s) = e ∙ ap₂ (λ f o. pick (eqb o 0) f o) x y ∙ sym (clock-two (wantOf (Owing m false)) cs n s w) in
+      let q : r ≡ firstOf (wantOf (Owing m false)) cs (clockwise n s) = e ∙ ap₂ (λ f o. pick (eqb o 0) f o) (x ∙ sym (first-all (wantOf (Owing m false)) cs n)) y ∙ sym (clock-two (wantOf (Owing m false)) cs n s w) in
       rw (le-leb 2 (countOf (wantOf Live) cs) (omega (arith, a)), lt-leb (countOf (wantOf LiveWithChips) cs) 1 (omega (arith, b))) q

@@ -1,12 +1,9 @@
 // The chairs of a table: counts, the first seat clockwise, and what is read off or befalls every chair. One loop each, over the table's seats:
 // a chair above them is one that nobody ever had, and adds nothing.
 use crate::Chair;
-use crate::Sweep;
-use crate::What;
-use crate::Who;
 ghost use mathlib.Core.Path.{_≡_};
 ghost use Prim.Native.Nat.{ℕ, _+_, _-_, _≤_, _<_};
-ghost use mathlib.Core.Bool.{false};
+ghost use mathlib.Core.Bool.{true, false};
 ghost use lib.Dec.{leb};
 ghost use Rattle.laws.specs.Tests.{pick};
 ghost use lib.ListN.{getD};
@@ -14,30 +11,22 @@ ghost use mathlib.Core.List.{map};
 ghost use Rattle.pots.specs.Heights.{maskAt};
 ghost use Rattle.chairs.specs.declared.Who.the-variants.{Live, LiveWithChips, Holding, Owing};
 ghost use Rattle.chairs.specs.declared.What.the-variants.{Total, Live as OfLive};
-ghost use Rattle.chairs.specs.Chairs.{wantOf, sweepOf, columnOf, noChair, chairAt, putAt, countOf, chipsOf, firstOf, seatsFrom, clockwise, closeAll, Seats};
+ghost use Rattle.chairs.specs.Chairs.{wantOf, columnOf, noChair, chairAt, putAt, countOf, chipsOf, firstOf, seatsFrom, clockwise, closeAll, Seats};
 
-// How many hands are live, and how many of those have chips.
-pub struct LiveCount {
-    pub hands: u32,
-    pub stacks: u32,
-}
-
-// Both counts in one pass, since whoever looks for an owing seat needs both.
-pub fn lives(cs: [Chair; 10], seats: u32) -> LiveCount
+// How many hands are live.
+pub fn lives(cs: [Chair; 10], seats: u32) -> u32
     requires { ⌜ Seats seats cs ⌝ }
-    ensures { λ r. ⌜ (r .hands ≡ countOf (wantOf Live) cs) × (r .stacks ≡ countOf (wantOf LiveWithChips) cs) ⌝ }
+    ensures { λ r. ⌜ r ≡ countOf (wantOf Live) cs ⌝ }
 {
     let last = seats as usize;
     let mut hands: u32 = 0;
-    let mut stacks: u32 = 0;
     let mut i: usize = 0;
     while i < last {
         let c = cs[i];
         hands += laws::one(c.dealt.live);
-        stacks += laws::one(crate::live_with_chips(c));
         i += 1;
     }
-    LiveCount { hands, stacks }
+    hands
 }
 
 // How many hands one card was entered for, and how many another.
@@ -107,16 +96,16 @@ fn place_on(s: u32, k: u32, seats: u32) -> usize
     }
 }
 
-// The first seat clockwise from s, which comes last, that is looked for; 0 where there is none.
-pub fn first_from(cs: [Chair; 10], seats: u32, w: Who, s: u32) -> u32
+// The first seat clockwise from s, which comes last, that owes where no other live hand has chips; 0 where there is none.
+fn first_from(cs: [Chair; 10], seats: u32, mark: u32, s: u32) -> u32
     requires { ⌜ (s ≤ seats) × (seats ≤ 10) ⌝ }
-    ensures { λ r. ⌜ r ≡ firstOf (wantOf w) cs (clockwise seats s) ⌝ }
+    ensures { λ r. ⌜ r ≡ firstOf (wantOf (Owing mark true)) cs (clockwise seats s) ⌝ }
 {
     let mut k: u32 = 0;
     while k < seats {
         let i = place_on(s, k, seats);
         let c = cs[i];
-        if crate::wants(w, c) {
+        if crate::owes(c, mark, true) {
             return i as u32 + 1;
         }
         k += 1;
@@ -124,7 +113,8 @@ pub fn first_from(cs: [Chair; 10], seats: u32, w: Who, s: u32) -> u32
     0
 }
 
-// What the turn is found by: both counts of live hands; the first seat that owes where more than one of these has chips, of all and of those after a seat; 0 for none.
+// What the turn is found by: how many hands are live, and how many of these have chips; and the first seat that owes where more than one has, of
+// all seats and of those after one; 0 for none.
 struct Sought {
     hands: u32,
     stacks: u32,
@@ -135,7 +125,7 @@ struct Sought {
 // All four in one pass, from the last seat to the first.
 fn seek(cs: [Chair; 10], seats: u32, s: u32) -> Sought
     requires { ⌜ Seats seats cs × (s ≤ seats) ⌝ }
-    ensures { λ r. ⌜ (r .hands ≡ countOf (wantOf Live) cs) × (r .stacks ≡ countOf (wantOf LiveWithChips) cs) × (r .first ≡ firstOf (wantOf (Owing 0 false)) cs (seatsFrom 0 (seats - 0))) × (r .over ≡ firstOf (wantOf (Owing 0 false)) cs (seatsFrom s (seats - s))) ⌝ }
+    ensures { λ r. ⌜ (r .hands ≡ countOf (wantOf Live) cs) × (r .stacks ≡ countOf (wantOf LiveWithChips) cs) × (r .first ≡ firstOf (wantOf (Owing 0 false)) cs (seatsFrom 0 seats)) × (r .over ≡ firstOf (wantOf (Owing 0 false)) cs (seatsFrom s (seats - s))) ⌝ }
 {
     let from = s as usize;
     let mut hands: u32 = 0;
@@ -169,11 +159,7 @@ pub fn turn_from(cs: [Chair; 10], seats: u32, mark: u32, s: u32) -> u32
         return 0;
     }
     if k.stacks <= 1 {
-        let w = Who::Owing {
-            mark: mark,
-            alone: true,
-        };
-        return first_from(cs, seats, w, s);
+        return first_from(cs, seats, mark, s);
     }
     laws::chosen(k.over == 0, k.first, k.over)
 }
@@ -192,38 +178,6 @@ pub fn chips(cs: [Chair; 10], seats: u32) -> u64
         i += 1;
     }
     n
-}
-
-// What befalls every chair; it leaves one that nobody ever had as it is.
-pub fn sweep_all(cs: [Chair; 10], seats: u32, k: Sweep) -> [Chair; 10]
-    requires { ⌜ Seats seats cs ⌝ }
-    ensures { λ r. ⌜ r ≡ map (sweepOf k) cs ⌝ }
-{
-    let last = seats as usize;
-    let mut ds = cs;
-    let mut i: usize = 0;
-    while i < last {
-        let c = ds[i];
-        let d = crate::swept(k, c);
-        ds[i] = d;
-        i += 1;
-    }
-    ds
-}
-
-// A number read off every chair, from the last seat to the first.
-pub fn column(cs: [Chair; 10], seats: u32, k: What) -> [u32; 10]
-    requires { ⌜ Seats seats cs ⌝ }
-    ensures { λ r. ⌜ r ≡ map (columnOf k) cs ⌝ }
-{
-    let mut a = [0u32; 10];
-    let mut i = seats as usize;
-    while 0 < i {
-        i -= 1;
-        let c = cs[i];
-        a[i] = crate::reading(k, c);
-    }
-    a
 }
 
 // What a clerk finds the pots from: what each sitting dealt in has put in, and which hands are live, as a mask.

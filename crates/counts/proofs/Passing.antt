@@ -127,14 +127,6 @@ leaving-later : (r x : ℕ) (l : List ℕ) → eqb r x ≡ false → leaving r (
 unfolding leaving
 leaving-later r x l e = ap (λ (b : Bool). pick b (leaving r l) (x ∷ leaving r l)) e
 
-pub leaving-drops : (r x : ℕ) (l : List ℕ) → Drops x l → Drops x (leaving r l)
-leaving-drops r x [] d = unfold leaving in tt
-leaving-drops r x (y ∷ l) d =
-    ⊎-elim
-    (λ (e : eqb r y ≡ true). subst (Drops x) (sym (leaving-here r y l e)) (drops-up y x (leaving r l) (omega (arith, d .0)) (leaving-drops r y l (d .1))))
-    (λ (e : eqb r y ≡ false). subst (Drops x) (sym (leaving-later r y l e)) (d .0, leaving-drops r y l (d .1)))
-    (test (eqb r y))
-
 -- the others are as often there, and the one is not
 pub leaving-less : (r x : ℕ) (l : List ℕ) → count x (leaving r l) ≤ count x l
 leaving-less r x [] = unfold leaving in omega arith

@@ -14,7 +14,6 @@ use Rattle.paper.specs.Paper.{standIn}
 use Rattle.paper.specs.RefusalNumbers.{taken}
 use Rattle.paper.specs.declared.Sheet.{Sheet}
 use Rattle.text.specs.Line.{numberLine}
-use Rattle.text.specs.Codes.{eleven}
 use Rattle.text.specs.declared.Number.{Number}
 use Rattle.text.specs.declared.Number.the-variants.{Value, Bad}
 use Rattle.text.specs.declared.sheet.SheetRead.{SheetRead}
@@ -83,9 +82,6 @@ pub sound-at : (p : Pair) (second : Bool) → Good p → Sound (tableAt (p .tabl
 sound-at p true g = g .second
 sound-at p false g = g .first
 
-pub good-pool : (p : Pair) (shut : Bool) (q : Pool) → Good p → q .held ≤ most → Good (record { shut = shut; tables = p .tables; pool = q; house = p .house })
-good-pool p shut q g h = record { two = g .two; first = g .first; second = g .second; held = h; house = g .house }
-
 pub started : {t : Table} → (t ≡ freshTable standIn) × Sound t
     → (record { shut = false; tables = t ∷ t ∷ []; pool = record { held = 0 }; house = 0 } ≡ startOf) × Good (record { shut = false; tables = t ∷ t ∷ []; pool = record { held = 0 }; house = 0 })
 started {t} e = (
@@ -147,10 +143,6 @@ last-one only p {out} s n =
 
 nothing-written : {out : List ℕ} → Wrote [] out out 0
 nothing-written {out} = record { count = refl; sheet = refl }
-
-pub refuse-gave : (p : Pair) {out new : List ℕ} {w : ℕ} → Wrote eleven out new w
-    → Gave (refused p) out new (record { shut = true; tables = p .tables; pool = p .pool; house = p .house }) w
-refuse-gave p w = record { pair = refl; wrote = w }
 
 pub opened-held : {o : opens.PoolOpened} (v : ℕ) → o ≡ openedWith v → o .code ≡ taken → o .pool .held ≤ most
 unfolding openedWith

@@ -14,7 +14,7 @@ use Rattle.table.specs.Take.{codeOf, nextOf, takenOf}
 use Rattle.table.specs.declared.table.Table.{Table}
 use Rattle.table.specs.declared.table.Taken.{Taken}
 use Rattle.records.specs.Stored.{putRow}
-use Rattle.fresh.specs.Reading.{playedOf, playedFrom, replacing, stackOf, rowedOf, indexAfter, rowedBy, indexBy, rowedFrom, indexFrom, isHand}
+use Rattle.fresh.specs.Reading.{playedOf, replacing, stackOf, rowedOf, indexAfter, rowedBy, indexBy, rowedFrom, indexFrom, isHand}
 use Rattle.fresh.specs.declared.Played.{Played}
 use Rattle.fresh.specs.declared.Rowed.{Rowed}
 
@@ -41,11 +41,6 @@ here-it-is k at e f h = sym (ap (λ (b : Bool). pick b e (f k)) (eq-eqb k at h))
 
 pub another : (k at : ℕ) (e : Entry) (f : ℕ → Entry) {x : Entry} → (k ≡ at → ⊥) → x ≡ f k → x ≡ replacing at e f k
 another k at e f n h = h ∙ sym (ap (λ (b : Bool). pick b e (f k)) (ne-eqb k at n))
-
-pub played-turn : (p₀ : Played) (f : ℕ → Entry) (k : ℕ) {p r : Played} {x : Entry} → p ≡ playedFrom p₀ f k → x ≡ f k → r ≡ playedOf p (k + 1) x
-    → r ≡ playedFrom p₀ f (k + 1)
-played-turn p₀ f k {p} {r} {x} g h e =
-    e ∙ ap (λ (q : Played). playedOf q (k + 1) x) g ∙ ap (playedOf (playedFrom p₀ f k) (k + 1)) h ∙ ap (playedFrom p₀ f) (sym (add-one k))
 
 -- ---- the rows
 

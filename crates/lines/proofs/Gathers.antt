@@ -15,7 +15,7 @@ use Rattle.laws.proofs.Tests.{test}
 use Rattle.laws.proofs.Sums.{le-or-lt}
 use Rattle.text.specs.Line.{afterLines}
 use Rattle.text.specs.TableSheet.{sheetLines}
-use Rattle.lines.specs.Kept.{Kept, nothing, badOf, keepOf, keepAll, Gathered, further, gatherOf, fillOf, Room, linesOf}
+use Rattle.lines.specs.Kept.{Kept, nothing, badOf, keepOf, keepAll, Gathered, further, gatherOf, fillOf, Room}
 use Rattle.lines.proofs.Keeps.{bad-when}
 use Rattle.lines.proofs.Cut.{lfs, lfs-append, kept-lines, keep-lf, keep-in, keep-out, after-lf, after-on}
 
@@ -31,13 +31,6 @@ gather-keeps want k [] = refl
 gather-keeps want k (b ∷ bs) = ⊎-elim
     (λ e. subst (λ (g : Gathered). g .kept ≡ keepAll k (take (g .used) (b ∷ bs))) (sym (gather-ends want k b bs e)) refl)
     (λ e. subst (λ (g : Gathered). g .kept ≡ keepAll k (take (g .used) (b ∷ bs))) (sym (gather-goes want k b bs e)) (gather-keeps want (keepOf k b) bs))
-    (test (leb want (keepOf k b .lines)))
-
-pub gather-within : (want : ℕ) (k : Kept) (part : List ℕ) → gatherOf want k part .used ≤ length part
-gather-within want k [] = omega arith
-gather-within want k (b ∷ bs) = ⊎-elim
-    (λ e. omega (arith, ap (λ (g : Gathered). g .used) (gather-ends want k b bs e)))
-    (λ e. omega (arith, ap (λ (g : Gathered). g .used) (gather-goes want k b bs e), gather-within want (keepOf k b) bs))
     (test (leb want (keepOf k b .lines)))
 
 pub gather-some : (want : ℕ) (k : Kept) (part : List ℕ) → 0 < length part → 0 < gatherOf want k part .used
@@ -185,8 +178,3 @@ gather-room want k (b ∷ bs) w h r = ⊎-elim
     (λ e. subst (λ (g : Gathered). Room (fillOf (g .kept))) (sym (gather-goes want k b bs e))
     (gather-room want (keepOf k b) bs w (leb-false want (keepOf k b .lines) e) (keep-room k b r (omega arith))))
     (test (leb want (keepOf k b .lines)))
-
--- something is read together, before the sheet was read and after
-pub lines-some : (opened : Bool) → 0 < linesOf opened
-lines-some true = omega arith
-lines-some false = omega arith

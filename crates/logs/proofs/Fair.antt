@@ -46,10 +46,6 @@ pub record Stands (sheet : Sheet) (log : List ℕ) : Type 0 where
   pub copy : blockCopy sheet log ≡ entryText n entry
   pub back : log ≡ entryText n entry ++ restOf log
 
-when-two : (t : Bool) → when (not t) 2 ≡ 0 → t ≡ true
-when-two true e = refl
-when-two false e = absurd (omega arith)
-
 block-case : (sheet : Sheet) (log : List ℕ) → ((blockCopy sheet log ≡ []) × (blockCode sheet log ≡ 0 → ⊥)) ⊎ Stands sheet log
 unfolding blockCopy blockCode
 block-case sheet log = form (blockOf log) refl

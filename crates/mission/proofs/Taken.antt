@@ -22,7 +22,7 @@ use Rattle.table.specs.State.{seatOf}
 use Rattle.table.specs.Settle.{settleCode}
 use Rattle.table.specs.Take.{kindCode, codeOf}
 use Rattle.table.specs.declared.table.Table.{Table}
-use Rattle.mission.specs.Allowed.{SomeoneOwes, MaySit, MayLeave, MayOpen, MayHole, MayAct, MayCheck, MayCall, MayWager, MayBoard, MayDead, MaySettle, May, Allowed}
+use Rattle.mission.specs.Allowed.{MaySit, MayLeave, MayOpen, MayHole, MayAct, MayCheck, MayCall, MayWager, MayBoard, MayDead, MaySettle, May, Allowed}
 use Rattle.mission.proofs.Someone.{someone, nobody, not-nobody}
 
 -- ---- a code of 0, and its parts
@@ -68,14 +68,6 @@ off false h = absurd (false≢true h)
 on : (b : Bool) → b ≡ false → not b ≡ true
 on true h = absurd (true≢false h)
 on false h = refl
-
-ne-true : (b : Bool) → (b ≡ false → ⊥) → b ≡ true
-ne-true true h = refl
-ne-true false h = absurd (h refl)
-
--- nobody owes, and someone does
-owed-someone : (t : Table) → nobodyOwes t ≡ false → SomeoneOwes t
-owed-someone t h = someone t h
 
 -- ---- fold, check, call, wager
 

@@ -19,7 +19,7 @@ use Rattle.blocks.specs.Front.{blockEnded, frontOf}
 use Rattle.blocks.specs.declared.front.Front.{Front}
 use Rattle.writing.specs.AnswerSheet.{Wrote, over}
 use Rattle.writing.proofs.Sheets.{then}
-use Rattle.blocks.proofs.Blocks.{rest-shorter, drop-own, rest-drop}
+use Rattle.blocks.proofs.Blocks.{rest-shorter, rest-drop}
 use Rattle.text.proofs.Lines.{after-lines-no-longer}
 use Rattle.table.specs.declared.table.Table.{Table}
 use Rattle.table.specs.Take.{Sound}
@@ -87,13 +87,6 @@ from-drop (suc k) t part room = ⊎-elim
     (m + r .0, ap (λ (p : InPlace). p .left) (from-more k t part room e) ∙ r .1 ∙ ap (drop (r .0)) (sym (rest-drop part)) ∙ drop-drop (r .0) m part))
     (λ e. (0, ap (λ (p : InPlace). p .left) (from-none (suc k) t part room e)))
     (test (answersFront t part room))
-
--- it is what follows the bytes that were used up
-pub left-drop : (t : Table) (part : List ℕ) (room : ℕ) → drop (ranOf (inPlaceOf t part room) part .used) part ≡ inPlaceOf t part room .left
-unfolding inPlaceOf
-left-drop t part room =
-    let r = from-drop (length part) t part room in
-    ap (λ (x : List ℕ). drop (length part - length x) part) (r .1) ∙ drop-own (r .0) part ∙ sym (r .1)
 
 -- some bytes were used up where a block was answered, and none else
 pub uses-some : (t : Table) (part : List ℕ) (room : ℕ) → answersFront t part room ≡ true → 0 < ranOf (inPlaceOf t part room) part .used

@@ -28,6 +28,9 @@ ghost use Rattle.table.specs.Betting.{liveHands, firstOwing, nobodyOwes,
 ghost use Rattle.table.specs.Standing.{Standing, Seated};
 ghost use Rattle.table.specs.Take.{Sound, kindCode, kindTaken};
 
+// The kind of a wager in the table of entries.
+const WAGER: u32 = 7;
+
 // The codes that stop an act out of its moment, at a seat that is not live, or out of turn. c is the seat's chair, which is read once.
 fn turn_code(t: Table, c: Chair, s: u32) -> u8
     requires { ⌜ Standing t × (c ≡ seatOf t s) ⌝ }
@@ -197,11 +200,11 @@ pub(crate) fn lives(t: Table) -> u32
     ensures { λ r. ⌜ r ≡ liveHands t ⌝ }
 {
     let cs = t.chairs;
-    chairs::seats::lives(cs, t.sheet.seats).hands
+    chairs::seats::lives(cs, t.sheet.seats)
 }
 
 // The first owing seat clockwise from s, which comes last; 0 where nobody owes.
-pub(crate) fn first_owing(t: Table, s: u32) -> u32
+fn first_owing(t: Table, s: u32) -> u32
     requires { ⌜ Seated t × (s ≤ t .sheet .seats) ⌝ }
     ensures { λ r. ⌜ r ≡ firstOwing t s ⌝ }
 {
@@ -242,7 +245,7 @@ pub(crate) fn act(t: Table, e: Entry) -> Taken
     let k = act_code(t, c, e);
     let ok = k == TAKEN;
     let d = act_by(ok, t, c, e);
-    let wager = laws::both(ok, x.kind == 7);
+    let wager = both(ok, x.kind == WAGER);
     let full = is_full_lift(t, x.a);
     let last = laws::chosen(wager, t.sheet.seats, 0) as usize;
     let mut j: usize = 0;

@@ -3,7 +3,6 @@ use chairs::Chair;
 use paper::Sheet;
 ghost use mathlib.Core.Path.{_≡_};
 ghost use Prim.Native.Nat.{_+_, _≤_, _<_};
-ghost use Rattle.laws.specs.Tests.{pick};
 ghost use Rattle.table.specs.State.{withChairs, withSitting, withTaken, withTurn, seatOf, withChair, noBoard, cardAdded};
 
 // How the open hand stands; without one, the puck seat of the last.

@@ -1,5 +1,5 @@
--- The invariant: what is counted so far and what the rest counts make both whole counts.
-use mathlib.Core.Path.{refl, ap, _∙_, _≡_}
+-- The invariant: what is counted so far and what the rest counts make the whole count.
+use mathlib.Core.Path.{refl, ap, _≡_}
 use lib.ListN.{length, drop, getD}
 use borrow.Author.Needs.{needs}
 use Prim.Native.Nat.{_≤_, _+_, _-_}
@@ -7,19 +7,18 @@ use native.Mathlib.Omega.{arith}
 use Rattle.laws.specs.Tests.{one}
 use Rattle.laws.proofs.Often.{one-small}
 use Rattle.chairs.specs.Chairs.{wantOf, countOf}
-use Rattle.chairs.specs.declared.Who.the-variants.{Live, LiveWithChips}
+use Rattle.chairs.specs.declared.Who.the-variants.{Live}
 use Rattle.chairs.proofs.Laws.{unread, count-step}
 use Rattle.chairs.proofs.Above.{above-count}
 use Rattle.chairs.proofs.seats.lives.Statement.{statement}
 use Rattle.chairs.proofs.seats.lives.Tie as tie
 
 abbrev Inv-loop : tie.InvT-loop
-Inv-loop seats cs last hands₀ stacks₀ i₀ hands stacks i =
-    (last ≡ seats) × (i ≤ last) × (hands ≤ i) × (stacks ≤ i) × (hands + countOf (wantOf Live) (drop i cs) ≡ countOf (wantOf Live) cs)
-    × (stacks + countOf (wantOf LiveWithChips) (drop i cs) ≡ countOf (wantOf LiveWithChips) cs)
+Inv-loop seats cs last hands₀ i₀ hands i =
+    (last ≡ seats) × (i ≤ last) × (hands ≤ i) × (hands + countOf (wantOf Live) (drop i cs) ≡ countOf (wantOf Live) cs)
 
 abbrev μ-loop : tie.MeasureT-loop
-μ-loop seats cs last hands₀ stacks₀ i₀ hands stacks i = last - i
+μ-loop seats cs last hands₀ i₀ hands i = last - i
 
 loop-holds : tie.Need-loop-holds Inv-loop μ-loop
 loop-holds c = search needs
@@ -36,15 +35,6 @@ one-requires c κs = search needs
 add-hands : tie.Need-add-hands Inv-loop μ-loop
 add-hands c = omega (arith, c .one .ensures, one-small (getD (c .before .before .before .before .args .t1) (c .before .before .before .loop .i) unread .dealt .live))
 
-live-with-chips-requires : tie.Need-live-with-chips-requires Inv-loop μ-loop
-live-with-chips-requires c κs = search needs
-
-one-requires-2 : tie.Need-one-requires-2 Inv-loop μ-loop
-one-requires-2 c κs = search needs
-
-add-stacks : tie.Need-add-stacks Inv-loop μ-loop
-add-stacks c = omega (arith, c .one2 .ensures, one-small (c .before .live-with-chips .result))
-
 add-i : tie.Need-add-i Inv-loop μ-loop
 add-i c = search needs
 
@@ -53,41 +43,19 @@ loop-less c = search needs
 
 loop-again : tie.Need-loop-again Inv-loop μ-loop
 loop-again c =
-    let cs = c .before .before .before .before .before .before .args .t1 in
-    let i = c .before .before .before .before .before .loop .i in
+    let cs = c .before .before .before .before .args .t1 in
+    let i = c .before .before .before .loop .i in
     let len : length cs ≡ 10 = search needs in
     let l = wantOf Live (getD cs i unread) in
-    let h : c .before .before .one .result ≡ one l = c .before .before .one .ensures in
-    let r = wantOf LiveWithChips (getD cs i unread) in
-    let k : c .one2 .result ≡ one r = c .one2 .ensures ∙ ap one (c .before .live-with-chips .ensures) in
+    let h : c .one .result ≡ one l = c .one .ensures in
     let a = count-step (wantOf Live) cs i unread (omega arith) in
-    let b = count-step (wantOf LiveWithChips) cs i unread (omega arith) in
-    (omega arith, omega arith, omega (arith, h, one-small l), omega (arith, k, one-small r), omega (arith, h, a), omega (arith, k, b))
+    (omega arith, omega arith, omega (arith, h, one-small l), omega (arith, h, a))
 
 returns : tie.Need-returns Inv-loop μ-loop
 returns c =
     let cs = c .before .before .args .t1 in
-    let h = c .before .before .pre .above in
-    let e : c .before .loop .i ≡ c .before .before .args .seats = omega arith in (
-      omega (arith, ap (λ k. countOf (wantOf Live) (drop k cs)) e, above-count (wantOf Live) refl _ cs h),
-      omega (arith, ap (λ k. countOf (wantOf LiveWithChips) (drop k cs)) e, above-count (wantOf LiveWithChips) refl _ cs h),
-    )
+    let e : c .before .loop .i ≡ c .before .before .args .seats = omega arith in
+    omega (arith, ap (λ k. countOf (wantOf Live) (drop k cs)) e, above-count (wantOf Live) refl _ cs (c .before .before .pre .above))
 
 pub lives-spec : {M : Type 1} → statement M
-lives-spec =
-    tie.close
-    (tie.spec
-    Inv-loop
-    μ-loop
-    loop-holds
-    mul-c
-    array-copy-out-c
-    one-requires
-    add-hands
-    live-with-chips-requires
-    one-requires-2
-    add-stacks
-    add-i
-    loop-less
-    loop-again
-    returns)
+lives-spec = tie.close (tie.spec Inv-loop μ-loop loop-holds mul-c array-copy-out-c one-requires add-hands add-i loop-less loop-again returns)

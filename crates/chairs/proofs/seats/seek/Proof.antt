@@ -11,7 +11,7 @@ use Rattle.chairs.specs.Chairs.{noChair, wantOf, countOf}
 use Rattle.chairs.specs.declared.Who.the-variants.{Live, LiveWithChips, Owing}
 use Rattle.chairs.proofs.Laws.{unread, count-step, read-any}
 use Rattle.chairs.proofs.Above.{above-count}
-use Rattle.chairs.proofs.Turn.{firstAfter, first-end, first-down, over-turn}
+use Rattle.chairs.proofs.Turn.{firstAfter, first-end, first-all, first-down, over-turn}
 use Rattle.chairs.proofs.seats.seek.Statement.{statement}
 use Rattle.chairs.proofs.seats.seek.Tie as tie
 
@@ -117,7 +117,7 @@ returns c =
     let e : c .before .loop .i ≡ 0 = omega arith in (
       inv .4 ∙ ap (λ k. countOf (wantOf Live) (drop k cs)) e,
       inv .5 ∙ ap (λ k. countOf (wantOf LiveWithChips) (drop k cs)) e,
-      inv .6 ∙ ap (λ k. firstAfter (wantOf (Owing 0 false)) cs n k) e,
+      inv .6 ∙ ap (λ k. firstAfter (wantOf (Owing 0 false)) cs n k) e ∙ first-all (wantOf (Owing 0 false)) cs n,
       inv .7 (omega arith),
     )
 

@@ -9,7 +9,7 @@ lives-requires c κs = search needs
 
 returns : tie.Need-returns
 unfolding liveHands
-returns c = c .lives .ensures .0
+returns c = c .lives .ensures
 
 pub lives-spec : {M : Type 1} → statement M
 lives-spec = tie.close (tie.spec lives-requires returns)
