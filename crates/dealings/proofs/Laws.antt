@@ -57,14 +57,14 @@ same-pots ps n l e f = ap₂ (λ (x : ℕ) (y : List Pot). record { n = x; list 
 abbrev chipsBy : Notes → ℕ → List ℕ → List ℕ → ℕ → ℕ → Pots → ℕ → Chips
 chipsBy m d ts ss lv hr ps b = record { hand = m .hands; columns = d; totals = ts; sittings = ss; live = lv; here = hr; pots = ps; back = b }
 
-pub chips-made : {d lv hr b : ℕ} {ts ss ls hs : List ℕ} {ps : Pots} (m : Notes) (t : Table)
-    → ts ≡ map (columnOf Total) (t .chairs) → ss ≡ map (columnOf Sitting) (t .chairs) → ls ≡ map (columnOf Live) (t .chairs) → hs ≡ map (columnOf Here) (t .chairs)
-    → d ≡ tally (ltb 0) ss → lv ≡ maskAt ls 1 → hr ≡ maskAt hs 1 → ps .n ≡ length (potsNow t) → ps .list ≡ padded 9 (potsNow t) → b ≡ backNow t
+pub chips-made : {d lv hr b : ℕ} {ts ss : List ℕ} {ps : Pots} (m : Notes) (t : Table)
+    → ts ≡ map (columnOf Total) (t .chairs) → ss ≡ map (columnOf Sitting) (t .chairs) → d ≡ tally (ltb 0) ss
+    → lv ≡ maskAt (map (columnOf Live) (t .chairs)) 1 → hr ≡ maskAt (map (columnOf Here) (t .chairs)) 1 → ps .n ≡ length (potsNow t) → ps .list ≡ padded 9 (potsNow t) → b ≡ backNow t
     → chipsBy m d ts ss lv hr ps b ≡ chipsShown m t
 unfolding chipsShown
-chips-made {ps = ps} m t e1 e2 e3 e4 e5 e6 e7 p1 p2 e8 =
+chips-made {ps = ps} m t e1 e2 e3 e4 e5 p1 p2 e6 =
     let q = same-pots ps _ _ p1 p2 in
-    rw (q, e5, e6, e7, e1, e2, e3, e4, e8) refl
+    rw (q, e3, e4, e5, e1, e2, e6) refl
 
 -- the best of seven cards, shown
 pub two-made : {h : Hand} {r : Best} (deck : ℕ) (d k : List ℕ)

@@ -1,8 +1,6 @@
 // A hand as its section needs it: who is dealt in at its opening; at its end its chips, its sittings with what they put in, hold and are paid.
 use chairs::Chair;
 use chairs::Hole;
-use chairs::What;
-use chairs::seats::column;
 use notes::Notes;
 use page::pen::Pen;
 use page::pen::say2;
@@ -303,17 +301,16 @@ fn chips_of(m: Notes, t: Table) -> Chips
     let ps = stands.pots;
     let cs = t.chairs;
     let seats = t.sheet.seats;
-    let totals = column(cs, seats, What::Total);
-    let sittings = column(cs, seats, What::Sitting);
-    let live = column(cs, seats, What::Live);
-    let here = column(cs, seats, What::Here);
+    let rows = chairs::passes::rows(cs, seats);
+    let totals = rows.totals;
+    let sittings = rows.sittings;
     Chips {
         hand: m.hands,
         columns: dealt_in(sittings),
         totals,
         sittings,
-        live: pots::mask_at(live, 1),
-        here: pots::mask_at(here, 1),
+        live: rows.live,
+        here: rows.here,
         pots: ps,
         back: stands.back,
     }
