@@ -12,14 +12,14 @@ use Rattle.pots.specs.Heights.{maskAt, has}
 use Rattle.pots.proofs.Chips.{has-none}
 use Rattle.pots.proofs.Masks.{mask-lt}
 use Rattle.chairs.specs.Chairs.{putAt, noChair, countOf, chipsOf, sweepOf, columnOf, closedOf, closeAll, Above, Seats}
-use Rattle.chairs.specs.declared.Sweep.{Sweep}
-use Rattle.chairs.specs.declared.Sweep.the-variants.{Again, Round, Deal}
-use Rattle.chairs.specs.declared.What.{What}
+use Rattle.chairs.specs.Sweep.{Sweep}
+use Rattle.chairs.specs.Sweep.{Again, Round, Deal}
+use Rattle.chairs.specs.What.{What}
 use Rattle.chairs.specs.declared.Chair.{Chair}
 use Rattle.chairs.proofs.Clockwise.{put-other, count-none}
 use Rattle.chairs.proofs.Laws.{sweepTo, closeTo}
 use Rattle.chairs.proofs.Over.{map-at}
-use Rattle.chairs.specs.declared.What.the-variants as col
+use Rattle.chairs.specs.What as col
 
 -- a chair put down at a seat, and a sweep that leaves a chair as it is that nobody ever had
 pub above-put : (n : ℕ) (cs : List Chair) (x : ℕ) (d : Chair) → x ≤ n → Above n cs → Above n (putAt cs x d)

@@ -14,7 +14,7 @@ use Rattle.laws.specs.Tests.{pick}
 use Rattle.laws.proofs.Tests.{test}
 use Rattle.chairs.specs.Chairs.{noChair, wantOf, countOf, firstOf, seatsFrom, clockwise}
 use Rattle.chairs.specs.declared.Chair.{Chair}
-use Rattle.chairs.specs.declared.Who.the-variants.{Live, LiveWithChips, Owing}
+use Rattle.chairs.specs.Who.{Live, LiveWithChips, Owing}
 use Rattle.chairs.proofs.Laws.{first-none, first-some}
 
 module _ (p : Chair → Bool) (cs : List Chair) (n : ℕ) where

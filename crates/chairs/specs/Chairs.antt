@@ -10,12 +10,12 @@ use Rattle.laws.specs.Tests.{both, either, pick, one}
 use Rattle.chairs.specs.declared.Chair.{Chair}
 use Rattle.chairs.specs.declared.Dealt.{Dealt}
 use Rattle.chairs.specs.declared.Hole.{Hole}
-use Rattle.chairs.specs.declared.Who.{Who}
-use Rattle.chairs.specs.declared.Who.the-variants.{Live, LiveWithChips, Chips, Owing, Holding, Bare}
-use Rattle.chairs.specs.declared.Sweep.{Sweep}
-use Rattle.chairs.specs.declared.Sweep.the-variants.{Again, Round, Deal}
-use Rattle.chairs.specs.declared.What.{What}
-use Rattle.chairs.specs.declared.What.the-variants as col
+use Rattle.chairs.specs.Who.{Who}
+use Rattle.chairs.specs.Who.{Live, LiveWithChips, Chips, Owing, Holding, Bare}
+use Rattle.chairs.specs.Sweep.{Sweep}
+use Rattle.chairs.specs.Sweep.{Again, Round, Deal}
+use Rattle.chairs.specs.What.{What}
+use Rattle.chairs.specs.What as col
 
 -- Opening: dealt in is every seat with at least one chip
 abbrev pub isDealtIn : Chair → Bool

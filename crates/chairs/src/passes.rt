@@ -5,9 +5,9 @@ ghost use mathlib.Core.Path.{_≡_};
 ghost use Prim.Native.Nat.{_≤_, _<_};
 ghost use mathlib.Core.List.{map};
 ghost use Rattle.pots.specs.Heights.{maskAt};
-ghost use Rattle.chairs.specs.declared.Who.the-variants.{Live, Chips, Holding, Bare};
-ghost use Rattle.chairs.specs.declared.What.the-variants.{Total, Sitting, Here, Live as OfLive};
-ghost use Rattle.chairs.specs.declared.Sweep.the-variants.{Deal};
+ghost use Rattle.chairs.specs.Who.{Live, Chips, Holding, Bare};
+ghost use Rattle.chairs.specs.What.{Total, Sitting, Here, Live as OfLive};
+ghost use Rattle.chairs.specs.Sweep.{Deal};
 ghost use Rattle.chairs.specs.Chairs.{wantOf, sweepOf, columnOf, putAt, countOf, firstOf, clockwise, Seats};
 
 // How many hands are live, and for how many of those not all cards were entered.

@@ -9,8 +9,8 @@ ghost use Rattle.laws.specs.Tests.{pick};
 ghost use lib.ListN.{getD};
 ghost use mathlib.Core.List.{map};
 ghost use Rattle.pots.specs.Heights.{maskAt};
-ghost use Rattle.chairs.specs.declared.Who.the-variants.{Live, LiveWithChips, Holding, Owing};
-ghost use Rattle.chairs.specs.declared.What.the-variants.{Total, Live as OfLive};
+ghost use Rattle.chairs.specs.Who.{Live, LiveWithChips, Holding, Owing};
+ghost use Rattle.chairs.specs.What.{Total, Live as OfLive};
 ghost use Rattle.chairs.specs.Chairs.{wantOf, columnOf, noChair, chairAt, putAt, countOf, chipsOf, firstOf, seatsFrom, clockwise, closeAll, Seats};
 
 // How many hands are live.

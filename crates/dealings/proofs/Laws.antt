@@ -23,7 +23,7 @@ use Rattle.pots.specs.Heights.{maskAt}
 use Rattle.pots.specs.Runs.{padded}
 use Rattle.pots.specs.Settle.{sole}
 use Rattle.chairs.specs.Chairs.{columnOf}
-use Rattle.chairs.specs.declared.What.the-variants.{Total, Sitting, Live, Here}
+use Rattle.chairs.specs.What.{Total, Sitting, Live, Here}
 use Rattle.table.specs.Settle.{potsNow, backNow}
 use Rattle.spots.specs.Spots.{reachOfFirst}
 use Rattle.spots.specs.declared.Chips.{Chips}

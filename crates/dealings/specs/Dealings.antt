@@ -17,7 +17,7 @@ use Rattle.pots.specs.Settle.{sole}
 use Rattle.chairs.specs.Chairs.{columnOf}
 use Rattle.chairs.specs.declared.Chair.{Chair}
 use Rattle.chairs.specs.declared.Hole.{Hole}
-use Rattle.chairs.specs.declared.What.the-variants.{Total, Sitting, Live, Here}
+use Rattle.chairs.specs.What.{Total, Sitting, Live, Here}
 use Rattle.table.specs.Settle.{potsNow, backNow}
 use Rattle.table.specs.declared.table.Table.{Table}
 use Rattle.table.specs.declared.table.Board.{Board}

@@ -51,7 +51,7 @@ use Rattle.answers.specs.Answer.{SmallPaidRow, SmallShown, answerBytes}
 use Rattle.desk.specs.declared.Judged.{Judged}
 use Rattle.desk.specs.declared.Answered.{Answered}
 use Rattle.desk.specs.Desk.{rowsOf, payoutShown, shownOf, refusedAt, noBlock, judgeParsed, judgeBlock, judgedOf, judgedBytes, blockBytes, answeredFrom, answeredOf, numberOfBlock, SmallPaid, Closed}
-use Rattle.chairs.specs.declared.What.the-variants as what
+use Rattle.chairs.specs.What as what
 
 -- ---- rows of sittings and what they are paid, one by one
 

@@ -40,7 +40,7 @@ use Rattle.desk.specs.declared.Judged.{Judged}
 use Rattle.desk.specs.Desk.{rowsOf, shownOf, refusedAt, judgeParsed, judgeBlock, judgedOf, judgedBytes, blockBytes, answeredOf, Closed}
 use Rattle.desk.specs.Room.{roomOf}
 use Rattle.desk.proofs.Laws.{twelve-when, twelve-keeps}
-use Rattle.chairs.specs.declared.What.the-variants as what
+use Rattle.chairs.specs.What as what
 
 -- ---- a settle closes the hand, so no chips are left to make a pot
 

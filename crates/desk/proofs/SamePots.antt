@@ -19,8 +19,8 @@ use Rattle.paper.specs.SheetAndEntries.{made, makesEntry}
 use Rattle.paper.specs.declared.Entry.{Entry}
 use Rattle.chairs.specs.Chairs.{columnOf, chairAt, putAt, noChair, sweepOf, seatedOf, heldOf, actedOf}
 use Rattle.chairs.specs.declared.Chair.{Chair}
-use Rattle.chairs.specs.declared.Sweep.the-variants.{Round}
-use Rattle.chairs.specs.declared.What.{What}
+use Rattle.chairs.specs.Sweep.{Round}
+use Rattle.chairs.specs.What.{What}
 use Rattle.pots.specs.Heights.{maskAt, backOf}
 use Rattle.pots.specs.Runs.{potsOf, padded}
 use Rattle.pots.specs.declared.Stands.{Stands}
@@ -40,7 +40,7 @@ use Rattle.desk.specs.declared.Judged.{Judged}
 use Rattle.desk.specs.Desk.{shownOf, judgeParsed, judgeBlock, judgedBytes}
 use Rattle.desk.specs.Quiet.{ShowsPots, quietKind, quietBlock, keepsPots}
 use Rattle.desk.proofs.Laws.{block-same, writes-none, keeps-all}
-use Rattle.chairs.specs.declared.What.the-variants as what
+use Rattle.chairs.specs.What as what
 
 -- what was put in and what is live is the same at both
 abbrev Alike : List Chair → List Chair → Type 0

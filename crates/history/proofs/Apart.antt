@@ -24,7 +24,7 @@ use Rattle.paper.proofs.Sheets.{good-ranged}
 use Rattle.chairs.specs.Chairs.{countOf, wantOf, chairAt, putAt, noHole, hasCard, isHolding, isFull, holeOf, heldOf, paidOf, actedOf, roundOf, dealtOf, roundedOf, againOf, closeAll}
 use Rattle.chairs.specs.declared.Chair.{Chair}
 use Rattle.chairs.specs.declared.Hole.{Hole as Record}
-use Rattle.chairs.specs.declared.Who.the-variants.{Holding}
+use Rattle.chairs.specs.Who.{Holding}
 use Rattle.table.specs.State.{seatOf, withTaken, withCard}
 use Rattle.table.specs.Betting.{liveHands, nobodyOwes, afterAct, isFullLift, foldedTo, checkedTo, calledTo, wageredTo, deadTo, newRound}
 use Rattle.table.specs.Sittings.{satTo, leftTo}

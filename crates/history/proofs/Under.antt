@@ -14,7 +14,7 @@ use Rattle.laws.proofs.Tests.{both-true, test}
 use Rattle.laws.proofs.Sums.{le-or-lt}
 use Rattle.chairs.specs.Chairs.{isLiveWithChips, isOwing, roundOf, chairAt, putAt, wantOf, countOf, seatsFrom, actedOf, paidOf, heldOf}
 use Rattle.chairs.specs.declared.Chair.{Chair}
-use Rattle.chairs.specs.declared.Who.the-variants.{Live, LiveWithChips}
+use Rattle.chairs.specs.Who.{Live, LiveWithChips}
 use Rattle.table.specs.State.{seatOf}
 use Rattle.table.specs.Betting.{liveHands, onlyWithChips, owes}
 use Rattle.table.specs.declared.table.Table.{Table}

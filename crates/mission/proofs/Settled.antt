@@ -34,7 +34,7 @@ use Rattle.table.proofs.Closing.{col-at}
 use Rattle.history.proofs.BySitting.{totals-told, stakes-told}
 use Rattle.history.proofs.Demand.{settle-all, paid-reach}
 use Rattle.mission.specs.Settled.{paidTo, settles}
-use Rattle.chairs.specs.declared.What.the-variants as what
+use Rattle.chairs.specs.What as what
 
 -- ---- lists of totals with the same chips at every height
 module _ (ts us : List ℕ) (same : (h : ℕ) → 1 ≤ h → chipsAt ts h ≡ chipsAt us h) where

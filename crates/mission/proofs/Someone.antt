@@ -11,7 +11,7 @@ use Rattle.laws.specs.Tests.{both, pick}
 use Rattle.laws.proofs.Tests.{both-true, test}
 use Rattle.chairs.specs.Chairs.{chairAt, firstOf, seatsFrom, clockwise, countOf, wantOf, roundOf}
 use Rattle.chairs.specs.declared.Chair.{Chair}
-use Rattle.chairs.specs.declared.Who.the-variants.{LiveWithChips}
+use Rattle.chairs.specs.Who.{LiveWithChips}
 use Rattle.table.specs.Betting.{liveHands, onlyWithChips, owes, firstOwing}
 use Rattle.table.specs.State.{seatOf}
 use Rattle.table.specs.declared.table.Table.{Table}

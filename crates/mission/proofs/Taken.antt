@@ -13,7 +13,7 @@ use Rattle.paper.proofs.Codes.{or-zero, when-zero}
 use Rattle.paper.specs.declared.Entry.{Entry}
 use Rattle.paper.specs.declared.Entry.the-variants.{Sit, Leave, Hand, Hole, Fold, Check, Call, Wager, Board, Dead, Settle, Void}
 use Rattle.chairs.specs.Chairs.{isFull, countOf, wantOf, roundOf, chipsOf}
-use Rattle.chairs.specs.declared.Who.the-variants.{Chips, Bare}
+use Rattle.chairs.specs.Who.{Chips, Bare}
 use Rattle.table.specs.Betting.{liveHands, nobodyOwes, mayRaise, isWager, turnCode, checkCode, callCode, wagerCode, deadCode}
 use Rattle.table.specs.Dealing.{inThisHand, holeCode, boardCode}
 use Rattle.table.specs.Opening.{nextDealtIn, isPuck, handCode}

@@ -9,7 +9,7 @@ use Rattle.paper.specs.declared.Entry.{Entry}
 use Rattle.paper.specs.declared.Entry.the-variants.{Sit, Leave, Hand, Hole, Fold, Check, Call, Wager, Board, Dead, Settle, Void}
 use Rattle.chairs.specs.Chairs.{countOf, wantOf, roundOf, chipsOf}
 use Rattle.chairs.specs.declared.Chair.{Chair}
-use Rattle.chairs.specs.declared.Who.the-variants.{LiveWithChips, Chips, Bare}
+use Rattle.chairs.specs.Who.{LiveWithChips, Chips, Bare}
 use Rattle.table.specs.Betting.{liveHands}
 use Rattle.table.specs.Dealing.{inThisHand}
 use Rattle.table.specs.Opening.{nextDealtIn}

@@ -13,8 +13,8 @@ use Rattle.laws.proofs.Tests.{test}
 use Rattle.paper.specs.Paper.{isSeat}
 use Rattle.chairs.specs.Chairs.{isDealtIn, chairAt, putAt, wantOf, countOf, firstOf, clockwise, sweepOf, dealtOf, paidOf, chipsOf, Seats}
 use Rattle.chairs.specs.declared.Chair.{Chair}
-use Rattle.chairs.specs.declared.Who.the-variants.{Live, LiveWithChips, Owing}
-use Rattle.chairs.specs.declared.Sweep.the-variants.{Deal}
+use Rattle.chairs.specs.Who.{Live, LiveWithChips, Owing}
+use Rattle.chairs.specs.Sweep.{Deal}
 use Rattle.chairs.proofs.Laws.{chips-at}
 use Rattle.chairs.proofs.Clockwise.{put-other}
 use Rattle.chairs.proofs.Over.{map-at}

@@ -35,7 +35,7 @@ use Rattle.table.proofs.Laws.{sheet-rate, sheet-seats}
 use Rattle.table.proofs.ChairsOk.{ok-at}
 use Rattle.table.proofs.Codes.{sit-empty, hand-closed}
 use Rattle.table.proofs.Sounds.{passed}
-use Rattle.chairs.specs.declared.What.the-variants as what
+use Rattle.chairs.specs.What as what
 
 -- ---- chairs
 chips-same : (cs : List Chair) (x : ℕ) (d : Chair) → d .stack + d .dealt .total ≡ chairAt cs x .stack + chairAt cs x .dealt .total → chipsOf (putAt cs x d) ≡ chipsOf cs

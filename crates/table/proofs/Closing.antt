@@ -32,7 +32,7 @@ use Rattle.table.specs.Take.{appliedTo}
 use Rattle.table.specs.Standing.{ChairOk, Standing}
 use Rattle.table.specs.declared.table.Table.{Table}
 use Rattle.table.proofs.ChairsOk.{ok-at}
-use Rattle.chairs.specs.declared.What.the-variants as what
+use Rattle.chairs.specs.What as what
 
 no-chair-length : (cs : List Chair) (x : ℕ) (d : Chair) → length (putAt cs x d) ≡ length cs
 no-chair-length cs zero d = refl

@@ -10,7 +10,7 @@ use Rattle.laws.specs.Tests.{both, either}
 use Rattle.paper.proofs.Codes.{or-zero, when-zero}
 use Rattle.laws.proofs.Tests.{either-false, both-true}
 use Rattle.chairs.specs.Chairs.{roundOf, isFull, chipsOf, countOf, wantOf}
-use Rattle.chairs.specs.declared.Who.the-variants.{Chips}
+use Rattle.chairs.specs.Who.{Chips}
 use Rattle.table.specs.State.{seatOf}
 use Rattle.table.specs.Betting.{liveHands, nobodyOwes, turnCode, checkCode, callCode, wagerCode, deadCode, mayRaise, isWager}
 use Rattle.table.specs.Sittings.{sitCode, leaveCode}

@@ -12,7 +12,7 @@ use Rattle.laws.specs.Tests.{both, pick}
 use Rattle.laws.proofs.Tests.{both-true, test}
 use Rattle.chairs.specs.Chairs.{isLiveWithChips, isOwing, wantOf, countOf, noChair, chairAt, putAt, clockwise, roundOf, foldedOf}
 use Rattle.chairs.specs.declared.Chair.{Chair}
-use Rattle.chairs.specs.declared.Who.the-variants.{Live, LiveWithChips}
+use Rattle.chairs.specs.Who.{Live, LiveWithChips}
 use Rattle.chairs.proofs.Clockwise.{put-other, put-reads, count-put, count-less, count-two, first-holds, clock-some}
 use Rattle.pots.proofs.Contest.{le-or-lt}
 use Rattle.table.specs.State.{seatOf, withChair, withTurn}

@@ -30,13 +30,13 @@ use Rattle.table.specs.declared.table.Payout.{Payout}
 use Rattle.chairs.specs.Chairs.{holeOf, firstOf, chipsOf, wantOf, clockwise, columnOf, noChair, paidOf as paysOf}
 use Rattle.chairs.proofs.Laws.{first-cong, chips-put, chips-paid}
 use Rattle.chairs.specs.declared.Chair.{Chair}
-use Rattle.chairs.specs.declared.Who.the-variants.{Owing}
+use Rattle.chairs.specs.Who.{Owing}
 use Rattle.table.specs.State.{seatOf}
 use Rattle.table.specs.Betting.{liveHands, onlyWithChips, owes, firstOwing, nobodyOwes}
 use Rattle.table.specs.Opening.{postedTo}
 use Rattle.table.specs.Dealing.{inThisHand, boardCode}
 use Rattle.table.specs.declared.table.Table.{Table}
-use Rattle.chairs.specs.declared.What.the-variants as what
+use Rattle.chairs.specs.What as what
 
 first-false : (cs : List Chair) (ss : List ℕ) → firstOf (λ c. false) cs ss ≡ 0
 first-false cs [] = refl

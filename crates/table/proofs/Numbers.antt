@@ -11,7 +11,7 @@ use Rattle.paper.specs.declared.Entry.the-variants.{Sit, Leave, Hand, Hole, Fol
 use Rattle.chairs.specs.Chairs.{Numbered, noChair, chairAt, putAt, sweepOf, paidOf, dealtOf, closeAll}
 use Rattle.laws.specs.Lists.{All}
 use Rattle.chairs.specs.declared.Chair.{Chair}
-use Rattle.chairs.specs.declared.Sweep.the-variants.{Again, Round, Deal}
+use Rattle.chairs.specs.Sweep.{Again, Round, Deal}
 use Rattle.table.specs.Betting.{afterAct, isFullLift, foldedTo, checkedTo, calledTo, wageredTo, deadTo, newRound}
 use Rattle.table.specs.Sittings.{satTo, leftTo}
 use Rattle.table.specs.Opening.{nextDealtIn, openedTo, postedTo}

@@ -13,7 +13,7 @@ use Rattle.paper.specs.Paper.{when, isSeat}
 use Rattle.paper.proofs.Codes.{or-zero, when-zero, between-in}
 use Rattle.chairs.specs.Chairs.{isDealtIn, wantOf, countOf, clockwise}
 use Rattle.chairs.specs.declared.Chair.{Chair}
-use Rattle.chairs.specs.declared.Who.the-variants.{Chips}
+use Rattle.chairs.specs.Who.{Chips}
 use Rattle.chairs.proofs.Clockwise.{count-one, clock-some, clock-last, first-holds}
 use Rattle.pots.proofs.Contest.{le-or-lt}
 use Rattle.table.specs.State.{seatOf}

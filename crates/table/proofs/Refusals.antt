@@ -9,7 +9,7 @@ use borrow.Author.Tests.{eq-eqb, ne-eqb}
 use lib.Dec.{eqb, ltb, leb}
 use Rattle.laws.specs.Tests.{both, either}
 use Rattle.chairs.specs.Chairs.{isFull, chipsOf, countOf, wantOf, roundOf}
-use Rattle.chairs.specs.declared.Who.the-variants.{Chips, Bare}
+use Rattle.chairs.specs.Who.{Chips, Bare}
 use Rattle.table.specs.State.{seatOf}
 use Rattle.paper.specs.Paper.{when, orElse, inRange}
 use Rattle.paper.specs.declared.Entry.{Entry}

@@ -17,7 +17,7 @@ use Rattle.laws.specs.Lists.{sumOf}
 use Rattle.chairs.specs.Chairs.{chairAt, chipsOf, sweepOf, foldedOf, actedOf, paidOf, seatedOf, heldOf, roundOf, closeAll, columnOf}
 use Rattle.chairs.proofs.Laws.{chips-put, chips-paid, chips-sweep}
 use Rattle.chairs.specs.declared.Chair.{Chair}
-use Rattle.chairs.specs.declared.Sweep.the-variants.{Again, Round, Deal}
+use Rattle.chairs.specs.Sweep.{Again, Round, Deal}
 use Rattle.table.specs.State.{seatOf, withChair, withChairs, withMark, withCard}
 use Rattle.table.specs.Betting.{afterAct, isFullLift, liftAfter, foldedTo, checkedTo, calledTo, wageredTo, deadTo, newRound}
 use Rattle.table.specs.Sittings.{sitCode, satTo, leftTo}
@@ -27,7 +27,7 @@ use Rattle.table.specs.Settle.{Payable, settledTo, payoutNow}
 use Rattle.table.specs.Take.{Sound, kindCode, codeOf, appliedTo}
 use Rattle.table.specs.declared.table.Table.{Table}
 use Rattle.table.proofs.Laws.{chips-posted, sheet-seats, paid-sum}
-use Rattle.chairs.specs.declared.What.the-variants as what
+use Rattle.chairs.specs.What as what
 
 -- what an act keeps of a table
 pub record Kept (t u : Table) : Type 0 where

@@ -20,8 +20,8 @@ use Rattle.paper.specs.declared.Entry.the-variants.{Sit, Leave, Hand, Hole, Fol
 use Rattle.chairs.specs.Chairs.{Above, noChair, chairAt, putAt, wantOf, roundOf, paidOf, actedOf, foldedOf, againOf, roundedOf, dealtOf, seatedOf, heldOf, closedOf, closeAll}
 use Rattle.chairs.specs.declared.Chair.{Chair}
 use Rattle.chairs.specs.declared.Dealt.{Dealt}
-use Rattle.chairs.specs.declared.Who.the-variants.{Chips}
-use Rattle.chairs.specs.declared.Sweep.the-variants.{Deal}
+use Rattle.chairs.specs.Who.{Chips}
+use Rattle.chairs.specs.Sweep.{Deal}
 use Rattle.chairs.proofs.Over.{all-at, all-put, all-map}
 use Rattle.chairs.proofs.Above.{above-put, above-map, seats-put, seats-sweep}
 use Rattle.table.specs.State.{seatOf, withChair, withChairs, withMark, withCard, withTaken}

@@ -9,8 +9,8 @@ use Rattle.paper.specs.declared.Entry.the-variants.{Sit, Leave, Hand, Hole, Fol
 use Rattle.laws.specs.Tests.{both, either, pick}
 use Rattle.chairs.specs.Chairs.{isOwing, wantOf, countOf, firstOf, clockwise, sweepOf, roundOf, foldedOf, actedOf, paidOf}
 use Rattle.chairs.specs.declared.Chair.{Chair}
-use Rattle.chairs.specs.declared.Who.the-variants.{Live, LiveWithChips}
-use Rattle.chairs.specs.declared.Sweep.the-variants.{Again, Round}
+use Rattle.chairs.specs.Who.{Live, LiveWithChips}
+use Rattle.chairs.specs.Sweep.{Again, Round}
 use Rattle.table.specs.State.{withChairs, withChair, withTurn, withMark, seatOf}
 use Rattle.table.specs.declared.table.Table.{Table}
 

@@ -6,7 +6,7 @@ use lib.Dec.{ltb, leb, eqb}
 use Rattle.paper.specs.Paper.{wrongMoment, wrongSeat, cardTwice, when, orElse}
 use Rattle.laws.specs.Tests.{either, pick}
 use Rattle.chairs.specs.Chairs.{countOf, wantOf, hasCard, isFull, heldOf}
-use Rattle.chairs.specs.declared.Who.the-variants.{Holding}
+use Rattle.chairs.specs.Who.{Holding}
 use Rattle.table.specs.State.{withChair, withCard, seatOf}
 use Rattle.table.specs.Betting.{liveHands, nobodyOwes, newRound}
 use Rattle.table.specs.declared.table.Table.{Table}

@@ -6,8 +6,8 @@ use lib.Dec.{ltb, eqb}
 use Rattle.paper.specs.Paper.{wrongMoment, wrongSeat, when, orElse}
 use Rattle.laws.specs.Tests.{both, either}
 use Rattle.chairs.specs.Chairs.{isDealtIn, countOf, wantOf, firstOf, clockwise, sweepOf, paidOf}
-use Rattle.chairs.specs.declared.Who.the-variants.{Chips}
-use Rattle.chairs.specs.declared.Sweep.the-variants.{Deal}
+use Rattle.chairs.specs.Who.{Chips}
+use Rattle.chairs.specs.Sweep.{Deal}
 use Rattle.table.specs.State.{withPlay, withChairs, withChair, withTurn, seatOf}
 use Rattle.table.specs.Betting.{firstOwing}
 use Rattle.table.specs.declared.table.Table.{Table}

@@ -18,8 +18,8 @@ use Rattle.pots.specs.declared.Pot.{Pot}
 use Rattle.pots.specs.declared.Commission.{Commission}
 use Rattle.chairs.specs.Chairs.{countOf, wantOf, holeOf, isFull, columnOf, chipsOf, closeAll}
 use Rattle.chairs.specs.declared.Chair.{Chair}
-use Rattle.chairs.specs.declared.Who.the-variants.{Bare}
-use Rattle.chairs.specs.declared.What.the-variants as what
+use Rattle.chairs.specs.Who.{Bare}
+use Rattle.chairs.specs.What as what
 use Rattle.table.specs.State.{noBoard}
 use Rattle.table.specs.Betting.{liveHands, nobodyOwes}
 use Rattle.table.specs.declared.table.Table.{Table}

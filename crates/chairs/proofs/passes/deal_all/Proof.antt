@@ -7,7 +7,7 @@ use native.Mathlib.Omega.{arith}
 use native.Mathlib.Numerals.{add-one}
 use lib.ListN.{length, set, getD}
 use Rattle.chairs.specs.Chairs.{sweepOf}
-use Rattle.chairs.specs.declared.Sweep.the-variants.{Deal}
+use Rattle.chairs.specs.Sweep.{Deal}
 use Rattle.chairs.proofs.Laws.{unread, sweepTo, sweep-step, put-two}
 use Rattle.chairs.proofs.Above.{sweep-none, above-sweep}
 use Rattle.chairs.specs.declared.Chair.{Chair}

@@ -9,7 +9,7 @@ use Rattle.laws.specs.Tests.{one}
 use Rattle.laws.proofs.Often.{one-small}
 use Rattle.pots.specs.Heights.{maskAt}
 use Rattle.chairs.specs.Chairs.{columnOf, isHere}
-use Rattle.chairs.specs.declared.What.the-variants.{Total, Sitting, Live, Here}
+use Rattle.chairs.specs.What.{Total, Sitting, Live, Here}
 use Rattle.chairs.proofs.Laws.{unread}
 use Rattle.chairs.proofs.Above.{column-none, readFrom, read-start, read-turn, mask-start, mask-turn, mask-small, has-truth}
 use Rattle.chairs.proofs.passes.rows.Statement.{statement}

@@ -6,7 +6,7 @@ use mathlib.Core.Path.{_≡_, refl, sym, ap, _∙_}
 use native.Mathlib.Omega.{arith}
 use lib.ListN.{length, drop, drop-of-length-le}
 use Rattle.chairs.specs.Chairs.{noChair, wantOf, firstOf, clockwise}
-use Rattle.chairs.specs.declared.Who.the-variants.{Owing}
+use Rattle.chairs.specs.Who.{Owing}
 use Rattle.chairs.proofs.Laws.{unread, read-any}
 use Rattle.chairs.proofs.Clockwise.{clock-length, first-turn}
 use Rattle.chairs.proofs.seats.first_from.Statement.{statement}

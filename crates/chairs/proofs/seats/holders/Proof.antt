@@ -7,7 +7,7 @@ use native.Mathlib.Omega.{arith}
 use Rattle.laws.specs.Tests.{one}
 use Rattle.laws.proofs.Often.{one-small}
 use Rattle.chairs.specs.Chairs.{wantOf, countOf}
-use Rattle.chairs.specs.declared.Who.the-variants.{Holding}
+use Rattle.chairs.specs.Who.{Holding}
 use Rattle.chairs.proofs.Laws.{unread, count-step}
 use Rattle.chairs.proofs.Above.{above-count}
 use Rattle.chairs.proofs.seats.holders.Statement.{statement}

@@ -8,7 +8,7 @@ use lib.ListN.{length, getD, set, replicate, drop}
 use Rattle.laws.proofs.Often.{one-small}
 use Rattle.pots.specs.Heights.{maskAt}
 use Rattle.chairs.specs.Chairs.{columnOf}
-use Rattle.chairs.specs.declared.What.the-variants.{Total, Live}
+use Rattle.chairs.specs.What.{Total, Live}
 use Rattle.chairs.proofs.Laws.{unread}
 use Rattle.chairs.proofs.Above.{column-none, readFrom, read-start, read-turn, mask-start, mask-turn, mask-small, has-truth}
 use Rattle.chairs.proofs.seats.put_in.Statement.{statement}

@@ -8,7 +8,7 @@ use native.Mathlib.Omega.{arith}
 use Rattle.laws.specs.Tests.{one}
 use Rattle.laws.proofs.Often.{one-small}
 use Rattle.chairs.specs.Chairs.{noChair, wantOf, countOf}
-use Rattle.chairs.specs.declared.Who.the-variants.{Live, LiveWithChips, Owing}
+use Rattle.chairs.specs.Who.{Live, LiveWithChips, Owing}
 use Rattle.chairs.proofs.Laws.{unread, count-step, read-any}
 use Rattle.chairs.proofs.Above.{above-count}
 use Rattle.chairs.proofs.Turn.{firstAfter, first-end, first-all, first-down, over-turn}

@@ -6,7 +6,7 @@ use Rattle.table.specs.State.{seatOf}
 use Rattle.paper.specs.declared.Numbers.{Numbers}
 use Rattle.chairs.proofs.Above.{seats-put}
 use Rattle.chairs.proofs.Laws.{sweepTo, chips-at}
-use Rattle.chairs.specs.declared.Sweep.the-variants.{Again}
+use Rattle.chairs.specs.Sweep.{Again}
 use Rattle.chairs.specs.declared.Chair.{Chair}
 use Rattle.chairs.specs.Chairs.{againOf}
 use borrow.Author.Needs.{needs}

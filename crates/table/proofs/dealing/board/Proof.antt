@@ -4,7 +4,7 @@ use Rattle.table.proofs.Sounds.{board-card}
 use Rattle.table.proofs.Laws.{board-room}
 use borrow.Author.Tests.{eqb-true}
 use Rattle.chairs.proofs.Laws.{sweepTo}
-use Rattle.chairs.specs.declared.Sweep.the-variants.{Round}
+use Rattle.chairs.specs.Sweep.{Round}
 use Rattle.chairs.specs.Chairs.{roundedOf}
 use borrow.Author.Needs.{needs}
 use native.Mathlib.Omega.{arith}
