@@ -1,5 +1,4 @@
 -- After a fold no hand of seven cards decides anything: what comes back of every wager but the dealer's extra is 0. Assumes nothing.
--- of no stake nothing comes back, whatever its fate
 use mathlib.Core.Path.{_≡_, refl, ap}
 use mathlib.Core.Bool.{Bool, true, false}
 use Prim.Native.Nat.{ℕ}
@@ -18,6 +17,7 @@ use Rattle.banked.specs.declared.judged.Seven.{Seven}
 use Rattle.banked.specs.declared.fates.Fate.{Fate}
 use Rattle.banked.specs.declared.fates.Fate.the-variants.{Lost, Returned, Odds, Times}
 
+-- of no stake nothing comes back, whatever its fate
 pub none-staked : (f : Fate) → backOf f 0 ≡ 0
 unfolding backOf
 none-staked Lost = refl

@@ -1,7 +1,6 @@
 -- "Player's gain plus house's gain is always zero", wager by wager, for any list of wagers, and round upon round: the player's gain is the chips that come back
 -- less the chips put in, the house's is its own books, stakes taken less prizes paid. What a fold loses. That a refused round changes nothing and pays nothing.
 -- Assumes nothing.
--- two gains sum to zero: what comes to both is what goes from both
 use mathlib.Core.Path.{_≡_, refl}
 use mathlib.Core.Bool.{Bool, true, false}
 use mathlib.Core.List.{List, [], _∷_}
@@ -23,6 +22,7 @@ use Rattle.banked.specs.declared.judged.Seven.{Seven}
 use Rattle.banked.specs.declared.fates.Fate.{Fate}
 use Rattle.banked.specs.declared.fates.Fate.the-variants.{Lost, Returned, Odds, Times}
 
+-- two gains sum to zero: what comes to both is what goes from both
 abbrev pub ZeroSum : Gain → Gain → Type 0
 ZeroSum g h = g .up + h .up ≡ g .down + h .down
 

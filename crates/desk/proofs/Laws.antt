@@ -31,8 +31,7 @@ use Rattle.chairs.specs.Chairs.{columnOf, Numbered}
 use Rattle.laws.specs.Lists.{All, sumOf}
 use Rattle.chairs.specs.declared.Chair.{Chair}
 use Rattle.table.specs.Settle.{totalsOf, livesOf, hereOf, scoresOf, dueNow, potsNow, backNow, payoutNow, noPayout, commissionOf}
-use Rattle.table.specs.Take.{Sound, codeOf, payoutOf, payoutBy, takenOf}
-use Rattle.table.specs.declared.table.Taken.{Taken}
+use Rattle.table.specs.Take.{Sound, codeOf, payoutOf, payoutBy}
 use Rattle.table.proofs.Laws.{totals-within, paid-at, due-small, sheet-rate}
 use Rattle.table.proofs.Refusals.{codes, refused-same}
 use Rattle.table.specs.declared.table.Table.{Table}
@@ -50,7 +49,7 @@ use Rattle.answers.specs.declared.Shown.{Shown}
 use Rattle.answers.specs.Answer.{SmallPaidRow, SmallShown, answerBytes}
 use Rattle.desk.specs.declared.Judged.{Judged}
 use Rattle.desk.specs.declared.Answered.{Answered}
-use Rattle.desk.specs.Desk.{rowsOf, payoutShown, shownOf, refusedAt, noBlock, judgeParsed, judgeBlock, judgedOf, judgedBytes, blockBytes, answeredFrom, answeredOf, numberOfBlock, SmallPaid, Closed}
+use Rattle.desk.specs.Desk.{rowsOf, payoutShown, shownOf, noBlock, judgeParsed, judgeBlock, judgedOf, judgedBytes, blockBytes, answeredFrom, answeredOf, numberOfBlock, SmallPaid, Closed}
 use Rattle.chairs.specs.What as what
 
 -- ---- rows of sittings and what they are paid, one by one
@@ -232,39 +231,6 @@ twelve-keeps t log sheet h = go (fits (blockBytes t log) sheet) h
 pub twelve-when : (t : Table) (log sheet : List ℕ) → (length sheet < length (blockBytes t log)) → answeredOf t log sheet .code ≡ 12
 unfolding answeredOf
 twelve-when t log sheet h = rw (lt-leb (length (blockBytes t log)) (length sheet) h)
-
--- ---- for the proofs of the functions
-
-pub read-judged : (t : Table) (n : ℕ) (p : Parsed) {e : Entry} {k : Taken} → p ≡ Read e → (k ≡ takenOf t n e) × Sound (k .table) → Sound t
-    → (_≡_ {A = Judged} (record { block = true; n = n; code = k .code; table = k .table; payout = k .payout }) (judgeParsed t n p)) × Sound (k .table) × SmallPaid (k .payout)
-unfolding takenOf
-read-judged t n p {e} {k} q f h =
-    let m : k .payout ≡ payoutOf t n e = ap (λ (x : Taken). x .payout) (f .0) in
-    (ap (λ (x : Taken). record { block = true; n = n; code = x .code; table = x .table; payout = x .payout }) (f .0) ∙ ap (judgeParsed t n) (sym q), f .1, subst SmallPaid (sym m) (small-payout t n e h))
-
-pub refused-judged : (t : Table) (n code : ℕ) (p : Parsed) {r : Judged} → r ≡ refusedAt t n code → refusedAt t n code ≡ judgeParsed t n p → Sound t
-    → (r ≡ judgeParsed t n p) × Sound (r .table) × SmallPaid (r .payout)
-refused-judged t n code p {r} e q h = (e ∙ q, rw e h, rw e small-none)
-
-parsed-number : (t : Table) (n : ℕ) (p : Parsed) → judgeParsed t n p .n ≡ n
-parsed-number t n OutOfRange = refl
-parsed-number t n (Read e) = refl
-
-pub raw-judged : (t : Table) (b : Block) {n k s a c : ℕ} {p : Parsed} {r : Judged} → b ≡ Raw n k s a c → p ≡ parsedOf k s a c
-    → (r ≡ judgeParsed t n p) × Sound (r .table) × SmallPaid (r .payout) → numberOfBlock b < 10 ^ 9
-    → (r ≡ judgeBlock t b) × Sound (r .table) × SmallPaid (r .payout) × (r .n < 10 ^ 9)
-raw-judged t b {n} {k} {s} {a} {c} {p} {r} q e f h =
-    let h' : n < 10 ^ 9 = rw q at h in
-    let m : r .n ≡ n = ap (λ (j : Judged). j .n) (f .0) ∙ parsed-number t n p in
-    (f .0 ∙ rw (q, e), f .1, f .2, omega arith)
-
-pub bad-judged : (t : Table) (b : Block) {r : Judged} → refusedAt t 0 (codeOfBlock Malformed) ≡ judgeBlock t b → r ≡ refusedAt t 0 (codeOfBlock Malformed) → Sound t
-    → (r ≡ judgeBlock t b) × Sound (r .table) × SmallPaid (r .payout) × (r .n < 10 ^ 9)
-bad-judged t b {r} q e h = (e ∙ q, rw e h, rw e small-none, rw e (omega arith))
-
-pub none-judged : (t : Table) (b : Block) {r : Judged} → noBlock t ≡ judgeBlock t b → r ≡ noBlock t → Sound t
-    → (r ≡ judgeBlock t b) × Sound (r .table) × SmallPaid (r .payout) × (r .n < 10 ^ 9)
-none-judged t b {r} q e h = (e ∙ q, rw e h, rw e small-none, rw e (omega arith))
 
 -- ---- where there are bytes there is a block
 

@@ -1,7 +1,7 @@
--- Where there is a block, what a table says to its plan, the plan's own code first, is what the desk judges; the numbers of it are small. For any table and any
--- block. Assumes nothing.
+-- What a table says to the plan of a block, the plan's own code first, is what the desk judges; the numbers of it are small. For any table and any block.
+-- Assumes nothing.
 use mathlib.Core.Path.{_≡_, refl, sym, ap, subst, _∙_}
-use mathlib.Core.Bool.{Bool, true, false, not, false≢true}
+use mathlib.Core.Bool.{Bool, true, false, not}
 use Prim.Native.Nat.{ℕ, suc, _+_, _<_, _^_}
 use native.Mathlib.Omega.{arith}
 use lib.Dec.{eqb}
@@ -21,8 +21,8 @@ use Rattle.table.specs.declared.table.Taken.{Taken}
 use Rattle.table.proofs.Refusals.{refused-same, refused-unpaid}
 use Rattle.desk.specs.declared.Judged.{Judged}
 use Rattle.desk.specs.declared.Planned.{Planned}
-use Rattle.desk.specs.Desk.{refusedAt, judgeParsed, judgeBlock, numberOfBlock, SmallPaid}
-use Rattle.desk.specs.Plans.{planParsed, planOf, judgedBy}
+use Rattle.desk.specs.Desk.{judgeParsed, judgeBlock, numberOfBlock, SmallPaid}
+use Rattle.desk.specs.Plans.{noEntry, planParsed, planOf, judgedBy}
 use Rattle.desk.proofs.Laws.{small-payout}
 
 -- ---- every table refuses a void
@@ -42,29 +42,30 @@ void-taken t n =
     ap (λ (u : Table). record { code = codeOf t n Void; table = u; payout = payoutOf t n Void }) (refused-same t n Void (void-refused t n))
     ∙ ap (λ (p : Paid). record { code = codeOf t n Void; table = t; payout = p }) (refused-unpaid t n Void (void-refused t n))
 
--- so a block that has its code already is refused with it
-void-judged : (t : Table) (n code : ℕ) → judgedBy (record { n = n; code = suc code; entry = Void }) (takenOf t n Void) ≡ refusedAt t n (suc code)
-void-judged t n code = ap (judgedBy (record { n = n; code = suc code; entry = Void })) (void-taken t n)
+-- so what has its code already is refused with it, a block or none
+void-judged : (t : Table) (block : Bool) (n code : ℕ)
+    → judgedBy (noEntry block n (suc code)) (takenOf t n Void) ≡ record { block = block; n = n; code = suc code; table = t; payout = noPayout }
+void-judged t block n code = ap (judgedBy (noEntry block n (suc code))) (void-taken t n)
 
 -- ---- what is judged
 
 parsed-judged : (t : Table) (n : ℕ) (p : Parsed) → judgedBy (planParsed n p) (takenOf t (planParsed n p .n) (planParsed n p .entry)) ≡ judgeParsed t n p
 unfolding takenOf
-parsed-judged t n OutOfRange = void-judged t n 1
+parsed-judged t n OutOfRange = void-judged t true n 1
 parsed-judged t n (Read e) = refl
 
-block-judged : (t : Table) (b : Block) → judgeBlock t b .block ≡ true → judgedBy (planOf b) (takenOf t (planOf b .n) (planOf b .entry)) ≡ judgeBlock t b
-block-judged t (Raw n k s a b) h = parsed-judged t n (parsedOf k s a b)
-block-judged t Malformed h = void-judged t 0 0
-block-judged t Nothing h = absurd (false≢true h)
+block-judged : (t : Table) (b : Block) → judgedBy (planOf b) (takenOf t (planOf b .n) (planOf b .entry)) ≡ judgeBlock t b
+block-judged t (Raw n k s a b) = parsed-judged t n (parsedOf k s a b)
+block-judged t Malformed = void-judged t true 0 0
+block-judged t Nothing = void-judged t false 0 0
 
 pub plan-judged : (t : Table) (b : Block) {p : Planned} {k : Taken} {code : ℕ} → p ≡ planOf b → k ≡ takenOf t (p .n) (p .entry) → code ≡ orElse (p .code) (k .code)
-    → judgeBlock t b .block ≡ true → _≡_ {A = Judged} (record { block = true; n = p .n; code = code; table = k .table; payout = k .payout }) (judgeBlock t b)
-plan-judged t b {p} {k} e q r h =
-    ap (λ (c : ℕ). record { block = true; n = p .n; code = c; table = k .table; payout = k .payout }) r
+    → _≡_ {A = Judged} (record { block = p .block; n = p .n; code = code; table = k .table; payout = k .payout }) (judgeBlock t b)
+plan-judged t b {p} {k} e q r =
+    ap (λ (c : ℕ). record { block = p .block; n = p .n; code = c; table = k .table; payout = k .payout }) r
     ∙ ap (judgedBy p) q
     ∙ ap (λ (x : Planned). judgedBy x (takenOf t (x .n) (x .entry))) e
-    ∙ block-judged t b h
+    ∙ block-judged t b
 
 -- ---- its numbers
 
@@ -84,7 +85,12 @@ pub plan-paid : (t : Table) (n : ℕ) (e : Entry) {k : Taken} → Sound t → k 
 unfolding takenOf
 plan-paid t n e h q = subst SmallPaid (sym (ap (λ (x : Taken). x .payout) q)) (small-payout t n e h)
 
--- ---- for the proof of `plan`
+-- ---- for the proofs of `judge_block` and `plan`
+
+pub judged-small : (t : Table) (b : Block) {p : Planned} {k : Taken} {code : ℕ} → Sound t → numberOfBlock b < 10 ^ 9 → p ≡ planOf b
+    → (k ≡ takenOf t (p .n) (p .entry)) × Sound (k .table) → code ≡ orElse (p .code) (k .code)
+    → (_≡_ {A = Judged} (record { block = p .block; n = p .n; code = code; table = k .table; payout = k .payout }) (judgeBlock t b)) × Sound (k .table) × SmallPaid (k .payout) × (p .n < 10 ^ 9)
+judged-small t b {p} h m e f r = (plan-judged t b e (f .0) r, f .1, plan-paid t (p .n) (p .entry) h (f .0), plan-number b e m)
 
 pub plan-raw : (b : Block) {n k s a c : ℕ} {p : Parsed} {r : Planned} → b ≡ Raw n k s a c → p ≡ parsedOf k s a c → r ≡ planParsed n p → r ≡ planOf b
 plan-raw b {n} q e f = f ∙ ap (planParsed n) e ∙ ap planOf (sym q)

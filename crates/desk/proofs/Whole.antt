@@ -1,5 +1,4 @@
 -- Laws of the whole log.
--- ---- more fuel than the log is long makes no difference
 use Rattle.desk.specs.Log.{openedOf}
 use mathlib.Core.Path.{_≡_, refl, sym, ap, subst, _∙_}
 use mathlib.Core.List.{List, [], _++_, append-assoc, append-nil}
@@ -28,6 +27,8 @@ use Rattle.table.specs.Take.{Sound, freshTable}
 use Rattle.desk.specs.declared.Answered.{Answered}
 use Rattle.desk.specs.Desk.{judgedOf, blockBytes, answeredFrom, answeredOf}
 use Rattle.desk.specs.Log.{blocksFrom, eleven, outputFrom, outputOf, fitting, tableIn, blocksIn, answersIn, outputIn, outputInFrom}
+
+-- ---- more fuel than the log is long makes no difference
 
 pub fuel-free : (j k : ℕ) (t : Table) (log : List ℕ) → length log ≤ j → length log ≤ k → blocksFrom j t log ≡ blocksFrom k t log
 fuel-free zero zero t log p q = refl

@@ -1,7 +1,7 @@
 -- A block as an entry that a table can always be given: a block that makes no entry has its code already, and for its entry one that every table refuses.
 -- Assumes nothing.
 use Prim.Native.Nat.{ℕ}
-use mathlib.Core.Bool.{true}
+use mathlib.Core.Bool.{Bool, true, false}
 use Rattle.paper.specs.Paper.{orElse}
 use Rattle.paper.specs.declared.Entry.the-variants.{Void}
 use Rattle.blocks.specs.Entry.{parsedOf}
@@ -14,16 +14,20 @@ use Rattle.table.specs.declared.table.Taken.{Taken}
 use Rattle.desk.specs.declared.Judged.{Judged}
 use Rattle.desk.specs.declared.Planned.{Planned}
 
-abbrev pub planParsed : ℕ → Parsed → Planned
-planParsed n OutOfRange = record { n = n; code = codeOfParsed OutOfRange; entry = Void }
-planParsed n (Read e) = record { n = n; code = codeOfParsed (Read e); entry = e }
+-- what makes no entry has its code already
+abbrev pub noEntry : Bool → ℕ → ℕ → Planned
+noEntry block n code = record { block = block; n = n; code = code; entry = Void }
 
--- n is 0 after refusal 1
+abbrev pub planParsed : ℕ → Parsed → Planned
+planParsed n OutOfRange = noEntry true n (codeOfParsed OutOfRange)
+planParsed n (Read e) = record { block = true; n = n; code = codeOfParsed (Read e); entry = e }
+
+-- n is 0 after refusal 1; no bytes left means no block
 abbrev pub planOf : Block → Planned
 planOf (Raw n kind seat a b) = planParsed n (parsedOf kind seat a b)
-planOf Malformed = record { n = 0; code = codeOfBlock Malformed; entry = Void }
-planOf Nothing = record { n = 0; code = codeOfBlock Nothing; entry = Void }
+planOf Malformed = noEntry true 0 (codeOfBlock Malformed)
+planOf Nothing = noEntry false 0 (codeOfBlock Nothing)
 
--- what the block gets, by what the table said to the entry: the block's own code is given first (proofs/Plans, `plan-judged`: it is what the desk judges)
+-- what the block gets, by what the table said to the entry: the block's own code is given first (proofs/Plans, `plan-judged`: it is `judgeBlock`)
 abbrev pub judgedBy : Planned → Taken → Judged
-judgedBy p k = record { block = true; n = p .n; code = orElse (p .code) (k .code); table = k .table; payout = k .payout }
+judgedBy p k = record { block = p .block; n = p .n; code = orElse (p .code) (k .code); table = k .table; payout = k .payout }

@@ -12,6 +12,7 @@ use paper::MALFORMED;
 use paper::NO_ROOM;
 use paper::OUT_OF_RANGE;
 use paper::TAKEN;
+use paper::or_else;
 use quiet::shown_with;
 use table::settle::stands_now;
 use table::table::Table;
@@ -22,9 +23,9 @@ ghost use Rattle.writing.specs.AnswerSheet.{sheetAfter, writtenOf};
 ghost use Rattle.blocks.specs.Block.{restOf};
 ghost use Rattle.answers.specs.Answer.{SmallShown};
 ghost use Rattle.table.specs.Take.{Sound};
-ghost use Rattle.desk.specs.Desk.{rowsOf, payoutShown, shownOf, judgeParsed, refusedAt, noBlock, judgeBlock, judgedOf, judgedBytes, blockBytes, answeredFrom, answeredOf, numberOfBlock, SmallPaid, Closed};
+ghost use Rattle.desk.specs.Desk.{rowsOf, payoutShown, shownOf, refusedAt, judgeBlock, judgedOf, judgedBytes, blockBytes, answeredFrom, answeredOf, numberOfBlock, SmallPaid, Closed};
 ghost use Rattle.desk.specs.Room.{roomOf};
-ghost use Rattle.desk.specs.Plans.{planParsed, planOf};
+ghost use Rattle.desk.specs.Plans.{noEntry, planParsed, planOf};
 
 pub mod log;
 pub mod quiet;
@@ -104,44 +105,43 @@ pub fn refused(t: Table, n: u32, code: u8) -> Judged
     }
 }
 
-// No bytes are left, so there is no block: nothing is judged.
-fn no_block(t: Table) -> Judged
-    ensures { λ r. ⌜ r ≡ noBlock t ⌝ }
+// A block as an entry for the table: whether there is one, its number, the code that it has already where it makes no entry, and the entry, or one that every
+// table refuses. So each block is taken, and no two tables meet where the ways part.
+pub struct Planned {
+    pub block: bool,
+    pub n: u32,
+    pub code: u8,
+    pub entry: Entry,
+}
+
+// What makes no entry has its code already.
+fn no_entry(block: bool, n: u32, code: u8) -> Planned
+    ensures { λ r. ⌜ r ≡ noEntry block n code ⌝ }
 {
-    let none = table::settle::no_payout();
-    Judged {
-        block: false,
-        n: 0,
-        code: MALFORMED,
-        table: t,
-        payout: none,
+    Planned {
+        block,
+        n,
+        code,
+        entry: Entry::Void,
     }
 }
 
-fn judge_parsed(t: Table, n: u32, p: Parsed) -> Judged
-    requires { ⌜ Sound t ⌝ }
-    ensures { λ r. ⌜ (r ≡ judgeParsed t n p) × Sound (r .table) × SmallPaid (r .payout) ⌝ }
+fn plan_parsed(n: u32, p: Parsed) -> Planned
+    ensures { λ r. ⌜ r ≡ planParsed n p ⌝ }
 {
     match p {
-        Parsed::OutOfRange => refused(t, n, OUT_OF_RANGE),
-        Parsed::Read(e) => {
-            let k = t.take(n, e);
-            let u = k.table;
-            let paid = k.payout;
-            Judged {
-                block: true,
-                n: n,
-                code: k.code,
-                table: u,
-                payout: paid,
-            }
-        }
+        Parsed::OutOfRange => no_entry(true, n, OUT_OF_RANGE),
+        Parsed::Read(e) => Planned {
+            block: true,
+            n,
+            code: TAKEN,
+            entry: e,
+        },
     }
 }
 
-pub fn judge_block(t: Table, b: Block) -> Judged
-    requires { ⌜ Sound t × (numberOfBlock b < 10 ^ 9) ⌝ }
-    ensures { λ r. ⌜ (r ≡ judgeBlock t b) × Sound (r .table) × SmallPaid (r .payout) × (r .n < 10 ^ 9) ⌝ }
+pub fn plan(b: Block) -> Planned
+    ensures { λ r. ⌜ r ≡ planOf b ⌝ }
 {
     match b {
         Block::Raw {
@@ -150,12 +150,28 @@ pub fn judge_block(t: Table, b: Block) -> Judged
             seat,
             a,
             b,
-        } => {
-            let p = blocks::entry_of(kind, seat, a, b);
-            judge_parsed(t, n, p)
-        }
-        Block::Malformed => refused(t, 0, MALFORMED),
-        Block::Nothing => no_block(t),
+        } => plan_parsed(n, blocks::entry_of(kind, seat, a, b)),
+        Block::Malformed => no_entry(true, 0, MALFORMED),
+        Block::Nothing => no_entry(false, 0, MALFORMED),
+    }
+}
+
+// A block, judged by its plan: what has its code already is taken as an entry that every table refuses.
+pub fn judge_block(t: Table, b: Block) -> Judged
+    requires { ⌜ Sound t × (numberOfBlock b < 10 ^ 9) ⌝ }
+    ensures { λ r. ⌜ (r ≡ judgeBlock t b) × Sound (r .table) × SmallPaid (r .payout) × (r .n < 10 ^ 9) ⌝ }
+{
+    let p = plan(b);
+    let e = p.entry;
+    let k = t.take(p.n, e);
+    let u = k.table;
+    let paid = k.payout;
+    Judged {
+        block: p.block,
+        n: p.n,
+        code: or_else(p.code, k.code),
+        table: u,
+        payout: paid,
     }
 }
 
@@ -242,56 +258,4 @@ pub fn rest(log: &[u8]) -> &[u8]
     ensures { λ r. ⌜ now r ≡ restOf (now (log .entry)) ⌝ }
 {
     blocks::rest(log)
-}
-
-// A block as an entry for the table: its number, the code that it has already where it makes no entry, and the entry, or one that every table refuses. So each
-// block is taken, and no two tables meet where the ways part.
-pub struct Planned {
-    pub n: u32,
-    pub code: u8,
-    pub entry: Entry,
-}
-
-fn plan_parsed(n: u32, p: Parsed) -> Planned
-    ensures { λ r. ⌜ r ≡ planParsed n p ⌝ }
-{
-    match p {
-        Parsed::OutOfRange => Planned {
-            n: n,
-            code: OUT_OF_RANGE,
-            entry: Entry::Void,
-        },
-        Parsed::Read(e) => Planned {
-            n: n,
-            code: TAKEN,
-            entry: e,
-        },
-    }
-}
-
-pub fn plan(b: Block) -> Planned
-    ensures { λ r. ⌜ r ≡ planOf b ⌝ }
-{
-    match b {
-        Block::Raw {
-            n,
-            kind,
-            seat,
-            a,
-            b,
-        } => {
-            let p = blocks::entry_of(kind, seat, a, b);
-            plan_parsed(n, p)
-        }
-        Block::Malformed => Planned {
-            n: 0,
-            code: MALFORMED,
-            entry: Entry::Void,
-        },
-        Block::Nothing => Planned {
-            n: 0,
-            code: MALFORMED,
-            entry: Entry::Void,
-        },
-    }
 }

@@ -1,5 +1,4 @@
 -- No section of the paper: how the program `hands` reads a line, numbers with blanks between them. Assumes nothing.
--- a line of which nothing has been read
 use mathlib.Core.Bool.{Bool, true, false, not}
 use mathlib.Core.List.{List, [], _∷_, _++_}
 use Prim.Native.Nat.{ℕ, _+_, _-_, _*_, min}
@@ -13,6 +12,7 @@ use Rattle.cards.specs.declared.asked.Reading.the-variants.{Known, NoCard, Repe
 use Rattle.hands.specs.Answers.{readingBytes}
 use Rattle.hands.specs.declared.Line.{Line}
 
+-- a line of which nothing has been read
 abbrev pub noLine : Line
 noLine = record { have = 0; word = 0; begun = false }
 

@@ -1,6 +1,5 @@
 -- Document 02, request No. 11, at a showdown: of cards that are all different the best hand that a game allows is worth five different cards, and so, with either
 -- deck, one best hand beats another exactly where what is kept of it is the higher number (`kept-compare`). For any number of hole and board cards. Assumes nothing.
--- ---- the ranking of the deck
 use Prim.Native.Nat.{ℕ, _+_, _≤_}
 use mathlib.Core.Bool.{Bool, true, false, _||_}
 use mathlib.Core.Path.{_≡_, refl, sym, ap, ap₂, _∙_, subst}
@@ -29,6 +28,8 @@ use Rattle.ladder.specs.Ladder.{placeOf, keptOf, Valid}
 use Rattle.laws.proofs.Choosing.{choice-of}
 use Rattle.ladder.proofs.Showdown.{kept-old, kept-place}
 use Rattle.places.proofs.Compared.{place-compare}
+
+-- ---- the ranking of the deck
 
 rank-wide : (deck : ℕ) → eqb deck 32 ≡ false → rankingOf deck ≡ ranking52
 unfolding rankingOf

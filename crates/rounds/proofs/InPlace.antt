@@ -1,5 +1,4 @@
 -- A well-formed block that lies whole at the front of a part is answered where it lies as it would be by way of the buffer. Assumes nothing.
--- ---- a block of good form has an LF for each of its lines
 use mathlib.Core.Path.{_≡_, refl, sym, ap, subst, _∙_}
 use mathlib.Core.Bool.{Bool, true, false}
 use mathlib.Core.Logic.{⊎-elim}
@@ -24,6 +23,8 @@ use Rattle.rounds.specs.RoundParts.{Kept, nothing, keepOf, Gathered, gat
 use Rattle.banked.specs.declared.judged.Outcome.{Outcome}
 use Rattle.rounds.specs.declared.parts.Fill.{Fill}
 use Rattle.rounds.proofs.Whole.{kept-cut, ended-answer, last-lf}
+
+-- ---- a block of good form has an LF for each of its lines
 
 ended-some : (l : List ℕ) → ended l ≡ true → 1 ≤ lfs l
 ended-some [] e = absurd (eqb-false 1 0 refl (ap (λ (t : Bool). pick t 0 1) e))

@@ -78,8 +78,14 @@ module _ {t : Table} {part out : List ℕ} {table : Table} {stands : Stands} {le
       front : judgeBlock table (f .block) ≡ judgedOf table left
       front = judged-front table left (ap (λ (x : Front). x .block) e)
 
+      planned : _≡_ {A = Judged} (record { block = p .block; n = p .n; code = code; table = k .table; payout = k .payout }) (judgeBlock table (f .block))
+      planned = plan-judged table (f .block) a b c
+
+      -- there are bytes, so there is a block
       judged : said ≡ judgeBlock table (f .block)
-      judged = plan-judged table (f .block) a b c (ap (λ (x : Judged). x .block) front ∙ some-block table left o)
+      judged =
+          let there : p .block ≡ true = ap (λ (x : Judged). x .block) (planned ∙ front) ∙ some-block table left o in
+          ap (λ (x : Bool). record { block = x; n = p .n; code = code; table = k .table; payout = k .payout }) (sym there) ∙ planned
 
       -- the pots that are kept are those of the table after a block that leaves them
       pub go-shows : {keeps : Bool} → keeps ≡ keepsPots (f .block) code → keeps ≡ true → ShowsPots (k .table) stands

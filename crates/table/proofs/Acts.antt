@@ -1,6 +1,5 @@
 -- The two arms with a sweep. An act: fold, check, call and wager are one, with a sweep up to 0 where it is no wager, and what is refused is put down as it
 -- was. A board card: with the sweep of a new round where one opens. Assumes nothing.
--- the first owing seat, as it is found: none where fewer than two hands are live
 use Prim.Native.Nat.{ℕ, _+_, _-_, _≤_, _<_}
 use mathlib.Core.Bool.{Bool, true, false, true≢false, false≢true}
 use mathlib.Core.Path.{_≡_, refl, sym, ap, _∙_}
@@ -39,6 +38,7 @@ use Rattle.table.specs.declared.table.Taken.{Taken}
 use Rattle.table.proofs.Laws.{owing-few, owing-many}
 use Rattle.table.proofs.Arms.{set-place, put-same, plain-taken}
 
+-- the first owing seat, as it is found: none where fewer than two hands are live
 pub owing-is : (u : Table) (s : ℕ)
     → pick (leb 2 (liveHands u)) (firstOf (wantOf (Owing (u .play .mark) (onlyWithChips u))) (u .chairs) (clockwise (u .sheet .seats) s)) 0 ≡ firstOwing u s
 owing-is u s = go (leb 2 (liveHands u)) refl

@@ -1,6 +1,5 @@
 -- What an arm of `take` makes of one copy of the chairs is what the table's state gives the entry: the chair of a seat by its place, a chair that is put
 -- down where it lies, and the arms of sit, leave, hole, hand, dead and settle. Assumes nothing.
--- ---- the chair of a seat, by its place
 use Prim.Native.Nat.{ℕ, zero, suc, _+_, _≤_, _<_}
 use mathlib.Core.Bool.{Bool, true, false}
 use mathlib.Core.Path.{_≡_, refl, sym, ap, _∙_}
@@ -25,6 +24,8 @@ use Rattle.table.specs.declared.table.Table.{Table}
 use Rattle.table.specs.declared.table.Payout.{Payout}
 use Rattle.table.specs.declared.table.Taken.{Taken}
 use Rattle.table.proofs.Laws.{sheet-seats}
+
+-- ---- the chair of a seat, by its place
 
 next-is : (i s : ℕ) → i + 1 ≡ s → suc i ≡ s
 next-is i s e = omega arith

@@ -1,5 +1,4 @@
 -- `take`: an entry that has a code before the table's state is asked is judged as a void one; what the rest then gets is what the paper gives it. Assumes nothing.
--- the codes that come before the table's state
 use Prim.Native.Nat.{ℕ, zero, suc, _+_}
 use mathlib.Core.Bool.{Bool, true, false, not}
 use mathlib.Core.Path.{_≡_, refl, sym, ap, _∙_}
@@ -19,6 +18,7 @@ use Rattle.table.specs.declared.table.Table.{Table}
 use Rattle.table.specs.declared.table.Taken.{Taken}
 use Rattle.table.proofs.Standing.{sound-taken}
 
+-- the codes that come before the table's state
 abbrev pub earlyOf : Table → ℕ → Entry → ℕ
 earlyOf t n e = orElse (when (not (inRange (t .sheet) n e)) 2) (when (not (eqb (t .taken + 1) n)) 3)
 

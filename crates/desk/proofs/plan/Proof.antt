@@ -16,17 +16,23 @@ plan-parsed-requires c κs = search needs
 enum-told : tie.Need-enum-told
 enum-told c = search needs
 
+no-entry-requires : tie.Need-no-entry-requires
+no-entry-requires c κs = search needs
+
 enum-told-2 : tie.Need-enum-told-2
 enum-told-2 c = search needs
+
+no-entry-requires-2 : tie.Need-no-entry-requires-2
+no-entry-requires-2 c κs = search needs
 
 returns : tie.Need-returns
 returns c = plan-raw ((c .before .before .before .before .before) .args .b) (c .before .before .before .b .given .1) (c .before .entry-of .ensures) (c .plan-parsed .ensures)
 
 returns-2 : tie.Need-returns-2
-returns-2 c = rw (c .enum-told .given .1)
+returns-2 c = rw (c .before .enum-told .given .1) (c .no-entry .ensures)
 
 returns-3 : tie.Need-returns-3
-returns-3 c = rw (c .enum-told2 .given .1)
+returns-3 c = rw (c .before .enum-told2 .given .1) (c .no-entry2 .ensures)
 
 pub plan-spec : {M : Type 1} → statement M
 plan-spec =
@@ -36,7 +42,9 @@ plan-spec =
     entry-of-requires
     plan-parsed-requires
     enum-told
+    no-entry-requires
     enum-told-2
+    no-entry-requires-2
     returns
     returns-2
     returns-3)
