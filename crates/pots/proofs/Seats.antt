@@ -15,12 +15,12 @@ use Rattle.laws.specs.Tests.{pick, both}
 use Rattle.laws.specs.Bits.{ones}
 use Rattle.laws.proofs.Bits.{half-below, ones-wide}
 use Rattle.laws.proofs.Sums.{map-length, map-same}
-use Rattle.pots.specs.Heights.{has, chipsAt, liveOf, maskAt, contenders, contested, contest, over, returnedOf}
+use Rattle.pots.specs.Heights.{has, chipsAt, liveOf, maskAt, contenders, contested, contest, over, backAt, backOf, returnedOf}
 use Rattle.pots.specs.declared.Pot.{Pot}
 use Rattle.pots.specs.declared.Commission.{Commission}
 use Rattle.pots.specs.Runs.{join, runs, keyed, potsOf}
 use Rattle.pots.specs.Settle.{feeOf, sole, sharesOf}
-use Rattle.pots.specs.Hand.{rated, bestOf, winnersOf, plus, wonOf, dropOf, dropOfHand, dueOf}
+use Rattle.pots.specs.Hand.{rated, bestOf, winnersOf, plus, wonOf, feeOfHand, dropOf, dropOfHand, dueOf}
 use Rattle.pots.proofs.Chips.{has-none, over-same, chips-append}
 use Rattle.pots.proofs.Masks.{live-length, mask-lt, pick-nil}
 use Rattle.pots.proofs.PotRuns.{pots-all}
@@ -82,6 +82,13 @@ unfolding potsOf
 pots-wide ts k live =
     ap (λ n. keyed (runs (chipsAt (ts ++ zeros k)) (contest (ts ++ zeros k) live) 0 n)) (max-wide ts k)
     ∙ ap keyed (runs-same (chipsAt (ts ++ zeros k)) (chipsAt ts) (contest (ts ++ zeros k) live) (contest ts live) 0 (maxOf ts) (λ j p. chips-wide ts k j p) (λ j p. contest-wide ts k live j p))
+
+pub back-wide : (ts : List ℕ) (k live : ℕ) → backOf (ts ++ zeros k) live ≡ backOf ts live
+unfolding backOf backAt
+back-wide ts k live =
+    ap (over (λ h. pick (contested (ts ++ zeros k) live h) 0 (chipsAt (ts ++ zeros k) h)) 0) (max-wide ts k)
+    ∙ over-same (λ h. pick (contested (ts ++ zeros k) live h) 0 (chipsAt (ts ++ zeros k) h)) (λ h. pick (contested ts live h) 0 (chipsAt ts h)) 0 (maxOf ts)
+    (λ h p q. ap₂ (λ (b : Bool) (m : ℕ). pick b 0 m) (contested-wide ts k live h p) (chips-wide ts k h p))
 
 returned-wide : (ts : List ℕ) (k live t : ℕ) → returnedOf (ts ++ zeros k) live t ≡ returnedOf ts live t
 unfolding returnedOf
@@ -167,7 +174,10 @@ module _ (scores xs : List ℕ) (rule : Commission) (puck : ℕ) (p : puck ≤ l
       ∙ plus-append sh won (zeros (length xs)) (zeros (length xs)) (shares-length (length scores) _ _ puck ∙ sym (won-length scores rule puck _ 0 ps))
       ∙ ap (λ z. plus sh won ++ z) (plus-zeros (length xs))
 
--- the drop is the same, and what each seat's sitting is due, with nothing for the places above
+-- the commission and the drop are the same, and what each seat's sitting is due, with nothing for the places above
+pub fee-wide : (ts : List ℕ) (k live : ℕ) (rule : Commission) → feeOfHand (ts ++ zeros k) live rule ≡ feeOfHand ts live rule
+fee-wide ts k live rule = rw (pots-wide ts k live)
+
 pub drop-wide : (ts : List ℕ) (k live : ℕ) (rule : Commission) → dropOfHand (ts ++ zeros k) live rule ≡ dropOfHand ts live rule
 drop-wide ts k live rule = ap (dropOf rule) (pots-wide ts k live)
 

@@ -30,7 +30,7 @@ use Rattle.desk.specs.Desk.{judgeParsed, judgeBlock, judgedOf, blockBytes}
 use Rattle.desk.specs.Log.{eleven, tableIn}
 use Rattle.desk.proofs.Laws.{judged-most}
 use Rattle.stream.specs.declared.Clerk.{Clerk}
-use Rattle.stream.specs.Onward.{State, Unread, Open, Shut, Given, still, andThen, answerOf, openOf, linesDone, wanted, isShut, byteOf, onward, anyShort}
+use Rattle.stream.specs.Onward.{State, Unread, Open, Shut, Given, still, andThen, answerOf, openOf, linesDone, wanted, isShut, byteOf, onward, closing, anyShort}
 use Rattle.stream.specs.Feeding.{longestAnswer, stateAt, stateOf, Held}
 use Rattle.stream.proofs.InPlace.{answer-fits}
 use Rattle.stream.proofs.Longest.{longest}
@@ -123,6 +123,11 @@ module _ (room : ℕ) (enough : longestAnswer ≤ room) where
       let y : Given = byteOf longestAnswer s k b in
       ap (λ (x : Given). andThen x (onward room (x .state) (x .kept) bs)) (byte-enough s k b h)
       ∙ ap (andThen y) (onward-enough (y .state) (y .kept) bs (byte-sound longestAnswer s k b h))
+
+  pub closing-enough : (s : State) (k : Kept) → soundIn s → closing room s k ≡ closing longestAnswer s k
+  closing-enough Unread k h = open-enough Bad
+  closing-enough (Open t) k h = ap (pick (eqb (length (k .bytes)) 0) (still (Open t) (record { bytes = []; lines = 0; width = 0; bad = false }))) (answer-enough t (k .bytes) h)
+  closing-enough Shut k h = refl
 
 -- ---- and no code is 12
 

@@ -11,7 +11,7 @@ use Rattle.laws.specs.Tests.{both, either}
 use Rattle.laws.proofs.Tests.{both-true, test}
 use Rattle.paper.specs.Paper.{when, isSeat}
 use Rattle.paper.proofs.Codes.{or-zero, when-zero, between-in}
-use Rattle.chairs.specs.Chairs.{isDealtIn, wantOf, countOf, clockwise}
+use Rattle.chairs.specs.Chairs.{isDealtIn, wantOf, countOf, noChair, clockwise}
 use Rattle.chairs.specs.declared.Chair.{Chair}
 use Rattle.chairs.specs.Who.{Chips}
 use Rattle.chairs.proofs.Clockwise.{count-one, clock-some, clock-last, first-holds}
@@ -50,6 +50,10 @@ turn-owes t h z = h .turn .some z
 -- a live hand's sitter sits there
 pub live-sits : (t : Table) → Standing t → (s : ℕ) → seatOf t s .dealt .live ≡ true → seatOf t s .dealt .sitting ≡ seatOf t s .sitting
 live-sits t h s l = ok-at (t .chairs) s (h .chairs) .here l
+
+-- chairs above `seats` are empty
+pub above-empty : (t : Table) → Standing t → (s : ℕ) → t .sheet .seats < s → seatOf t s ≡ noChair
+above-empty t h s l = h .seated .above s l
 
 -- the puck seat is dealt in
 pub puck-dealt-in : (t : Table) (p : ℕ) → handCode t p ≡ 0 → isDealtIn (seatOf t p) ≡ true
