@@ -1,5 +1,5 @@
 // What one rule needs of all chairs, in one pass over the table's seats: two counts, two columns with two masks, a count and a first seat; and the
-// chairs of a new hand. Each is what the single functions of `seats` give.
+// chairs of a new hand.
 use crate::Chair;
 ghost use mathlib.Core.Path.{_≡_};
 ghost use Prim.Native.Nat.{_≤_, _<_};

@@ -21,6 +21,7 @@ ghost use Rattle.table.specs.Take.{Sound};
 ghost use Rattle.desk.specs.Desk.{shownOf, judgedBytes, SmallPaid, Closed};
 ghost use Rattle.desk.specs.Quiet.{ShowsPots, quietKind, quietBlock, keepsPots};
 
+// By its place in the table of kinds: sit and leave (0 and 1), hole (3), check (5), board (8).
 fn quiet_kind(kind: u32) -> bool
     ensures { λ r. ⌜ r ≡ quietKind kind ⌝ }
 {
