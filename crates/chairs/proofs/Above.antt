@@ -12,8 +12,7 @@ use Rattle.pots.specs.Heights.{maskAt, has}
 use Rattle.pots.proofs.Chips.{has-none}
 use Rattle.pots.proofs.Masks.{mask-lt}
 use Rattle.chairs.specs.Chairs.{putAt, noChair, countOf, chipsOf, sweepOf, columnOf, closedOf, closeAll, Above, Seats}
-use Rattle.chairs.specs.Sweep.{Sweep}
-use Rattle.chairs.specs.Sweep.{Again, Round, Deal}
+use Rattle.chairs.specs.Sweep.{Sweep, Again, Round, Deal}
 use Rattle.chairs.specs.What.{What}
 use Rattle.chairs.specs.declared.Chair.{Chair}
 use Rattle.chairs.proofs.Clockwise.{put-other, count-none}

@@ -10,10 +10,8 @@ use Rattle.laws.specs.Tests.{both, either, pick, one}
 use Rattle.chairs.specs.declared.Chair.{Chair}
 use Rattle.chairs.specs.declared.Dealt.{Dealt}
 use Rattle.chairs.specs.declared.Hole.{Hole}
-use Rattle.chairs.specs.Who.{Who}
-use Rattle.chairs.specs.Who.{Live, LiveWithChips, Chips, Owing, Holding, Bare}
-use Rattle.chairs.specs.Sweep.{Sweep}
-use Rattle.chairs.specs.Sweep.{Again, Round, Deal}
+use Rattle.chairs.specs.Who.{Who, Live, LiveWithChips, Chips, Owing, Holding, Bare}
+use Rattle.chairs.specs.Sweep.{Sweep, Again, Round, Deal}
 use Rattle.chairs.specs.What.{What}
 use Rattle.chairs.specs.What as col
 

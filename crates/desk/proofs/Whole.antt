@@ -1,5 +1,5 @@
 -- Laws of the whole log.
-use Rattle.desk.specs.Log.{openedOf}
+use Rattle.desk.specs.Log.{openedOf, blocksFrom, eleven, outputFrom, outputOf, fitting, tableIn, blocksIn, answersIn, outputIn, outputInFrom}
 use mathlib.Core.Path.{_≡_, refl, sym, ap, subst, _∙_}
 use mathlib.Core.List.{List, [], _++_, append-assoc, append-nil}
 use mathlib.Core.Bool.{Bool, true, false}
@@ -26,7 +26,6 @@ use Rattle.table.specs.declared.table.Table.{Table}
 use Rattle.table.specs.Take.{Sound, freshTable}
 use Rattle.desk.specs.declared.Answered.{Answered}
 use Rattle.desk.specs.Desk.{judgedOf, blockBytes, answeredFrom, answeredOf}
-use Rattle.desk.specs.Log.{blocksFrom, eleven, outputFrom, outputOf, fitting, tableIn, blocksIn, answersIn, outputIn, outputInFrom}
 
 -- ---- more fuel than the log is long makes no difference
 

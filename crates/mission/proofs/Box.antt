@@ -1,6 +1,6 @@
 -- One theorem at the top: for every list of parts, whatever bytes they hold and wherever they are cut, the bytes that are handed to `write`, and that the mission's
 -- demands 1, 2 and 3 hold of them. Assumes nothing.
-use Rattle.desk.specs.Log.{openedOf}
+use Rattle.desk.specs.Log.{openedOf, outputOf}
 use Rattle.desk.proofs.Opened.{opened-is}
 use Prim.Native.Nat.{ℕ, _≤_}
 use mathlib.Core.Path.{_≡_, refl, sym, subst}
@@ -11,7 +11,6 @@ use Rattle.paper.specs.declared.Sheet.{Sheet}
 use Rattle.text.specs.declared.sheet.SheetRead.{SheetRead}
 use Rattle.text.specs.declared.sheet.SheetRead.the-variants.{Read, Bad}
 use Rattle.table.specs.declared.table.Table.{Table}
-use Rattle.desk.specs.Log.{outputOf}
 use Rattle.history.specs.AsNoted.{AsNoted}
 use Rattle.history.specs.Notebook.{notebook}
 use Rattle.history.proofs.AsNoted.{as-noted}

@@ -9,9 +9,8 @@ use lib.ListN.{length, getD, take, drop, drop-of-length-le}
 use lib.Dec.{eqb, ltb}
 use borrow.Author.Tests.{eq-eqb, ne-eqb}
 use Rattle.laws.specs.Tests.{both, either}
-use Rattle.cards.specs.Cards.{oneSuit, inRow}
+use Rattle.cards.specs.Cards.{oneSuit, inRow, rank}
 use Rattle.cards.specs.Hands.{ranking52, first, tests, classOf, ranksOf, classOfCards, mostHeld, nextHeld, valueOf}
-use Rattle.cards.specs.Cards.{rank}
 use Rattle.cards.specs.Order.{choices}
 use Rattle.cards.specs.Omaha.{eachBefore, fromBoth}
 use Rattle.chairs.specs.Chairs.{countOf}

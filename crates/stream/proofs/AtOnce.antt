@@ -1,6 +1,6 @@
 -- Request No. 9: bytes one by one, and then the close, lead where the whole log leads that is read at once: the same codes, the same bytes, the same state. For any
 -- log, good sheet or bad, and any room for each answer. Assumes nothing.
-use Rattle.desk.specs.Log.{loneRead, openedOf}
+use Rattle.desk.specs.Log.{loneRead, openedOf, tableIn}
 use mathlib.Core.Path.{_≡_, refl, sym, ap, subst, _∙_}
 use mathlib.Core.List.{List, [], _∷_}
 use mathlib.Core.Bool.{Bool, false}
@@ -24,7 +24,6 @@ use Rattle.lines.proofs.Whole.{cut-block, kept-is, cut-some, cut-sheet, front-s
 use Rattle.lines.proofs.Gathers.{gather-keeps, gather-lines, open-kept, whole-kept}
 use Rattle.table.specs.declared.table.Table.{Table}
 use Rattle.table.specs.Take.{freshTable}
-use Rattle.desk.specs.Log.{tableIn}
 use Rattle.desk.proofs.Whole.{end-within}
 use Rattle.stream.specs.Onward.{State, Unread, Open, Shut, Given, still, andThen, answerOf, openOf, wanted, isShut, onward, closing, closed, eachFrom, atOnceFrom, atOnce}
 use Rattle.stream.proofs.Onward.{then-nothing, then-assoc, onward-append, shut-onward, kept-onward, ends-onward}

@@ -1,6 +1,6 @@
 -- With room for the longest answer every answer fits: more room changes nothing, and no code is 12. A table stays sound over any bytes. For any state and any
 -- bytes. Assumes nothing.
-use Rattle.desk.specs.Log.{openedOf}
+use Rattle.desk.specs.Log.{openedOf, eleven, tableIn}
 use Rattle.desk.proofs.Opened.{opened-is}
 use Prim.Native.Nat.{ℕ, _≤_}
 use mathlib.Core.Bool.{Bool, true, false, true≢false}
@@ -27,7 +27,6 @@ use Rattle.table.specs.declared.table.Table.{Table}
 use Rattle.table.specs.Take.{Sound, codeOf, nextOf}
 use Rattle.table.proofs.Standing.{sound-taken, sound-fresh}
 use Rattle.desk.specs.Desk.{judgeParsed, judgeBlock, judgedOf, blockBytes}
-use Rattle.desk.specs.Log.{eleven, tableIn}
 use Rattle.desk.proofs.Laws.{judged-most}
 use Rattle.stream.specs.declared.Clerk.{Clerk}
 use Rattle.stream.specs.Onward.{State, Unread, Open, Shut, Given, still, andThen, answerOf, openOf, linesDone, wanted, isShut, byteOf, onward, closing, anyShort}

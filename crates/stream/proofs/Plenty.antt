@@ -1,5 +1,5 @@
 -- With room for the longest answer what the whole log gives at once is the log's output. For any log. Assumes nothing.
-use Rattle.desk.specs.Log.{openedOf}
+use Rattle.desk.specs.Log.{openedOf, eleven, blocksFrom, outputFrom, outputOf, tableIn}
 use Rattle.desk.proofs.Opened.{opened-is}
 use Prim.Native.Nat.{ℕ, zero, suc, _≤_}
 use mathlib.Core.Bool.{Bool, true, false}
@@ -19,7 +19,6 @@ use Rattle.table.specs.Take.{Sound, freshTable}
 use Rattle.table.proofs.Standing.{sound-fresh}
 use Rattle.lines.specs.Kept.{nothing, keptMost}
 use Rattle.desk.specs.Desk.{judgedOf, blockBytes}
-use Rattle.desk.specs.Log.{eleven, blocksFrom, outputFrom, outputOf, tableIn}
 use Rattle.stream.specs.Onward.{Open, Given, still, andThen, answerOf, eachFrom, atOnceFrom, atOnce}
 use Rattle.stream.specs.Feeding.{longestAnswer}
 use Rattle.stream.specs.Parts.{servedOf, whole}

@@ -1,7 +1,7 @@
 -- Request No. 9: "takes the log however the line chops it, with nothing arriving at times, and keeps the unfinished block. Its answers and last state equal those
 -- of the whole log read at once with equal room for each answer; an unfinished block gets its code 1 only at the close."
 -- The log byte by byte, and the whole log at once, each with `room` bytes for each answer. Assumes nothing.
-use Rattle.desk.specs.Log.{openedOf}
+use Rattle.desk.specs.Log.{openedOf, eleven, fitting, tableIn}
 use Prim.Native.Nat.{ℕ, zero, suc}
 use mathlib.Core.List.{List, [], _∷_, _++_}
 use mathlib.Core.Bool.{Bool, true, false}
@@ -18,7 +18,6 @@ pub use Rattle.lines.specs.Kept.{linesOf}
 use Rattle.table.specs.declared.table.Table.{Table}
 use Rattle.table.specs.Take.{freshTable}
 use Rattle.desk.specs.Desk.{judgedOf, blockBytes}
-use Rattle.desk.specs.Log.{eleven, fitting, tableIn}
 
 -- the box between two bytes: its sheet is not read yet, or was read and it has a table, or was bad
 pub data State : Type 0 where

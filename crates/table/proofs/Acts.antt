@@ -22,8 +22,7 @@ use Rattle.paper.specs.declared.Entry.{Entry}
 use Rattle.paper.specs.declared.Entry.the-variants.{Sit, Leave, Hand, Hole, Fold, Check, Call, Wager, Board, Dead, Settle, Void}
 use Rattle.chairs.specs.Chairs.{noChair, putAt, wantOf, firstOf, clockwise, sweepOf, Above, Seats}
 use Rattle.chairs.specs.declared.Chair.{Chair}
-use Rattle.chairs.specs.Sweep.{Sweep}
-use Rattle.chairs.specs.Sweep.{Again, Round}
+use Rattle.chairs.specs.Sweep.{Sweep, Again, Round}
 use Rattle.chairs.specs.Who.{Owing}
 use Rattle.chairs.proofs.Laws.{unread, sweepTo, sweep-step}
 use Rattle.chairs.proofs.Above.{sweep-none, above-sweep, seats-sweep}

@@ -4,15 +4,12 @@ use borrow.Author.Needs.{needs}
 use Rattle.amends.proofs.ended.Statement.{statement}
 use Rattle.amends.proofs.ended.Tie as tie
 
--- src/lib.rt:74:9
 after-lines-requires : tie.Need-after-lines-requires
 after-lines-requires c κs = search needs
 
--- src/lib.rt:75:5
 line-end-requires : tie.Need-line-end-requires
 line-end-requires c κs = search needs
 
--- src/lib.rt:71:1
 returns : tie.Need-returns
 returns c = ended-is ((c .before .before .before) .args .lines .now) (c .before .after-lines .ensures) (c .line-end .ensures)
 

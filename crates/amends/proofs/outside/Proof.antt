@@ -4,23 +4,18 @@ use borrow.Author.Needs.{needs}
 use Rattle.amends.proofs.outside.Statement.{statement}
 use Rattle.amends.proofs.outside.Tie as tie
 
--- src/lib.rt:100:23
 enum-known-kind : tie.Need-enum-known-kind
 enum-known-kind c = search needs
 
--- src/lib.rt:100:30
 is-six-requires : tie.Need-is-six-requires
 is-six-requires c κs = search needs
 
--- src/lib.rt:101:24
 enum-told : tie.Need-enum-told
 enum-told c = search needs
 
--- src/lib.rt:96:1
 returns : tie.Need-returns
 returns c = outside-value ((c .before .before .before .before) .args .kind) (c .before .before .kind .given .1) (c .is-six .ensures)
 
--- src/lib.rt:96:1
 returns-2 : tie.Need-returns-2
 returns-2 c = search needs
 

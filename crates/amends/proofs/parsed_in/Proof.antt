@@ -4,31 +4,24 @@ use borrow.Author.Needs.{needs}
 use Rattle.amends.proofs.parsed_in.Statement.{statement}
 use Rattle.amends.proofs.parsed_in.Tie as tie
 
--- src/lib.rt:124:13
 enum-known-b : tie.Need-enum-known-b
 enum-known-b c = search needs
 
--- src/lib.rt:128:14
 entry-of-requires : tie.Need-entry-of-requires
 entry-of-requires c κs = search needs
 
--- src/lib.rt:129:29
 enum-told : tie.Need-enum-told
 enum-told c = search needs
 
--- src/lib.rt:130:27
 enum-told-2 : tie.Need-enum-told-2
 enum-told-2 c = search needs
 
--- src/lib.rt:118:1
 returns : tie.Need-returns
 returns c = parsed-raw ((c .before .before .before .before) .args .b) (c .before .before .b .given .1) (c .entry-of .ensures)
 
--- src/lib.rt:118:1
 returns-2 : tie.Need-returns-2
 returns-2 c = search needs
 
--- src/lib.rt:118:1
 returns-3 : tie.Need-returns-3
 returns-3 c = search needs
 

@@ -4,83 +4,63 @@ use borrow.Author.Needs.{needs}
 use Rattle.amends.proofs.read_right.Statement.{statement}
 use Rattle.amends.proofs.read_right.Tie as tie
 
--- src/lib.rt:50:9
 line-end-requires : tie.Need-line-end-requires
 line-end-requires c κs = search needs
 
--- src/lib.rt:51:30
 slice-aggregate-number-of : tie.Need-slice-aggregate-number-of
 slice-aggregate-number-of c = search needs
 
--- src/lib.rt:51:9
 number-of-requires : tie.Need-number-of-requires
 number-of-requires c κs = search needs
 
--- src/lib.rt:52:9
 behind-requires : tie.Need-behind-requires
 behind-requires c κs = search needs
 
--- src/lib.rt:53:9
 line-end-requires-2 : tie.Need-line-end-requires-2
 line-end-requires-2 c κs = search needs
 
--- src/lib.rt:54:9
 line-kind-requires : tie.Need-line-kind-requires
 line-kind-requires c κs = search needs
 
--- src/lib.rt:55:9
 behind-requires-2 : tie.Need-behind-requires-2
 behind-requires-2 c κs = search needs
 
--- src/lib.rt:56:9
 line-end-requires-3 : tie.Need-line-end-requires-3
 line-end-requires-3 c κs = search needs
 
--- src/lib.rt:57:33
 slice-aggregate-number-of-2 : tie.Need-slice-aggregate-number-of-2
 slice-aggregate-number-of-2 c = search needs
 
--- src/lib.rt:57:9
 number-of-requires-2 : tie.Need-number-of-requires-2
 number-of-requires-2 c κs = search needs
 
--- src/lib.rt:58:9
 behind-requires-3 : tie.Need-behind-requires-3
 behind-requires-3 c κs = search needs
 
--- src/lib.rt:59:9
 line-end-requires-4 : tie.Need-line-end-requires-4
 line-end-requires-4 c κs = search needs
 
--- src/lib.rt:60:31
 slice-aggregate-number-of-3 : tie.Need-slice-aggregate-number-of-3
 slice-aggregate-number-of-3 c = search needs
 
--- src/lib.rt:60:9
 number-of-requires-3 : tie.Need-number-of-requires-3
 number-of-requires-3 c κs = search needs
 
--- src/lib.rt:61:9
 behind-requires-4 : tie.Need-behind-requires-4
 behind-requires-4 c κs = search needs
 
--- src/lib.rt:62:30
 slice-aggregate-number-of-4 : tie.Need-slice-aggregate-number-of-4
 slice-aggregate-number-of-4 c = search needs
 
--- src/lib.rt:62:36
 line-end-requires-5 : tie.Need-line-end-requires-5
 line-end-requires-5 c κs = search needs
 
--- src/lib.rt:62:9
 number-of-requires-4 : tie.Need-number-of-requires-4
 number-of-requires-4 c κs = search needs
 
--- src/lib.rt:66:16
 block-from-requires : tie.Need-block-from-requires
 block-from-requires c κs = search needs
 
--- src/lib.rt:47:1
 returns : tie.Need-returns
 returns c = (right-five ((c .before .before .before .before .before .before .before .before .before .before .before .before .before .before .before .before .before .before .before .before) .args .lines .now) (c .before .before .before .before .before .before .before .before .before .before .before .before .before .before .before .before .number-of .ensures) (c .before .before .before .before .before .before .before .before .before .before .before .before .before .before .before .behind .ensures) (c .before .before .before .before .before .before .before .before .before .before .before .before .before .line-kind .ensures) (c .before .before .before .before .before .before .before .before .before .before .before .before .behind2 .ensures) (c .before .before .before .before .before .before .before .before .before .number-of2 .ensures) (c .before .before .before .before .before .before .before .before .behind3 .ensures) (c .before .before .before .before .before .number-of3 .ensures) (c .before .before .before .before .behind4 .ensures) (c .before .number-of4 .ensures) (c .block-from .ensures), right-small ((c .before .before .before .before .before .before .before .before .before .before .before .before .before .before .before .before .before .before .before .before) .args .lines .now) (c .before .before .before .before .before .before .before .before .before .before .before .before .before .before .before .before .number-of .ensures))
 

@@ -3,39 +3,30 @@ use borrow.Author.Needs.{needs}
 use Rattle.amends.proofs.right_code.Statement.{statement}
 use Rattle.amends.proofs.right_code.Tie as tie
 
--- src/lib.rt:109:9
 between-requires : tie.Need-between-requires
 between-requires c κs = search needs
 
--- src/lib.rt:110:25
 is-six-requires : tie.Need-is-six-requires
 is-six-requires c κs = search needs
 
--- src/lib.rt:110:45
 outside-requires : tie.Need-outside-requires
 outside-requires c κs = search needs
 
--- src/lib.rt:110:9
 either-requires : tie.Need-either-requires
 either-requires c κs = search needs
 
--- src/lib.rt:112:9
 when-requires : tie.Need-when-requires
 when-requires c κs = search needs
 
--- src/lib.rt:113:14
 either-requires-2 : tie.Need-either-requires-2
 either-requires-2 c κs = search needs
 
--- src/lib.rt:113:9
 when-requires-2 : tie.Need-when-requires-2
 when-requires-2 c κs = search needs
 
--- src/lib.rt:111:5
 or-else-requires : tie.Need-or-else-requires
 or-else-requires c κs = search needs
 
--- src/lib.rt:106:1
 returns : tie.Need-returns
 returns c = cc
 

@@ -8,11 +8,9 @@ use mathlib.Core.Path.{ap}
 use Rattle.answers.proofs.jackpot_len.Statement.{statement}
 use Rattle.answers.proofs.jackpot_len.Tie as tie
 
--- src/lib.rt:102:1
 returns : tie.Need-returns
 returns c = (omega (arith, jackpot-count ((c .before) .args .j), ap (λ (b : Bool). pick {A = ℕ} b 18 0) (c .if1 .taken)), omega arith)
 
--- src/lib.rt:102:1
 returns-2 : tie.Need-returns-2
 returns-2 c = (omega (arith, jackpot-count ((c .before) .args .j), ap (λ (b : Bool). pick {A = ℕ} b 18 0) (c .if1 .left)), omega arith)
 

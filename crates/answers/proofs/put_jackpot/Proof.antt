@@ -7,23 +7,18 @@ use borrow.Author.Needs.{needs}
 use Rattle.answers.proofs.put_jackpot.Statement.{statement}
 use Rattle.answers.proofs.put_jackpot.Tie as tie
 
--- src/lib.rt:212:39
 slice-aggregate-write-nine-line : tie.Need-slice-aggregate-write-nine-line
 slice-aggregate-write-nine-line c = search needs
 
--- src/lib.rt:212:9
 write-nine-line-requires : tie.Need-write-nine-line-requires
 write-nine-line-requires c κs = ((c .before .before .before .before) .pre .0, omega (arith, ap length (jackpot-shared ((c .before .before .before .before) .args .j) (c .before .before .if1 .taken))))
 
--- src/lib.rt:212:9
 same-length : tie.Need-same-length
 same-length c = search needs
 
--- src/lib.rt:212:9
 returns : tie.Need-returns
 returns c = rw (jackpot-shared ((c .before .before .before .before .before .before .before) .args .j) (c .before .before .before .before .before .if1 .taken)) (c .before .before .write-nine-line .ensures)
 
--- src/lib.rt:207:1
 returns-2 : tie.Need-returns-2
 returns-2 c = rw (jackpot-lone ((c .before .before) .args .j) (c .if1 .left)) (record { count = refl; sheet = refl })
 

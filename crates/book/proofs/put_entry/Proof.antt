@@ -6,51 +6,39 @@ use borrow.Author.Needs.{needs}
 use Rattle.book.proofs.put_entry.Statement.{statement}
 use Rattle.book.proofs.put_entry.Tie as tie
 
--- src/main.rt:149:26
 add-write-entry : tie.Need-add-write-entry
 add-write-entry c = search needs
 
--- src/main.rt:149:33
 entry-in-requires : tie.Need-entry-in-requires
 entry-in-requires c κs = search needs
 
--- src/main.rt:149:11
 write-entry-requires : tie.Need-write-entry-requires
 write-entry-requires c κs = search needs
 
--- src/main.rt:150:20
 enum-known-n : tie.Need-enum-known-n
 enum-known-n c = search needs
 
--- src/main.rt:151:28
 enum-told : tie.Need-enum-told
 enum-told c = search needs
 
--- src/main.rt:152:24
 enum-told-2 : tie.Need-enum-told-2
 enum-told-2 c = search needs
 
--- src/main.rt:145:1
 same-length : tie.Need-same-length
 same-length c = search needs
 
--- src/main.rt:145:1
 returns : tie.Need-returns
 returns c = put-within (isEntry ((c .before .before .before .before .before .before .before .before .before .before) .args .s) ((c .before .before .before .before .before .before .before .before .before .before) .args .k + 1) (c .before .before .before .before .before .before .before .entry-in .result)) (entryText ((c .before .before .before .before .before .before .before .before .before .before) .args .k + 1) (c .before .before .before .before .before .before .before .entry-in .result)) ((c .before .before .before .before .before .before .before .before .before .before) .args .out .now) (c .before .before .before .before .before .write-entry .ensures .0) (c .before .n .given .1)
 
--- src/main.rt:145:1
 same-length-2 : tie.Need-same-length-2
 same-length-2 c = search needs
 
--- src/main.rt:145:1
 returns-2 : tie.Need-returns-2
 returns-2 c = search needs
 
--- src/main.rt:145:1
 same-length-3 : tie.Need-same-length-3
 same-length-3 c = search needs
 
--- src/main.rt:145:1
 returns-3 : tie.Need-returns-3
 returns-3 c = search needs
 

@@ -19,119 +19,90 @@ Inv-loop k₀ buf₀ log₀ index₀ part out₀ fd ok₀ from₀ at₀ k buf lo
 abbrev μ-loop : tie.MeasureT-loop
 μ-loop k₀ buf₀ log₀ index₀ part out₀ fd ok₀ from₀ at₀ k buf log index out ok from at = length part - from
 
--- src/main.rt:64:19
 buffer-requires : tie.Need-buffer-requires Inv-loop μ-loop
 buffer-requires c κs = search needs
 
--- src/main.rt:65:9
 voice-requires : tie.Need-voice-requires Inv-loop μ-loop
 voice-requires c κs = search needs
 
--- src/main.rt:69:5
 loop-holds : tie.Need-loop-holds Inv-loop μ-loop
 loop-holds c = (refl, refl, refl, sym (c .before .buffer .ensures), (c .before .before .before .before .before .before) .pre .0, omega arith, omega arith)
 
--- src/main.rt:70:27
 sub-flush : tie.Need-sub-flush Inv-loop μ-loop
 sub-flush c = search needs
 
--- src/main.rt:70:27
 part-flush-start : tie.Need-part-flush-start Inv-loop μ-loop
 part-flush-start c = search needs
 
--- src/main.rt:70:27
 part-flush-end : tie.Need-part-flush-end Inv-loop μ-loop
 part-flush-end c = search needs
 
--- src/main.rt:70:13
 flush-requires : tie.Need-flush-requires Inv-loop μ-loop
 flush-requires c κs = search needs
 
--- src/main.rt:71:9
 both-requires : tie.Need-both-requires Inv-loop μ-loop
 both-requires c κs = search needs
 
--- src/main.rt:73:42
 sub-take-one : tie.Need-sub-take-one Inv-loop μ-loop
 sub-take-one c = c .before .before .before .before .before .before .before .before .loop .inv .5
 
--- src/main.rt:73:42
 part-take-one-start : tie.Need-part-take-one-start Inv-loop μ-loop
 part-take-one-start c = c .before .before .before .before .before .before .before .before .loop .inv .5
 
--- src/main.rt:73:42
 part-take-one-end : tie.Need-part-take-one-end Inv-loop μ-loop
 part-take-one-end c = le-refl _
 
--- src/main.rt:73:57
 sub-take-one-2 : tie.Need-sub-take-one-2 Inv-loop μ-loop
 sub-take-one-2 c = search needs
 
--- src/main.rt:73:57
 part-out-start : tie.Need-part-out-start Inv-loop μ-loop
 part-out-start c = search needs
 
--- src/main.rt:73:57
 part-out-end : tie.Need-part-out-end Inv-loop μ-loop
 part-out-end c = search needs
 
--- src/main.rt:73:9
 take-one-requires : tie.Need-take-one-requires Inv-loop μ-loop
 take-one-requires c κs = (c .before .before .before .before .before .before .before .before .before .before .loop .inv .4, subst (λ (n : ℕ). keptMost ≤ n) (sym (c .before .before .before .before .before .before .before .before .before .before .loop .inv .0)) ((c .before .before .before .before .before .before .before .before .before .before .before .before .before .before .before .before .before) .pre .1), some-left ((c .before .before .before .before .before .before .before .before .before .before .before .before .before .before .before .before .before) .args .part .now) (c .before .before .before .before .before .before .before .before .before .loop-test .taken))
 
--- src/main.rt:74:14
 add-at : tie.Need-add-at Inv-loop μ-loop
 add-at c = omega (arith, c .before .before .before .before .before .before .before .before .before .before .before .before .before .before .before .flush .ensures .1 .1, c .before .before .before .before .before .before .before .before .take-one .ensures .3, mid-most (c .before .before .before .before .before .before .before .before .before .before .before .before .before .before .before .flush .result .at) (16384 - c .before .before .before .before .before .before .before .before .before .before .before .before .before .before .before .flush .result .at) (c .before .before .before .before .before .before .before .before .before .before .before .before .before .before .before .before .before .before .before .loop .out))
 
--- src/main.rt:75:9
 next-place-requires : tie.Need-next-place-requires Inv-loop μ-loop
 next-place-requires c κs = (c .before .before .before .before .before .before .before .before .take-one .ensures .1, used-within ((c .before .before .before .before .before .before .before .before .before .before .before .before .before .before .before .before .before .before .before .before .before .before .before .before .before .before) .args .part .now) (c .before .before .before .before .before .before .before .before .before .before .before .before .before .before .before .before .before .before .loop-test .taken) (c .before .before .before .before .before .before .before .before .take-one .ensures .2))
 
--- src/main.rt:69:5
 loop-less : tie.Need-loop-less Inv-loop μ-loop
 loop-less c = nearer (c .next-place .ensures .0) (c .next-place .ensures .1)
 
--- src/main.rt:69:5
 loop-again : tie.Need-loop-again Inv-loop μ-loop
 loop-again c = (c .before .before .before .before .before .before .before .before .buf .given ∙ c .before .before .before .before .before .before .before .before .before .before .before .before .before .before .before .before .before .before .before .before .loop .inv .0, c .before .before .before .before .before .before .log .given ∙ c .before .before .before .before .before .before .before .before .before .before .before .before .before .before .before .before .before .before .before .before .loop .inv .1, c .before .before .before .before .index .given ∙ c .before .before .before .before .before .before .before .before .before .before .before .before .before .before .before .before .before .before .before .before .loop .inv .2, same-len-mid (c .before .before .before .before .before .before .before .before .before .before .before .before .before .before .before .before .flush .result .at) (16384 - c .before .before .before .before .before .before .before .before .before .before .before .before .before .before .before .before .flush .result .at) (c .before .before .before .before .before .before .before .before .before .before .before .before .before .before .before .before .before .before .before .before .loop .out) (c .before .before .before .before .before .before .before .before .before .take-one .last .1 .1 .1 .1 .1 .0) (c .before .before .out3 .given) ∙ c .before .before .before .before .before .before .before .before .before .before .before .before .before .before .before .before .before .before .before .before .loop .inv .3, c .before .before .before .before .before .before .before .before .before .take-one .ensures .0, c .next-place .ensures .1, at-within (c .before .before .before .before .before .before .before .before .before .before .before .before .before .before .before .before .before .before .before .before .loop .out) (c .before .before .before .before .before .before .before .before .before .before .before .before .before .before .before .before .flush .ensures .1 .1) (c .before .before .before .before .before .before .before .before .before .take-one .ensures .3))
 
--- src/main.rt:77:34
 sub-write-all : tie.Need-sub-write-all Inv-loop μ-loop
 sub-write-all c = search needs
 
--- src/main.rt:77:34
 part-write-all-start : tie.Need-part-write-all-start Inv-loop μ-loop
 part-write-all-start c = search needs
 
--- src/main.rt:77:34
 part-write-all-end : tie.Need-part-write-all-end Inv-loop μ-loop
 part-write-all-end c = search needs
 
--- src/main.rt:77:9
 write-all-requires : tie.Need-write-all-requires Inv-loop μ-loop
 write-all-requires c κs = search needs
 
--- src/main.rt:78:9
 both-requires-2 : tie.Need-both-requires-2 Inv-loop μ-loop
 both-requires-2 c κs = search needs
 
--- src/main.rt:80:5
 both-requires-3 : tie.Need-both-requires-3 Inv-loop μ-loop
 both-requires-3 c κs = search needs
 
--- src/main.rt:60:1
 same-length : tie.Need-same-length Inv-loop μ-loop
 same-length c = c .before .before .before .before .before .before .loop .inv .0
 
--- src/main.rt:60:1
 same-length-2 : tie.Need-same-length-2 Inv-loop μ-loop
 same-length-2 c = c .before .before .before .before .before .before .loop .inv .1
 
--- src/main.rt:60:1
 same-length-3 : tie.Need-same-length-3 Inv-loop μ-loop
 same-length-3 c = c .before .before .before .before .before .before .loop .inv .2
 
--- src/main.rt:60:1
 returns : tie.Need-returns Inv-loop μ-loop
 returns c = record { book = c .before .before .before .before .before .before .loop .inv .4 .book; room = c .before .before .before .before .before .before .loop .inv .4 .room; lines = c .before .before .before .before .before .before .loop .inv .4 .lines }
 

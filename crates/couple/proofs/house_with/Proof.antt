@@ -5,19 +5,15 @@ use borrow.Author.Needs.{needs}
 use Rattle.couple.proofs.house_with.Statement.{statement}
 use Rattle.couple.proofs.house_with.Tie as tie
 
--- src/lib.rt:97:25
 short-of-requires : tie.Need-short-of-requires
 short-of-requires c κs = search needs
 
--- src/lib.rt:97:13
 least-requires : tie.Need-least-requires
 least-requires c κs = search needs
 
--- src/lib.rt:97:5
 add-result : tie.Need-add-result
 add-result c = search needs
 
--- src/lib.rt:93:1
 returns : tie.Need-returns
 returns c = house-is ((c .before .before) .args .house) ((c .before .before) .args .part) ((c .before .before) .pre) (c .before .short-of .ensures) (c .least .ensures) refl
 

@@ -7,51 +7,39 @@ use borrow.Author.Needs.{needs}
 use Rattle.couple.proofs.last_lines.Statement.{statement}
 use Rattle.couple.proofs.last_lines.Tie as tie
 
--- src/lib.rt:234:9
 returns : tie.Need-returns
 returns c = last-shut ((c .before .before) .args .only) ((c .before .before) .args .p) (c .if1 .taken)
 
--- src/lib.rt:237:40
 slice-aggregate-write-number-line : tie.Need-slice-aggregate-write-number-line
 slice-aggregate-write-number-line c = search needs
 
--- src/lib.rt:237:13
 write-number-line-requires : tie.Need-write-number-line-requires
 write-number-line-requires c κs = (omega (arith, (c .before .before .before .before .before) .pre .0 .held), omega (arith, (c .before .before .before .before .before) .pre .1, line-most poolKey ((c .before .before .before .before .before) .args .p .pool .held)))
 
--- src/lib.rt:238:38
 sub-write-number-line : tie.Need-sub-write-number-line
 sub-write-number-line c = omega (arith, (c .before .before .before .before .before .before .before .before) .pre .1, c .before .before .write-number-line .ensures .count, line-most poolKey ((c .before .before .before .before .before .before .before .before) .args .p .pool .held))
 
--- src/lib.rt:238:38
 part-write-number-line-start : tie.Need-part-write-number-line-start
 part-write-number-line-start c = omega (arith, (c .before .before .before .before .before .before .before .before) .pre .1, c .before .before .write-number-line .ensures .count, line-most poolKey ((c .before .before .before .before .before .before .before .before) .args .p .pool .held))
 
--- src/lib.rt:238:38
 part-write-number-line-end : tie.Need-part-write-number-line-end
 part-write-number-line-end c = search needs
 
--- src/lib.rt:238:53
 slice-aggregate-write-number-line-2 : tie.Need-slice-aggregate-write-number-line-2
 slice-aggregate-write-number-line-2 c = search needs
 
--- src/lib.rt:238:20
 write-number-line-requires-2 : tie.Need-write-number-line-requires-2
 write-number-line-requires-2 c κs = (omega (arith, (c .before .before .before .before .before .before .before .before .before .before) .pre .0 .house), omega (arith, (c .before .before .before .before .before .before .before .before .before .before) .pre .1, c .before .before .before .before .write-number-line .ensures .count, line-most poolKey ((c .before .before .before .before .before .before .before .before .before .before) .args .p .pool .held), line-most houseKey ((c .before .before .before .before .before .before .before .before .before .before) .args .p .house)))
 
--- src/lib.rt:238:16
 add-result : tie.Need-add-result
 add-result c = omega (arith, (c .before .before .before .before .before .before .before .before .before .before .before .before .before) .pre .1, c .before .before .before .before .before .before .before .write-number-line .ensures .count, c .before .before .write-number-line2 .ensures .count, line-most poolKey ((c .before .before .before .before .before .before .before .before .before .before .before .before .before) .args .p .pool .held), line-most houseKey ((c .before .before .before .before .before .before .before .before .before .before .before .before .before) .args .p .house))
 
--- src/lib.rt:238:9
 same-length : tie.Need-same-length
 same-length c = search needs
 
--- src/lib.rt:238:9
 returns-2 : tie.Need-returns-2
 returns-2 c = last-both ((c .before .before .before .before .before .before .before .before .before .before .before .before .before) .args .only) ((c .before .before .before .before .before .before .before .before .before .before .before .before .before) .args .p) (c .before .before .before .before .before .before .before .before .before .before .before .if1 .left) (c .before .before .before .before .before .before .before .before .before .before .if2 .taken) (then (c .before .before .before .before .before .before .before .write-number-line .ensures) (c .before .before .write-number-line2 .ensures))
 
--- src/lib.rt:229:1
 returns-3 : tie.Need-returns-3
 returns-3 c = last-one ((c .before .before .before) .args .only) ((c .before .before .before) .args .p) (c .before .if1 .left) (c .if2 .left)
 

@@ -6,35 +6,27 @@ use borrow.Author.Needs.{needs}
 use Rattle.couple.proofs.open_sheet.Statement.{statement}
 use Rattle.couple.proofs.open_sheet.Tie as tie
 
--- src/lib.rt:202:11
 read-sheet-requires : tie.Need-read-sheet-requires
 read-sheet-requires c κs = search needs
 
--- src/lib.rt:203:35
 enum-told : tie.Need-enum-told
 enum-told c = search needs
 
--- src/lib.rt:203:25
 refuse-requires : tie.Need-refuse-requires
 refuse-requires c κs = search needs
 
--- src/lib.rt:204:23
 enum-known-s : tie.Need-enum-known-s
 enum-known-s c = search needs
 
--- src/lib.rt:205:19
 with-sheet-requires : tie.Need-with-sheet-requires
 with-sheet-requires c κs = ((c .before .before .before .before .before .before) .pre .0, sheet-is ((c .before .before .before .before .before .before) .args .lines .now) _ (sym (c .before .before .before .read-sheet .ensures) ∙ c .before .s .given .1))
 
--- src/lib.rt:197:1
 same-length : tie.Need-same-length
 same-length c = search needs
 
--- src/lib.rt:197:1
 returns : tie.Need-returns
 returns c = let w = c .before .before .refuse .ensures in (sheet-bad ((c .before .before .before .before .before .before .before .before .before) .args .p) ((c .before .before .before .before .before .before .before .before .before) .args .due) (c .before .before .before .before .before .before .read-sheet .ensures) (c .before .before .before .before .enum-told .given .1) (w .0), w .1)
 
--- src/lib.rt:197:1
 returns-2 : tie.Need-returns-2
 returns-2 c = let w = c .with-sheet .ensures in (sheet-gave ((c .before .before .before .before .before .before .before) .args .p) ((c .before .before .before .before .before .before .before) .args .due) (c .before .before .before .before .read-sheet .ensures) (c .before .before .s .given .1) (record { pair = w .0; wrote = record { count = refl; sheet = refl } }), w .1)
 

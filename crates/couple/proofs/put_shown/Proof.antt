@@ -7,63 +7,48 @@ use borrow.Author.Needs.{needs}
 use Rattle.couple.proofs.put_shown.Statement.{statement}
 use Rattle.couple.proofs.put_shown.Tie as tie
 
--- src/lib.rt:114:13
 named-requires : tie.Need-named-requires
 named-requires c κs = search needs
 
--- src/lib.rt:115:40
 slice-aggregate-write-number-line : tie.Need-slice-aggregate-write-number-line
 slice-aggregate-write-number-line c = search needs
 
--- src/lib.rt:115:13
 write-number-line-requires : tie.Need-write-number-line-requires
 write-number-line-requires c κs = (omega (arith, c .before .before .named .ensures .1), omega (arith, (c .before .before .before .before .before .before) .pre .2, line-most tableKey (c .before .before .named .result)))
 
--- src/lib.rt:116:30
 sub-put-bytes : tie.Need-sub-put-bytes
 sub-put-bytes c = omega (arith, (c .before .before .before .before .before .before .before .before .before) .pre .2, c .before .before .write-number-line .ensures .count, line-most tableKey (c .before .before .before .before .before .named .result))
 
--- src/lib.rt:116:30
 part-put-bytes-start : tie.Need-part-put-bytes-start
 part-put-bytes-start c = omega (arith, (c .before .before .before .before .before .before .before .before .before) .pre .2, c .before .before .write-number-line .ensures .count, line-most tableKey (c .before .before .before .before .before .named .result))
 
--- src/lib.rt:116:30
 part-put-bytes-end : tie.Need-part-put-bytes-end
 part-put-bytes-end c = search needs
 
--- src/lib.rt:116:20
 put-bytes-requires : tie.Need-put-bytes-requires
 put-bytes-requires c κs = omega (arith, (c .before .before .before .before .before .before .before .before .before .before) .pre .2, c .before .before .before .write-number-line .ensures .count, line-most tableKey (c .before .before .before .before .before .before .named .result))
 
--- src/lib.rt:116:16
 add-result : tie.Need-add-result
 add-result c = omega (arith, (c .before .before .before .before .before .before .before .before .before .before .before .before .before) .pre .2, c .before .before .before .before .before .before .write-number-line .ensures .count, c .before .before .put-bytes .ensures .count, line-most tableKey (c .before .before .before .before .before .before .before .before .before .named .result))
 
--- src/lib.rt:116:9
 same-length : tie.Need-same-length
 same-length c = search needs
 
--- src/lib.rt:116:9
 returns : tie.Need-returns
 returns c = shown-both ((c .before .before .before .before .before .before .before .before .before .before .before .before .before) .args .only) ((c .before .before .before .before .before .before .before .before .before .before .before .before .before) .args .due) ((c .before .before .before .before .before .before .before .before .before .before .before .before .before) .args .answer .now) (c .before .before .before .before .before .before .before .before .before .named .ensures .0) (c .before .before .before .before .before .before .before .before .before .before .if1 .taken) (then (c .before .before .before .before .before .before .write-number-line .ensures) (c .before .before .put-bytes .ensures))
 
--- src/lib.rt:118:8
 add-if2 : tie.Need-add-if2
 add-if2 c = search needs
 
--- src/lib.rt:119:9
 put-bytes-requires-2 : tie.Need-put-bytes-requires-2
 put-bytes-requires-2 c κs = search needs
 
--- src/lib.rt:119:9
 same-length-2 : tie.Need-same-length-2
 same-length-2 c = search needs
 
--- src/lib.rt:119:9
 returns-2 : tie.Need-returns-2
 returns-2 c = shown-one ((c .before .before .before .before .before .before .before .before) .args .only) ((c .before .before .before .before .before .before .before .before) .args .due) ((c .before .before .before .before .before .before .before .before) .args .answer .now) (c .before .before .before .before .before .if1 .left) (c .before .before .before .before .if2 .taken) (c .before .before .put-bytes2 .ensures)
 
--- src/lib.rt:109:1
 returns-3 : tie.Need-returns-3
 returns-3 c = shown-none ((c .before .before .before .before) .args .only) ((c .before .before .before .before) .args .due) ((c .before .before .before .before) .args .answer .now) (c .before .if1 .left) (c .if2 .left)
 

@@ -4,11 +4,9 @@ use Rattle.couple.proofs.Tables.{started}
 use Rattle.couple.proofs.start.Statement.{statement}
 use Rattle.couple.proofs.start.Tie as tie
 
--- src/lib.rt:54:9
 new-table-requires : tie.Need-new-table-requires
 new-table-requires c κs = stand-in-good
 
--- src/lib.rt:51:1
 returns : tie.Need-returns
 returns c = started (c .new-table .ensures)
 

@@ -6,19 +6,15 @@ use borrow.Author.Needs.{needs}
 use Rattle.couple.proofs.table_at.Statement.{statement}
 use Rattle.couple.proofs.table_at.Tie as tie
 
--- src/lib.rt:75:16
 array-copy-out-result : tie.Need-array-copy-out-result
 array-copy-out-result c = search needs
 
--- src/lib.rt:75:9
 returns : tie.Need-returns
 returns c = let n : length ((c .before .before) .args .t1) ≡ 2 = search needs in at-second ((c .before .before) .args .t1) _ n (c .before .if1 .taken)
 
--- src/lib.rt:77:5
 array-copy-out-result-2 : tie.Need-array-copy-out-result-2
 array-copy-out-result-2 c = search needs
 
--- src/lib.rt:71:1
 returns-2 : tie.Need-returns-2
 returns-2 c = let n : length ((c .before .before) .args .t1) ≡ 2 = search needs in at-first ((c .before .before) .args .t1) _ n (c .before .if1 .left)
 

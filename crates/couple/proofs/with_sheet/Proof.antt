@@ -4,19 +4,15 @@ use borrow.Author.Needs.{needs}
 use Rattle.couple.proofs.with_sheet.Statement.{statement}
 use Rattle.couple.proofs.with_sheet.Tie as tie
 
--- src/lib.rt:187:29
 is-second-requires : tie.Need-is-second-requires
 is-second-requires c κs = search needs
 
--- src/lib.rt:187:45
 new-table-requires : tie.Need-new-table-requires
 new-table-requires c κs = search needs
 
--- src/lib.rt:187:9
 with-table-requires : tie.Need-with-table-requires
 with-table-requires c κs = search needs
 
--- src/lib.rt:181:1
 returns : tie.Need-returns
 returns c = sheet-with ((c .before .before .before .before .before) .args .p) ((c .before .before .before .before .before) .args .due) ((c .before .before .before .before .before) .args .s) ((c .before .before .before .before .before) .pre .0) (c .before .before .is-second .ensures) (c .before .new-table .ensures) (c .with-table .ensures)
 

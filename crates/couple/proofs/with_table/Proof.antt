@@ -4,19 +4,15 @@ use borrow.Author.Needs.{needs}
 use Rattle.couple.proofs.with_table.Statement.{statement}
 use Rattle.couple.proofs.with_table.Tie as tie
 
--- src/lib.rt:85:9
 array-set-from-us : tie.Need-array-set-from-us
 array-set-from-us c = search needs
 
--- src/lib.rt:86:9
 returns : tie.Need-returns
 returns c = with-second ((c .before) .args .ts) ((c .before) .args .t) (c .if1 .taken)
 
--- src/lib.rt:88:5
 array-set-from-us-2 : tie.Need-array-set-from-us-2
 array-set-from-us-2 c = search needs
 
--- src/lib.rt:80:1
 returns-2 : tie.Need-returns-2
 returns-2 c = with-first ((c .before) .args .ts) ((c .before) .args .t) (c .if1 .left)
 

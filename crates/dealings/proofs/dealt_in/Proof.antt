@@ -1,10 +1,9 @@
 -- `dealt_in` meets its contract: what was counted with what stands behind the place is all.
 use mathlib.Core.Path.{_≡_, ap}
 use Prim.Native.Nat.{_+_, _-_, _≤_}
-use lib.ListN.{length, drop}
+use lib.ListN.{length, drop, drop-of-length-le}
 use native.Mathlib.Omega.{arith}
 use lib.Dec.{ltb}
-use lib.ListN.{drop-of-length-le}
 use Rattle.laws.specs.Often.{tally}
 use Rattle.dealings.proofs.Laws.{tally-step}
 use borrow.Author.Needs.{needs}

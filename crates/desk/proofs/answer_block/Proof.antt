@@ -8,46 +8,36 @@ use borrow.Author.Needs.{needs}
 use Rattle.desk.proofs.answer_block.Statement.{statement}
 use Rattle.desk.proofs.answer_block.Tie as tie
 
--- src/lib.rt:186:9
 judge-block-requires : tie.Need-judge-block-requires
 judge-block-requires c κs = search needs
 
--- src/lib.rt:189:9
 returns : tie.Need-returns
 returns c = none-answered ((c .before .before .before .before .before) .args .table) (judgeBlock ((c .before .before .before .before .before) .args .table) ((c .before .before .before .before .before) .args .b)) ((c .before .before .before .before .before) .args .sheet .now) (c .before .before .before .judge-block .ensures .0) (not-true _ (c .if1 .taken)) (c .before .before .before .judge-block .ensures .1)
 
--- src/lib.rt:197:9
 shown-of-requires : tie.Need-shown-of-requires
 shown-of-requires c κs =
     let a = c .before .before .before .before .before .before .args in
     let j = c .before .before .before .before .judge-block .ensures in
     (j .1, j .3, j .2, judged-closed (a .table) (a .b) (j .0))
 
--- src/lib.rt:198:9
 write-answer-requires : tie.Need-write-answer-requires
 write-answer-requires c κs = search needs
 
--- src/lib.rt:199:24
 enum-known-w : tie.Need-enum-known-w
 enum-known-w c = search needs
 
--- src/lib.rt:200:9
 enum-told : tie.Need-enum-told
 enum-told c = search needs
 
--- src/lib.rt:200:9
 same-length : tie.Need-same-length
 same-length c = search needs
 
--- src/lib.rt:200:9
 returns-2 : tie.Need-returns-2
 returns-2 c = answered-is ((c .before .before .before .before .before .before .before .before .before .before .before .before .before) .args .table) (judgeBlock ((c .before .before .before .before .before .before .before .before .before .before .before .before .before) .args .table) ((c .before .before .before .before .before .before .before .before .before .before .before .before .before) .args .b)) ((c .before .before .before .before .before .before .before .before .before .before .before .before .before) .args .sheet .now) (c .before .before .before .before .before .before .before .before .before .before .before .judge-block .ensures .0) (not-false _ (c .before .before .before .before .before .before .before .before .if1 .left)) (c .before .before .before .before .before .before .shown-of .ensures .0) (c .before .before .before .before .write-answer .ensures .0) (c .before .before .before .before .write-answer .ensures .1) (rw (c .enum-told .given .1) refl) ((c .before .before .before .before .before .before .before .before .before .before .before .before .before) .pre .0)
 
--- src/lib.rt:180:1
 same-length-2 : tie.Need-same-length-2
 same-length-2 c = search needs
 
--- src/lib.rt:180:1
 returns-3 : tie.Need-returns-3
 returns-3 c = answered-is ((c .before .before .before .before .before .before .before .before .before .before .before .before .before .before) .args .table) (judgeBlock ((c .before .before .before .before .before .before .before .before .before .before .before .before .before .before) .args .table) ((c .before .before .before .before .before .before .before .before .before .before .before .before .before .before) .args .b)) ((c .before .before .before .before .before .before .before .before .before .before .before .before .before .before) .args .sheet .now) (c .before .before .before .before .before .before .before .before .before .before .before .before .judge-block .ensures .0) (not-false _ (c .before .before .before .before .before .before .before .before .before .if1 .left)) (c .before .before .before .before .before .before .before .shown-of .ensures .0) (c .before .before .before .before .before .write-answer .ensures .0) (c .before .before .before .before .before .write-answer .ensures .1) (rw (c .before .w .given .1) refl) (c .before .before .before .before .before .before .before .before .before .before .before .before .judge-block .ensures .1)
 

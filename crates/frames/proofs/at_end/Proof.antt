@@ -3,23 +3,18 @@ use Rattle.frames.proofs.Nexts.{end-opening, end-none, end-line, end-ru
 use Rattle.frames.proofs.at_end.Statement.{statement}
 use Rattle.frames.proofs.at_end.Tie as tie
 
--- src/lib.rt:235:9
 returns : tie.Need-returns
 returns c = end-opening ((c .before) .args .due) ((c .before) .args .count) (c .if1 .taken)
 
--- src/lib.rt:239:13
 returns-2 : tie.Need-returns-2
 returns-2 c = end-none ((c .before .before .before) .args .due) ((c .before .before .before) .args .count) (c .before .if2 .taken) (c .if3 .taken)
 
--- src/lib.rt:241:9
 returns-3 : tie.Need-returns-3
 returns-3 c = end-line ((c .before .before .before) .args .due) ((c .before .before .before) .args .count) (c .before .if2 .taken) (c .if3 .left)
 
--- src/lib.rt:244:9
 returns-4 : tie.Need-returns-4
 returns-4 c = end-run ((c .before .before .before) .args .due) ((c .before .before .before) .args .count) (c .if4 .taken)
 
--- src/lib.rt:231:1
 returns-5 : tie.Need-returns-5
 returns-5 c = end-block ((c .before .before .before) .args .due) ((c .before .before .before) .args .count) (c .before .before .if1 .left) (c .before .if2 .left) (c .if4 .left)
 

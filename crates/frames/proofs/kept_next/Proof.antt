@@ -4,15 +4,12 @@ use borrow.Author.Needs.{needs}
 use Rattle.frames.proofs.kept_next.Statement.{statement}
 use Rattle.frames.proofs.kept_next.Tie as tie
 
--- src/lib.rt:110:16
 wanted-requires : tie.Need-wanted-requires
 wanted-requires c κs = search needs
 
--- src/lib.rt:111:9
 returns : tie.Need-returns
 returns c = kept-more ((c .before .before) .args .due) ((c .before .before) .args .lines) ((c .before .before) .args .after) (c .before .wanted .ensures) (c .if1 .taken)
 
--- src/lib.rt:107:1
 returns-2 : tie.Need-returns-2
 returns-2 c = kept-last ((c .before .before) .args .due) ((c .before .before) .args .lines) ((c .before .before) .args .after) (c .before .wanted .ensures) (c .if1 .left)
 

@@ -4,31 +4,24 @@ use borrow.Author.Needs.{needs}
 use Rattle.frames.proofs.line_next.Statement.{statement}
 use Rattle.frames.proofs.line_next.Tie as tie
 
--- src/lib.rt:170:38
 add-kept-next : tie.Need-add-kept-next
 add-kept-next c = search needs
 
--- src/lib.rt:170:9
 kept-next-requires : tie.Need-kept-next-requires
 kept-next-requires c κs = search needs
 
--- src/lib.rt:170:9
 returns : tie.Need-returns
 returns c = line-opening ((c .before .before) .args .due) ((c .before .before) .args .lines) ((c .before .before) .args .table) (c .before .if1 .taken) (c .kept-next .ensures)
 
--- src/lib.rt:173:9
 other-next-requires : tie.Need-other-next-requires
 other-next-requires c κs = search needs
 
--- src/lib.rt:173:9
 returns-2 : tie.Need-returns-2
 returns-2 c = line-other ((c .before .before .before) .args .due) ((c .before .before .before) .args .lines) ((c .before .before .before) .args .table) (c .before .before .if1 .left) (c .before .if2 .taken) (c .other-next .ensures)
 
--- src/lib.rt:175:5
 table-next-requires : tie.Need-table-next-requires
 table-next-requires c κs = search needs
 
--- src/lib.rt:165:1
 returns-3 : tie.Need-returns-3
 returns-3 c = line-table ((c .before .before .before) .args .due) ((c .before .before .before) .args .lines) ((c .before .before .before) .args .table) (c .before .before .if1 .left) (c .before .if2 .left) (c .table-next .ensures)
 

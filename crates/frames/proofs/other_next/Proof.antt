@@ -4,19 +4,15 @@ use borrow.Author.Needs.{needs}
 use Rattle.frames.proofs.other_next.Statement.{statement}
 use Rattle.frames.proofs.other_next.Tie as tie
 
--- src/lib.rt:148:9
 returns : tie.Need-returns
 returns c = other-first ((c .before) .args .due) ((c .before) .args .lines) (c .if1 .taken)
 
--- src/lib.rt:155:9
 returns-2 : tie.Need-returns-2
 returns-2 c = other-more ((c .before .before) .args .due) ((c .before .before) .args .lines) (c .before .if1 .left) (c .if2 .taken)
 
--- src/lib.rt:161:5
 kept-next-requires : tie.Need-kept-next-requires
 kept-next-requires c κs = search needs
 
--- src/lib.rt:144:1
 returns-3 : tie.Need-returns-3
 returns-3 c = other-block ((c .before .before .before) .args .due) ((c .before .before .before) .args .lines) (c .before .if2 .left) (c .kept-next .ensures)
 

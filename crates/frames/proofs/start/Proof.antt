@@ -4,11 +4,9 @@ use borrow.Author.Needs.{needs}
 use Rattle.frames.proofs.start.Statement.{statement}
 use Rattle.frames.proofs.start.Tie as tie
 
--- src/lib.rt:58:9
 empty-requires : tie.Need-empty-requires
 empty-requires c κs = search needs
 
--- src/lib.rt:55:1
 returns : tie.Need-returns
 returns c = started (c .empty .ensures .0)
 

@@ -5,27 +5,21 @@ use borrow.Author.Needs.{needs}
 use Rattle.frames.proofs.table_in.Statement.{statement}
 use Rattle.frames.proofs.table_in.Tie as tie
 
--- src/lib.rt:70:23
 enum-known-x : tie.Need-enum-known-x
 enum-known-x c = search needs
 
--- src/lib.rt:72:17
 returns : tie.Need-returns
 returns c = search needs
 
--- src/lib.rt:75:17
 returns-2 : tie.Need-returns-2
 returns-2 c = search needs
 
--- src/lib.rt:79:24
 enum-told : tie.Need-enum-told
 enum-told c = search needs
 
--- src/lib.rt:66:1
 returns-3 : tie.Need-returns-3
 returns-3 c = (table-none ((c .before .before .before .before .before) .args .x) (c .before .before .before .x .given .1) (c .before .if1 .left) (c .if2 .left), omega arith)
 
--- src/lib.rt:66:1
 returns-4 : tie.Need-returns-4
 returns-4 c = search needs
 

@@ -4,19 +4,15 @@ use borrow.Author.Needs.{needs}
 use Rattle.frames.proofs.table_next.Statement.{statement}
 use Rattle.frames.proofs.table_next.Tie as tie
 
--- src/lib.rt:131:18
 add-t4 : tie.Need-add-t4
 add-t4 c = search needs
 
--- src/lib.rt:130:9
 returns : tie.Need-returns
 returns c = table-first ((c .before) .args .due) ((c .before) .args .table) (c .if1 .taken)
 
--- src/lib.rt:137:14
 add-t5 : tie.Need-add-t5
 add-t5 c = search needs
 
--- src/lib.rt:125:1
 returns-2 : tie.Need-returns-2
 returns-2 c = table-cut ((c .before) .args .due) ((c .before) .args .table) (c .if1 .left)
 

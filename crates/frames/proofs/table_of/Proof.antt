@@ -5,19 +5,15 @@ use borrow.Author.Needs.{needs}
 use Rattle.frames.proofs.table_of.Statement.{statement}
 use Rattle.frames.proofs.table_of.Tie as tie
 
--- src/lib.rt:87:36
 slice-aggregate-read-key-number : tie.Need-slice-aggregate-read-key-number
 slice-aggregate-read-key-number c = search needs
 
--- src/lib.rt:87:14
 read-key-number-requires : tie.Need-read-key-number-requires
 read-key-number-requires c κs = search needs
 
--- src/lib.rt:87:5
 table-in-requires : tie.Need-table-in-requires
 table-in-requires c κs = search needs
 
--- src/lib.rt:84:1
 returns : tie.Need-returns
 unfolding tableOf
 returns c = (c .table-in .ensures .0 ∙ ap tableIn (c .before .read-key-number .ensures), c .table-in .ensures .1)

@@ -6,11 +6,9 @@ use borrow.Author.Needs.{needs}
 use Rattle.fresh.proofs.begun.Statement.{statement}
 use Rattle.fresh.proofs.begun.Tie as tie
 
--- src/lib.rt:31:9
 new-table-requires : tie.Need-new-table-requires
 new-table-requires c κs = search needs
 
--- src/lib.rt:27:1
 returns : tie.Need-returns
 returns c = (ap (λ (u : Table). record { table = u; ok = true }) (c .new-table .ensures .0), c .new-table .ensures .1)
 

@@ -6,15 +6,12 @@ use borrow.Author.Needs.{needs}
 use Rattle.fresh.proofs.entry_or.Statement.{statement}
 use Rattle.fresh.proofs.entry_or.Tie as tie
 
--- src/lib.rt:69:9
 returns : tie.Need-returns
 returns c = here-it-is ((c .before) .args .k) ((c .before) .args .at) ((c .before) .args .e) (λ (_ : ℕ). entryBy ((c .before) .args .got)) (c .if1 .taken)
 
--- src/lib.rt:71:5
 entry-by-requires : tie.Need-entry-by-requires
 entry-by-requires c κs = search needs
 
--- src/lib.rt:65:1
 returns-2 : tie.Need-returns-2
 returns-2 c = another ((c .before .before) .args .k) ((c .before .before) .args .at) ((c .before .before) .args .e) (λ (_ : ℕ). entryBy ((c .before .before) .args .got)) (c .before .if1 .left) (c .entry-by .ensures)
 

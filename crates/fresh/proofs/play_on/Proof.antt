@@ -5,15 +5,12 @@ use borrow.Author.Needs.{needs}
 use Rattle.fresh.proofs.play_on.Statement.{statement}
 use Rattle.fresh.proofs.play_on.Tie as tie
 
--- src/lib.rt:41:9
 take-requires : tie.Need-take-requires
 take-requires c κs = search needs
 
--- src/lib.rt:45:13
 both-requires : tie.Need-both-requires
 both-requires c κs = search needs
 
--- src/lib.rt:36:1
 returns : tie.Need-returns
 returns c = (play-is ((c .before .before .before .before .before) .args .p) ((c .before .before .before .before .before) .args .n) ((c .before .before .before .before .before) .args .e) (c .before .before .before .take .ensures .0) refl (c .both .ensures), c .before .before .before .take .ensures .1)
 

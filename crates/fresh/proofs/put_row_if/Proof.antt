@@ -4,27 +4,21 @@ use borrow.Author.Needs.{needs}
 use Rattle.fresh.proofs.put_row_if.Statement.{statement}
 use Rattle.fresh.proofs.put_row_if.Tie as tie
 
--- src/lib.rt:111:34
 stacks-of-requires : tie.Need-stacks-of-requires
 stacks-of-requires c κs = search needs
 
--- src/lib.rt:111:9
 put-row-requires : tie.Need-put-row-requires
 put-row-requires c κs = search needs
 
--- src/lib.rt:112:16
 add-result : tie.Need-add-result
 add-result c = search needs
 
--- src/lib.rt:112:9
 same-length : tie.Need-same-length
 same-length c = search needs
 
--- src/lib.rt:112:9
 returns : tie.Need-returns
 returns c = rowed-yes ((c .before .before .before .before .before .before .before) .args .hand) ((c .before .before .before .before .before .before .before) .args .hands) ((c .before .before .before .before .before .before .before) .args .n) ((c .before .before .before .before .before .before .before) .args .cs) ((c .before .before .before .before .before .before .before) .args .index .now) (c .before .before .before .before .before .if1 .taken) (c .before .before .before .stacks-of .ensures) (c .before .before .put-row .ensures)
 
--- src/lib.rt:105:1
 returns-2 : tie.Need-returns-2
 returns-2 c = rowed-no ((c .before .before) .args .hand) ((c .before .before) .args .hands) ((c .before .before) .args .n) ((c .before .before) .args .cs) ((c .before .before) .args .index .now) (c .if1 .left)
 

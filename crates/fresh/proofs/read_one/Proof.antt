@@ -4,19 +4,15 @@ use borrow.Author.Needs.{needs}
 use Rattle.fresh.proofs.read_one.Statement.{statement}
 use Rattle.fresh.proofs.read_one.Tie as tie
 
--- src/lib.rt:81:9
 entry-or-requires : tie.Need-entry-or-requires
 entry-or-requires c κs = search needs
 
--- src/lib.rt:82:13
 add-k : tie.Need-add-k
 add-k c = search needs
 
--- src/lib.rt:83:9
 play-on-requires : tie.Need-play-on-requires
 play-on-requires c κs = search needs
 
--- src/lib.rt:75:1
 returns : tie.Need-returns
 returns c = (read-is ((c .before .before .before .before .before) .args .p) ((c .before .before .before .before .before) .args .got) (c .before .before .before .entry-or .ensures) (c .before .play-on .ensures .0), c .before .play-on .ensures .1)
 

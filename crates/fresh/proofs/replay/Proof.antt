@@ -4,15 +4,12 @@ use borrow.Author.Needs.{needs}
 use Rattle.fresh.proofs.replay.Statement.{statement}
 use Rattle.fresh.proofs.replay.Tie as tie
 
--- src/lib.rt:113:9
 begun-requires : tie.Need-begun-requires
 begun-requires c κs = search needs
 
--- src/lib.rt:114:9
 read-on-requires : tie.Need-read-on-requires
 read-on-requires c κs = search needs
 
--- src/lib.rt:109:1
 returns : tie.Need-returns
 returns c = (replay-is ((c .before .before .before .before) .args .sheet) ((c .before .before .before .before) .args .log .now) ((c .before .before .before .before) .args .count) ((c .before .before .before .before) .args .at) ((c .before .before .before .before) .args .e) (c .before .before .begun .ensures .0) (c .before .read-on .ensures .0), c .before .read-on .ensures .1)
 

@@ -17,39 +17,30 @@ Inv-loop cs stacks₀ i₀ stacks i = (i ≤ 10) × (length stacks ≡ 10) × (t
 abbrev μ-loop : tie.MeasureT-loop
 μ-loop cs stacks₀ i₀ stacks i = 10 - i
 
--- src/lib.rt:82:5
 loop-holds : tie.Need-loop-holds Inv-loop μ-loop
 loop-holds c = (omega arith, refl, refl)
 
--- src/lib.rt:83:17
 mul-c : tie.Need-mul-c Inv-loop μ-loop
 mul-c c = search needs
 
--- src/lib.rt:83:17
 array-copy-out-c : tie.Need-array-copy-out-c Inv-loop μ-loop
 array-copy-out-c c = search needs
 
--- src/lib.rt:84:9
 mul-stacks : tie.Need-mul-stacks Inv-loop μ-loop
 mul-stacks c = search needs
 
--- src/lib.rt:84:9
 array-write-stacks : tie.Need-array-write-stacks Inv-loop μ-loop
 array-write-stacks c = search needs
 
--- src/lib.rt:85:9
 add-i : tie.Need-add-i Inv-loop μ-loop
 add-i c = search needs
 
--- src/lib.rt:82:5
 loop-less : tie.Need-loop-less Inv-loop μ-loop
 loop-less c = search needs
 
--- src/lib.rt:82:5
 loop-again : tie.Need-loop-again Inv-loop μ-loop
 loop-again c = let cs = (c .before .before .before) .args .t1 in let n : length cs ≡ 10 = search needs in (omega arith, simp length-set (c .before .before .loop .inv .1), front-turn (map stackOf) (map stackOf) unread (c .before .before .loop .stacks) (map stackOf cs) cs (c .before .before .loop .i) _ (omega arith) (omega arith) refl (c .before .before .loop .inv .2))
 
--- src/lib.rt:77:1
 returns : tie.Need-returns Inv-loop μ-loop
 returns c = let cs = (c .before .before) .args .t1 in let n : length cs ≡ 10 = search needs in front-done (map stackOf) (c .before .loop .stacks) (map stackOf cs) cs (c .before .loop .i) (omega arith) (omega arith) refl (c .before .loop .inv .2)
 

@@ -9,50 +9,39 @@ use borrow.Author.Needs.{needs}
 use Rattle.ledger.proofs.answer.Statement.{statement}
 use Rattle.ledger.proofs.answer.Tie as tie
 
--- src/lib.rt:205:8
 is-right-requires : tie.Need-is-right-requires
 is-right-requires c κs = search needs
 
--- src/lib.rt:206:35
 read-right-requires : tie.Need-read-right-requires
 read-right-requires c κs = search needs
 
--- src/lib.rt:206:9
 correct-requires : tie.Need-correct-requires
 correct-requires c κs = search needs
 
--- src/lib.rt:206:9
 same-length : tie.Need-same-length
 same-length c = search needs
 
--- src/lib.rt:206:9
 same-length-2 : tie.Need-same-length-2
 same-length-2 c = search needs
 
--- src/lib.rt:206:9
 same-length-3 : tie.Need-same-length-3
 same-length-3 c = search needs
 
--- src/lib.rt:206:9
 returns : tie.Need-returns
 returns c = let r = answer-right ((c .before .before .before .before .before .before .before .before .before .before .before .before .before .before .before .before .before) .args .b) ((c .before .before .before .before .before .before .before .before .before .before .before .before .before .before .before .before .before) .args .shared) ((c .before .before .before .before .before .before .before .before .before .before .before .before .before .before .before .before .before) .args .lines .now) ((c .before .before .before .before .before .before .before .before .before .before .before .before .before .before .before .before .before) .args .log .now) ((c .before .before .before .before .before .before .before .before .before .before .before .before .before .before .before .before .before) .args .index .now) ((c .before .before .before .before .before .before .before .before .before .before .before .before .before .before .before .before .before) .args .sheet .now) (c .before .before .before .before .before .before .before .before .before .before .before .before .is-right .ensures) (c .before .before .before .before .before .before .before .before .before .before .before .if1 .taken) (c .before .before .before .before .before .before .before .before .before .before .read-right .ensures .0) (c .before .before .before .before .before .before .correct .ensures .0) (c .before .before .before .before .before .before .correct .ensures .1 .0) (c .before .before .before .before .before .before .correct .ensures .1 .1 .0) (c .before .before .before .before .before .before .correct .ensures .1 .1 .1 .0) in (r .0, (r .1 .0, (r .1 .1 .0, (r .1 .1 .1, c .before .before .before .before .before .before .correct .ensures .1 .1 .1 .1))))
 
 enter-requires : tie.Need-enter-requires
 enter-requires c κs = let s = c .before .before .before .before .before .before .before .before .before in (s .pre .0, subst (λ (k : Block). numberOfBlock k < 10 ^ 9) (sym (s .pre .1)) (block-small (s .args .lines .now)))
 
--- src/lib.rt:190:1
 same-length-4 : tie.Need-same-length-4
 same-length-4 c = search needs
 
--- src/lib.rt:190:1
 same-length-5 : tie.Need-same-length-5
 same-length-5 c = search needs
 
--- src/lib.rt:190:1
 same-length-6 : tie.Need-same-length-6
 same-length-6 c = search needs
 
--- src/lib.rt:190:1
 returns-2 : tie.Need-returns-2
 returns-2 c =
     let s = c .before .before .before .before .before .before .before .before .before .before .before .before .before .before .before .before in

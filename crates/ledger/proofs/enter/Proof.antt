@@ -5,46 +5,36 @@ use borrow.Author.Needs.{needs}
 use Rattle.ledger.proofs.enter.Statement.{statement}
 use Rattle.ledger.proofs.enter.Tie as tie
 
--- src/lib.rt:139:9
 judge-entry-requires : tie.Need-judge-entry-requires
 judge-entry-requires c κs = search needs
 
--- src/lib.rt:140:9
 put-answer-requires : tie.Need-put-answer-requires
 put-answer-requires c κs =
     let a = c .before .before .before .before .before .args in
     let j = c .before .judge-entry .ensures in
     (j .1, j .2, j .3, entry-closed (a .b) (a .block) _ _ (j .0))
 
--- src/lib.rt:141:9
 was-taken-requires : tie.Need-was-taken-requires
 was-taken-requires c κs = search needs
 
--- src/lib.rt:142:29
 numbers-in-requires : tie.Need-numbers-in-requires
 numbers-in-requires c κs = search needs
 
--- src/lib.rt:142:9
 keep-requires : tie.Need-keep-requires
 keep-requires c κs = search needs
 
--- src/lib.rt:143:5
 told-requires : tie.Need-told-requires
 told-requires c κs = search needs
 
--- src/lib.rt:131:1
 same-length : tie.Need-same-length
 same-length c = search needs
 
--- src/lib.rt:131:1
 same-length-2 : tie.Need-same-length-2
 same-length-2 c = search needs
 
--- src/lib.rt:131:1
 same-length-3 : tie.Need-same-length-3
 same-length-3 c = search needs
 
--- src/lib.rt:131:1
 returns : tie.Need-returns
 returns c = entered-is ((c .before .before .before .before .before .before .before .before .before .before .before .before .before .before .before .before .before .before) .args .b) ((c .before .before .before .before .before .before .before .before .before .before .before .before .before .before .before .before .before .before) .args .block) ((c .before .before .before .before .before .before .before .before .before .before .before .before .before .before .before .before .before .before) .args .log .now) ((c .before .before .before .before .before .before .before .before .before .before .before .before .before .before .before .before .before .before) .args .index .now) ((c .before .before .before .before .before .before .before .before .before .before .before .before .before .before .before .before .before .before) .args .sheet .now) ((c .before .before .before .before .before .before .before .before .before .before .before .before .before .before .before .before .before .before) .pre .0) (c .before .before .before .before .before .before .before .before .before .before .before .before .before .before .judge-entry .ensures .1) (c .before .before .before .before .before .before .before .before .before .before .before .before .before .before .judge-entry .ensures .0) (c .before .before .before .before .before .before .before .before .before .before .before .before .put-answer .ensures .0) (c .before .before .before .before .before .before .before .before .before .before .before .before .put-answer .ensures .1) (c .before .before .before .before .before .before .before .before .before .was-taken .ensures) (c .before .before .before .before .before .before .before .before .numbers-in .ensures) (c .before .before .before .before .before .keep .ensures .0) (c .before .before .before .before .before .keep .ensures .1 .0) (c .before .before .before .before .before .keep .ensures .1 .1) (c .told .ensures)
 

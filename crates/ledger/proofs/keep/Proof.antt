@@ -4,31 +4,24 @@ use borrow.Author.Needs.{needs}
 use Rattle.ledger.proofs.keep.Statement.{statement}
 use Rattle.ledger.proofs.keep.Tie as tie
 
--- src/lib.rt:124:9
 put-record-requires : tie.Need-put-record-requires
 put-record-requires c κs = search needs
 
--- src/lib.rt:125:43
 add-put-row-if : tie.Need-add-put-row-if
 add-put-row-if c = search needs
 
--- src/lib.rt:125:9
 put-row-if-requires : tie.Need-put-row-if-requires
 put-row-if-requires c κs = search needs
 
--- src/lib.rt:125:9
 same-length : tie.Need-same-length
 same-length c = search needs
 
--- src/lib.rt:125:9
 same-length-2 : tie.Need-same-length-2
 same-length-2 c = search needs
 
--- src/lib.rt:125:9
 returns : tie.Need-returns
 returns c = keep-yes ((c .before .before .before .before .before .before .before .before .before .before .before .before .before .before .before) .args .ok) ((c .before .before .before .before .before .before .before .before .before .before .before .before .before .before .before) .args .b) ((c .before .before .before .before .before .before .before .before .before .before .before .before .before .before .before) .args .x) ((c .before .before .before .before .before .before .before .before .before .before .before .before .before .before .before) .args .log .now) ((c .before .before .before .before .before .before .before .before .before .before .before .before .before .before .before) .args .index .now) (c .before .before .before .before .before .before .before .before .before .before .before .before .if1 .taken) (c .before .before .before .before .before .before .before .before .put-record .ensures) (c .before .before .put-row-if .ensures .0) (c .before .before .put-row-if .ensures .1)
 
--- src/lib.rt:115:1
 returns-2 : tie.Need-returns-2
 returns-2 c = keep-no ((c .before .before .before) .args .ok) ((c .before .before .before) .args .b) ((c .before .before .before) .args .x) ((c .before .before .before) .args .log .now) ((c .before .before .before) .args .index .now) (c .if1 .left)
 

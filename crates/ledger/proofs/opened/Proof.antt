@@ -7,11 +7,9 @@ use borrow.Author.Needs.{needs}
 use Rattle.ledger.proofs.opened.Statement.{statement}
 use Rattle.ledger.proofs.opened.Tie as tie
 
--- src/lib.rt:52:9
 new-table-requires : tie.Need-new-table-requires
 new-table-requires c κs = search needs
 
--- src/lib.rt:48:1
 returns : tie.Need-returns
 returns c = (ap (λ (u : Table). record { table = u; hands = 0 }) (c .new-table .ensures .0), record { sound = c .new-table .ensures .1; sheet = ap (λ (u : Table). isSheet (u .sheet)) (c .new-table .ensures .0) ∙ (c .before) .pre; hands = omega arith })
 

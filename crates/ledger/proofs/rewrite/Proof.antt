@@ -5,43 +5,33 @@ use borrow.Author.Needs.{needs}
 use Rattle.ledger.proofs.rewrite.Statement.{statement}
 use Rattle.ledger.proofs.rewrite.Tie as tie
 
--- src/lib.rt:155:25
 short-of-requires : tie.Need-short-of-requires
 short-of-requires c κs = search needs
 
--- src/lib.rt:155:9
 put-record-requires : tie.Need-put-record-requires
 put-record-requires c κs = search needs
 
--- src/lib.rt:157:23
 sub-write-rows : tie.Need-sub-write-rows
 sub-write-rows c = search needs
 
--- src/lib.rt:157:23
 part-write-rows-start : tie.Need-part-write-rows-start
 part-write-rows-start c = search needs
 
--- src/lib.rt:157:23
 part-write-rows-end : tie.Need-part-write-rows-end
 part-write-rows-end c = search needs
 
--- src/lib.rt:157:9
 write-rows-requires : tie.Need-write-rows-requires
 write-rows-requires c κs = search needs
 
--- src/lib.rt:149:1
 same-length : tie.Need-same-length
 same-length c = search needs
 
--- src/lib.rt:149:1
 same-length-2 : tie.Need-same-length-2
 same-length-2 c = search needs
 
--- src/lib.rt:149:1
 returns : tie.Need-returns
 returns c = rewrite-yes ((c .before .before .before .before .before .before .before .before .before .before .before .before .before .before .before) .args .ok) ((c .before .before .before .before .before .before .before .before .before .before .before .before .before .before .before) .args .t) ((c .before .before .before .before .before .before .before .before .before .before .before .before .before .before .before) .args .n) ((c .before .before .before .before .before .before .before .before .before .before .before .before .before .before .before) .args .x) ((c .before .before .before .before .before .before .before .before .before .before .before .before .before .before .before) .args .log .now) ((c .before .before .before .before .before .before .before .before .before .before .before .before .before .before .before) .args .index .now) (c .before .before .before .before .before .before .before .before .before .before .before .before .if1 .taken) (c .before .before .before .before .before .before .before .before .before .before .short-of .ensures) (c .before .before .before .before .before .before .before .before .before .put-record .ensures) (part-is 0 _) (c .before .before .write-rows .ensures)
 
--- src/lib.rt:149:1
 returns-2 : tie.Need-returns-2
 returns-2 c = rewrite-no ((c .before .before .before) .args .ok) ((c .before .before .before) .args .t) ((c .before .before .before) .args .n) ((c .before .before .before) .args .x) ((c .before .before .before) .args .log .now) ((c .before .before .before) .args .index .now) (c .if1 .left)
 

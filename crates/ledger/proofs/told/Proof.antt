@@ -4,19 +4,15 @@ use borrow.Author.Needs.{needs}
 use Rattle.ledger.proofs.told.Statement.{statement}
 use Rattle.ledger.proofs.told.Tie as tie
 
--- src/lib.rt:94:24
 enum-known-w : tie.Need-enum-known-w
 enum-known-w c = search needs
 
--- src/lib.rt:103:28
 enum-told : tie.Need-enum-told
 enum-told c = search needs
 
--- src/lib.rt:90:1
 returns : tie.Need-returns
 returns c = told-bytes ((c .before .before .before .before) .args .b) ((c .before .before .before .before) .args .j) ((c .before .before .before .before) .args .hands) ((c .before .before .before .before) .args .w) (c .before .before .w .given .1)
 
--- src/lib.rt:90:1
 returns-2 : tie.Need-returns-2
 returns-2 c = told-none ((c .before .before) .args .b) ((c .before .before) .args .j) ((c .before .before) .args .hands) ((c .before .before) .args .w) (c .enum-told .given .1)
 

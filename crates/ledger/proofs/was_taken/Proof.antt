@@ -4,19 +4,15 @@ use borrow.Author.Needs.{needs}
 use Rattle.ledger.proofs.was_taken.Statement.{statement}
 use Rattle.ledger.proofs.was_taken.Tie as tie
 
--- src/lib.rt:84:30
 enum-told : tie.Need-enum-told
 enum-told c = search needs
 
--- src/lib.rt:85:28
 enum-told-2 : tie.Need-enum-told-2
 enum-told-2 c = search needs
 
--- src/lib.rt:80:1
 returns : tie.Need-returns
 returns c = taken-bytes ((c .before .before) .args .w) ((c .before .before) .args .code) (c .enum-told .given .1)
 
--- src/lib.rt:80:1
 returns-2 : tie.Need-returns-2
 returns-2 c = taken-none ((c .before .before) .args .w) ((c .before .before) .args .code) (c .enum-told2 .given .1)
 

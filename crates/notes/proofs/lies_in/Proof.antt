@@ -1,12 +1,11 @@
 -- `lies_in` meets its contract: what was counted with what lies behind the place is all.
 use mathlib.Core.Path.{_≡_, ap}
 use Prim.Native.Nat.{_+_, _-_, _*_, _≤_}
-use lib.ListN.{length, drop}
+use lib.ListN.{length, drop, drop-of-length-le}
 use native.Mathlib.Omega.{arith}
 use Rattle.chairs.proofs.Laws.{unread}
 use Rattle.notes.specs.Notes.{liesIn}
 use Rattle.notes.proofs.Laws.{lies-step}
-use lib.ListN.{drop-of-length-le}
 use borrow.Author.Needs.{needs}
 use Rattle.notes.proofs.lies_in.Statement.{statement}
 use Rattle.notes.proofs.lies_in.Tie as tie

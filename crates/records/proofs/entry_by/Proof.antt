@@ -4,27 +4,21 @@ use borrow.Author.Needs.{needs}
 use Rattle.records.proofs.entry_by.Statement.{statement}
 use Rattle.records.proofs.entry_by.Tie as tie
 
--- src/lib.rt:126:13
 cast-k : tie.Need-cast-k
 cast-k c = search needs
 
--- src/lib.rt:128:28
 wide-requires : tie.Need-wide-requires
 wide-requires c κs = search needs
 
--- src/lib.rt:128:47
 wide-requires-2 : tie.Need-wide-requires-2
 wide-requires-2 c κs = search needs
 
--- src/lib.rt:128:9
 entry-at-requires : tie.Need-entry-at-requires
 entry-at-requires c κs = search needs
 
--- src/lib.rt:128:9
 returns : tie.Need-returns
 returns c = cc
 
--- src/lib.rt:123:1
 returns-2 : tie.Need-returns-2
 returns-2 c = entry-none _ _ _ _ (c .if1 .left)
 

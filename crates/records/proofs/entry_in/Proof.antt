@@ -5,15 +5,12 @@ use borrow.Author.Needs.{needs}
 use Rattle.records.proofs.entry_in.Statement.{statement}
 use Rattle.records.proofs.entry_in.Tie as tie
 
--- src/lib.rt:137:14
 record-in-requires : tie.Need-record-in-requires
 record-in-requires c κs = search needs
 
--- src/lib.rt:137:5
 entry-by-requires : tie.Need-entry-by-requires
 entry-by-requires c κs = search needs
 
--- src/lib.rt:134:1
 returns : tie.Need-returns
 returns c = c .entry-by .ensures ∙ ap entryBy (c .before .record-in .ensures)
 

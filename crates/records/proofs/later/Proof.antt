@@ -3,11 +3,9 @@ use Rattle.records.proofs.Found.{later-hand, later-other}
 use Rattle.records.proofs.later.Statement.{statement}
 use Rattle.records.proofs.later.Tie as tie
 
--- src/lib.rt:233:1
 returns : tie.Need-returns
 returns c = later-hand ((c .before .before) .args .last) ((c .before .before) .args .r) (c .if1 .taken)
 
--- src/lib.rt:233:1
 returns-2 : tie.Need-returns-2
 returns-2 c = later-other ((c .before .before) .args .last) ((c .before .before) .args .r) (c .if1 .left)
 

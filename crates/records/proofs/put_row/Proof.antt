@@ -6,39 +6,30 @@ use borrow.Author.Needs.{needs}
 use Rattle.records.proofs.put_row.Statement.{statement}
 use Rattle.records.proofs.put_row.Tie as tie
 
--- src/lib.rt:182:14
 mul-at : tie.Need-mul-at
 mul-at c = search needs
 
--- src/lib.rt:183:8
 add-if1 : tie.Need-add-if1
 add-if1 c = search needs
 
--- src/lib.rt:184:23
 sub-put-row-bytes : tie.Need-sub-put-row-bytes
 sub-put-row-bytes c = search needs
 
--- src/lib.rt:184:23
 part-put-row-bytes-start : tie.Need-part-put-row-bytes-start
 part-put-row-bytes-start c = search needs
 
--- src/lib.rt:184:23
 part-put-row-bytes-end : tie.Need-part-put-row-bytes-end
 part-put-row-bytes-end c = search needs
 
--- src/lib.rt:184:9
 put-row-bytes-requires : tie.Need-put-row-bytes-requires
 put-row-bytes-requires c κs = search needs
 
--- src/lib.rt:179:1
 same-length : tie.Need-same-length
 same-length c = search needs
 
--- src/lib.rt:179:1
 returns : tie.Need-returns
 returns c = let ten : length ((c .before .before .before .before .before .before) .args .stacks) ≡ 10 = search needs in row-put ((c .before .before .before .before .before .before) .args .index .now) ((c .before .before .before .before .before .before) .args .h) ((c .before .before .before .before .before .before) .args .n) ((c .before .before .before .before .before .before) .args .stacks) ten (c .before .before .before .before .if1 .taken) (c .before .before .put-row-bytes .ensures) refl
 
--- src/lib.rt:179:1
 returns-2 : tie.Need-returns-2
 returns-2 c = let ten : length ((c .before .before) .args .stacks) ≡ 10 = search needs in row-none ((c .before .before) .args .index .now) ((c .before .before) .args .h) ((c .before .before) .args .n) ((c .before .before) .args .stacks) ten (c .if1 .left)
 

@@ -4,35 +4,27 @@ use borrow.Author.Needs.{needs}
 use Rattle.records.proofs.put_word.Statement.{statement}
 use Rattle.records.proofs.put_word.Tie as tie
 
--- src/lib.rt:58:9
 low-byte-requires : tie.Need-low-byte-requires
 low-byte-requires c κs = search needs
 
--- src/lib.rt:59:9
 low-byte-requires-2 : tie.Need-low-byte-requires-2
 low-byte-requires-2 c κs = search needs
 
--- src/lib.rt:60:9
 low-byte-requires-3 : tie.Need-low-byte-requires-3
 low-byte-requires-3 c κs = search needs
 
--- src/lib.rt:61:9
 low-byte-requires-4 : tie.Need-low-byte-requires-4
 low-byte-requires-4 c κs = search needs
 
--- src/lib.rt:63:23
 slice-aggregate-put-bytes : tie.Need-slice-aggregate-put-bytes
 slice-aggregate-put-bytes c = search needs
 
--- src/lib.rt:63:5
 put-bytes-requires : tie.Need-put-bytes-requires
 put-bytes-requires c κs = search needs
 
--- src/lib.rt:53:1
 same-length : tie.Need-same-length
 same-length c = search needs
 
--- src/lib.rt:53:1
 returns : tie.Need-returns
 returns c = word-wrote ((c .before .before .before .before .before .before .before .before .before .before) .args .w) (c .before .before .before .before .before .before .before .before .low-byte .ensures) (c .before .before .before .before .before .before .before .low-byte2 .ensures) (c .before .before .before .before .before .before .low-byte3 .ensures) (c .before .before .before .before .before .low-byte4 .ensures) (c .before .before .put-bytes .ensures)
 

@@ -14,55 +14,42 @@ Inv-loop buffer₀ ws at₀ k₀ buffer at k = (k ≤ 10) × Going ws buffer₀ 
 abbrev μ-loop : tie.MeasureT-loop
 μ-loop buffer₀ ws at₀ k₀ buffer at k = 10 - k
 
--- src/lib.rt:73:5
 loop-holds : tie.Need-loop-holds Inv-loop μ-loop
 loop-holds c = (omega arith, going-start _ _)
 
--- src/lib.rt:74:24
 sub-put-word : tie.Need-sub-put-word Inv-loop μ-loop
 sub-put-word c = let n : length ((c .before .before .before) .args .t2) ≡ 10 = search needs in omega (arith, going-at (c .before .loop .inv .1) n ((c .before .before .before) .pre) (omega arith), c .before .loop .inv .1 .same)
 
--- src/lib.rt:74:24
 part-put-word-start : tie.Need-part-put-word-start Inv-loop μ-loop
 part-put-word-start c = let n : length ((c .before .before .before) .args .t2) ≡ 10 = search needs in omega (arith, going-at (c .before .loop .inv .1) n ((c .before .before .before) .pre) (omega arith), c .before .loop .inv .1 .same)
 
--- src/lib.rt:74:24
 part-put-word-end : tie.Need-part-put-word-end Inv-loop μ-loop
 part-put-word-end c = search needs
 
--- src/lib.rt:74:43
 mul-put-word : tie.Need-mul-put-word Inv-loop μ-loop
 mul-put-word c = search needs
 
--- src/lib.rt:74:43
 array-read-put-word : tie.Need-array-read-put-word Inv-loop μ-loop
 array-read-put-word c = search needs
 
--- src/lib.rt:74:15
 put-word-requires : tie.Need-put-word-requires Inv-loop μ-loop
 put-word-requires c κs = let n : length ((c .before .before .before .before) .args .t2) ≡ 10 = search needs in going-part (c .before .before .loop .inv .1) n ((c .before .before .before .before) .pre) (omega arith)
 
--- src/lib.rt:74:9
 add-at : tie.Need-add-at Inv-loop μ-loop
 add-at c = let n : length ((c .before .before .before .before .before .before .before) .args .t2) ≡ 10 = search needs in omega (arith, going-at (c .before .before .before .before .before .loop .inv .1) n ((c .before .before .before .before .before .before .before) .pre) (omega arith), c .before .before .put-word .ensures .count)
 
--- src/lib.rt:75:9
 add-k : tie.Need-add-k Inv-loop μ-loop
 add-k c = search needs
 
--- src/lib.rt:73:5
 loop-less : tie.Need-loop-less Inv-loop μ-loop
 loop-less c = search needs
 
--- src/lib.rt:73:5
 loop-again : tie.Need-loop-again Inv-loop μ-loop
 loop-again c = let n : length ((c .before .before .before .before .before .before .before) .args .t2) ≡ 10 = search needs in (omega arith, going-turn (c .before .before .before .before .before .loop .inv .1) n ((c .before .before .before .before .before .before .before) .pre) (omega arith) (c .before .before .put-word .ensures) refl (search needs))
 
--- src/lib.rt:67:1
 same-length : tie.Need-same-length Inv-loop μ-loop
 same-length c = search needs
 
--- src/lib.rt:67:1
 returns : tie.Need-returns Inv-loop μ-loop
 returns c = let n : length ((c .before .before .before) .args .t2) ≡ 10 = search needs in going-done (c .before .loop .inv .1) n ((c .before .before .before) .pre) (omega arith)
 

@@ -4,75 +4,57 @@ use borrow.Author.Needs.{needs}
 use Rattle.records.proofs.record_at.Statement.{statement}
 use Rattle.records.proofs.record_at.Tie as tie
 
--- src/lib.rt:93:9
 left-of-requires : tie.Need-left-of-requires
 left-of-requires c κs = search needs
 
--- src/lib.rt:95:9
 returns : tie.Need-returns
 returns c = absent ((c .before .before .before) .args .log .now) ((c .before .before .before) .args .at) (c .before .left-of .ensures) (c .if1 .taken)
 
--- src/lib.rt:104:13
 add-w : tie.Need-add-w
 add-w c = search needs
 
--- src/lib.rt:105:18
 shared-slice-read-four : tie.Need-shared-slice-read-four
 shared-slice-read-four c = search needs
 
--- src/lib.rt:105:30
 add-four : tie.Need-add-four
 add-four c = search needs
 
--- src/lib.rt:105:26
 shared-slice-read-four-2 : tie.Need-shared-slice-read-four-2
 shared-slice-read-four-2 c = search needs
 
--- src/lib.rt:105:42
 add-four-2 : tie.Need-add-four-2
 add-four-2 c = search needs
 
--- src/lib.rt:105:38
 shared-slice-read-four-3 : tie.Need-shared-slice-read-four-3
 shared-slice-read-four-3 c = search needs
 
--- src/lib.rt:105:54
 add-four-3 : tie.Need-add-four-3
 add-four-3 c = search needs
 
--- src/lib.rt:105:50
 shared-slice-read-four-4 : tie.Need-shared-slice-read-four-4
 shared-slice-read-four-4 c = search needs
 
--- src/lib.rt:105:9
 four-requires : tie.Need-four-requires
 four-requires c κs = search needs
 
--- src/lib.rt:108:15
 shared-slice-read-t8 : tie.Need-shared-slice-read-t8
 shared-slice-read-t8 c = search needs
 
--- src/lib.rt:109:19
 add-t9 : tie.Need-add-t9
 add-t9 c = search needs
 
--- src/lib.rt:109:15
 shared-slice-read-t17 : tie.Need-shared-slice-read-t17
 shared-slice-read-t17 c = search needs
 
--- src/lib.rt:110:16
 add-t15 : tie.Need-add-t15
 add-t15 c = search needs
 
--- src/lib.rt:110:12
 shared-slice-read-t14 : tie.Need-shared-slice-read-t14
 shared-slice-read-t14 c = search needs
 
--- src/lib.rt:112:15
 add-t12 : tie.Need-add-t12
 add-t12 c = search needs
 
--- src/lib.rt:90:1
 returns-2 : tie.Need-returns-2
 returns-2 c = present ((c .before .before .before .before .before .before .before .before .before .before .before) .args .log .now) ((c .before .before .before .before .before .before .before .before .before .before .before) .args .at) (c .before .before .before .before .before .before .before .before .before .left-of .ensures) (c .before .before .before .before .before .before .before .before .if1 .left) (c .before .before .before .four .ensures)
 

@@ -3,35 +3,27 @@ use borrow.Author.Needs.{needs}
 use Rattle.records.proofs.record_of.Statement.{statement}
 use Rattle.records.proofs.record_of.Tie as tie
 
--- src/lib.rt:145:9
 low-byte-requires : tie.Need-low-byte-requires
 low-byte-requires c κs = search needs
 
--- src/lib.rt:146:9
 low-byte-requires-2 : tie.Need-low-byte-requires-2
 low-byte-requires-2 c κs = search needs
 
--- src/lib.rt:147:9
 low-byte-requires-3 : tie.Need-low-byte-requires-3
 low-byte-requires-3 c κs = search needs
 
--- src/lib.rt:149:9
 low-byte-requires-4 : tie.Need-low-byte-requires-4
 low-byte-requires-4 c κs = search needs
 
--- src/lib.rt:150:9
 low-byte-requires-5 : tie.Need-low-byte-requires-5
 low-byte-requires-5 c κs = search needs
 
--- src/lib.rt:151:9
 low-byte-requires-6 : tie.Need-low-byte-requires-6
 low-byte-requires-6 c κs = search needs
 
--- src/lib.rt:152:9
 low-byte-requires-7 : tie.Need-low-byte-requires-7
 low-byte-requires-7 c κs = search needs
 
--- src/lib.rt:141:1
 returns : tie.Need-returns
 returns c = cc
 

@@ -5,15 +5,12 @@ use borrow.Author.Needs.{needs}
 use Rattle.book.proofs.keeper.start.Statement.{statement}
 use Rattle.book.proofs.keeper.start.Tie as tie
 
--- src/keeper.rt:49:9
 opened-requires : tie.Need-opened-requires
 opened-requires c κs = stand-in-good
 
--- src/keeper.rt:50:9
 empty-requires : tie.Need-empty-requires
 empty-requires c κs = search needs
 
--- src/keeper.rt:45:1
 returns : tie.Need-returns
 returns c = record { book = c .before .opened .ensures .1; room = c .empty .ensures .1; lines = rw (c .empty .ensures .0) (omega arith) }
 

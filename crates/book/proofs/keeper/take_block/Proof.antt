@@ -5,35 +5,27 @@ use borrow.Author.Needs.{needs}
 use Rattle.book.proofs.keeper.take_block.Statement.{statement}
 use Rattle.book.proofs.keeper.take_block.Tie as tie
 
--- src/keeper.rt:112:9
 answer-requires : tie.Need-answer-requires
 answer-requires c κs = search needs
 
--- src/keeper.rt:114:9
 empty-requires : tie.Need-empty-requires
 empty-requires c κs = search needs
 
--- src/keeper.rt:117:5
 next-number-requires : tie.Need-next-number-requires
 next-number-requires c κs = search needs
 
--- src/keeper.rt:118:5
 said-requires : tie.Need-said-requires
 said-requires c κs = search needs
 
--- src/keeper.rt:100:1
 same-length : tie.Need-same-length
 same-length c = c .before .before .before .before .before .before .before .before .before .before .before .before .log .given
 
--- src/keeper.rt:100:1
 same-length-2 : tie.Need-same-length-2
 same-length-2 c = c .before .before .before .before .before .before .before .before .before .before .index .given
 
--- src/keeper.rt:100:1
 same-length-3 : tie.Need-same-length-3
 same-length-3 c = c .before .out2 .given ∙ c .before .before .before .before .before .before .before .before .out .given
 
--- src/keeper.rt:100:1
 returns : tie.Need-returns
 returns c = (record { book = c .before .before .before .before .before .before .before .before .before .before .before .before .before .answer .ensures .1 .1 .1 .1 .0; room = c .before .before .before .before .before .empty .ensures .1; lines = rw (c .before .before .before .before .before .empty .ensures .0) (some-lines ((c .before .before .before .before .before .before .before .before .before .before .before .before .before .before .before .before .before .before .before .before .before .before) .args .k .opened)) }, refl, search needs)
 

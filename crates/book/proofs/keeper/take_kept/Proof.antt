@@ -6,55 +6,42 @@ use borrow.Author.Needs.{needs}
 use Rattle.book.proofs.keeper.take_kept.Statement.{statement}
 use Rattle.book.proofs.keeper.take_kept.Tie as tie
 
--- src/keeper.rt:151:9
 lines-of-requires : tie.Need-lines-of-requires
 lines-of-requires c κs = search needs
 
--- src/keeper.rt:153:9
 gather-requires : tie.Need-gather-requires
 gather-requires c κs = search needs
 
--- src/keeper.rt:159:9
 same-length : tie.Need-same-length
 same-length c = c .before .before .before .before .buf .given
 
--- src/keeper.rt:159:9
 returns : tie.Need-returns
 returns c = (record { book = (c .before .before .before .before .before .before .before .before .before .before .before .before .before .before) .pre .0 .book; room = c .before .before .before .before .before .gather .ensures .1 .1 .0; lines = search needs }, c .before .before .before .before .before .gather .ensures .1 .1 .2 ((c .before .before .before .before .before .before .before .before .before .before .before .before .before .before) .pre .2), c .before .before .before .before .before .gather .ensures .1 .1 .1, search needs)
 
--- src/keeper.rt:162:19
 sub-take-lines : tie.Need-sub-take-lines
 sub-take-lines c = search needs
 
--- src/keeper.rt:162:19
 part-take-lines-start : tie.Need-part-take-lines-start
 part-take-lines-start c = search needs
 
--- src/keeper.rt:162:19
 part-take-lines-end : tie.Need-part-take-lines-end
 part-take-lines-end c = search needs
 
--- src/keeper.rt:162:5
 take-lines-requires : tie.Need-take-lines-requires
 take-lines-requires c κs = (c .before .before .before .before .before .before .before .before .before .before .before .before .before .before .before .before .before .before .before) .pre .0 .book
 
--- src/keeper.rt:140:1
 same-length-2 : tie.Need-same-length-2
 same-length-2 c = c .before .before .before .before .before .before .before .before .before .before .before .before .before .before .before .before .buf .given
 
--- src/keeper.rt:140:1
 same-length-3 : tie.Need-same-length-3
 same-length-3 c = c .before .before .before .before .before .log .given
 
--- src/keeper.rt:140:1
 same-length-4 : tie.Need-same-length-4
 same-length-4 c = c .before .before .before .index .given
 
--- src/keeper.rt:140:1
 same-length-5 : tie.Need-same-length-5
 same-length-5 c = c .before .out .given
 
--- src/keeper.rt:140:1
 returns-2 : tie.Need-returns-2
 returns-2 c = (c .before .before .before .before .before .before .take-lines .ensures .0, subst (λ (n : ℕ). 0 < n) (sym (c .before .before .before .before .before .before .take-lines .ensures .1)) (c .before .before .before .before .before .before .before .before .before .before .before .before .before .before .before .before .before .gather .ensures .1 .1 .2 ((c .before .before .before .before .before .before .before .before .before .before .before .before .before .before .before .before .before .before .before .before .before .before .before .before .before .before) .pre .2)), subst (λ (n : ℕ). n ≤ length ((c .before .before .before .before .before .before .before .before .before .before .before .before .before .before .before .before .before .before .before .before .before .before .before .before .before .before) .args .part .now)) (sym (c .before .before .before .before .before .before .take-lines .ensures .1)) (c .before .before .before .before .before .before .before .before .before .before .before .before .before .before .before .before .before .gather .ensures .1 .1 .1), c .before .before .before .before .before .before .take-lines .ensures .2)
 

@@ -10,35 +10,27 @@ use borrow.Author.Needs.{needs}
 use Rattle.book.proofs.keeper.take_sheet.Statement.{statement}
 use Rattle.book.proofs.keeper.take_sheet.Tie as tie
 
--- src/keeper.rt:70:9
 empty-requires : tie.Need-empty-requires
 empty-requires c κs = search needs
 
--- src/keeper.rt:73:11
 read-sheet-requires : tie.Need-read-sheet-requires
 read-sheet-requires c κs = search needs
 
--- src/keeper.rt:75:13
 enum-told : tie.Need-enum-told
 enum-told c = search needs
 
--- src/keeper.rt:78:25
 enum-known-s : tie.Need-enum-known-s
 enum-known-s c = search needs
 
--- src/keeper.rt:79:28
 lone-requires : tie.Need-lone-requires
 lone-requires c κs = search needs
 
--- src/keeper.rt:79:17
 opened-requires : tie.Need-opened-requires
 opened-requires c κs = subst (λ (x : Sheet). isSheet x ≡ true) (sym (c .lone .ensures)) (lone-is _ (sheet-is ((c .before .before .before .before .before .before .before) .args .lines .now) _ (sym (c .before .before .before .before .read-sheet .ensures) ∙ c .before .before .s .given .1)))
 
--- src/keeper.rt:66:1
 returns : tie.Need-returns
 returns c = (record { book = (c .before .before .before .before .before) .pre; room = c .before .before .before .empty .ensures .1; lines = rw (c .before .before .before .empty .ensures .0) (some-lines ((c .before .before .before .before .before) .args .k .opened)) }, refl, refl)
 
--- src/keeper.rt:66:1
 returns-2 : tie.Need-returns-2
 returns-2 c = (record { book = c .opened .ensures .1; room = c .before .before .before .before .before .before .empty .ensures .1; lines = rw (c .before .before .before .before .before .before .empty .ensures .0) (some-lines true) }, refl, refl)
 

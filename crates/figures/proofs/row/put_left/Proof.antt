@@ -1,10 +1,9 @@
 -- `put_left` meets its contract: the label of the code's table is the definition's, and the column stands behind it.
-use mathlib.Core.Path.{sym}
+use mathlib.Core.Path.{sym, _≡_}
 use Rattle.figures.proofs.Tables.{label-row}
 use Rattle.figures.proofs.Puts.{next}
 use Rattle.figures.specs.ScreenRow.{leftOf}
 use native.Mathlib.Omega.{arith}
-use mathlib.Core.Path.{_≡_}
 use lib.ListN.{length}
 use borrow.Author.Needs.{needs}
 use Rattle.figures.proofs.row.put_left.Statement.{statement}

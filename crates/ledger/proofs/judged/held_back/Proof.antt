@@ -4,23 +4,18 @@ use borrow.Author.Needs.{needs}
 use Rattle.ledger.proofs.judged.held_back.Statement.{statement}
 use Rattle.ledger.proofs.judged.held_back.Tie as tie
 
--- src/judged.rt:65:9
 either-requires : tie.Need-either-requires
 either-requires c κs = search needs
 
--- src/judged.rt:66:8
 both-requires : tie.Need-both-requires
 both-requires c κs = search needs
 
--- src/judged.rt:67:9
 refused-requires : tie.Need-refused-requires
 refused-requires c κs = search needs
 
--- src/judged.rt:67:9
 returns : tie.Need-returns
 returns c = held-yes ((c .before .before .before .before .before .before) .args .t) ((c .before .before .before .before .before .before) .args .full) ((c .before .before .before .before .before .before) .args .j) (c .before .before .before .either .ensures) (c .before .before .both .ensures) (c .before .if1 .taken) ((c .before .before .before .before .before .before) .pre .0) (c .refused .ensures)
 
--- src/judged.rt:61:1
 returns-2 : tie.Need-returns-2
 returns-2 c = held-no ((c .before .before .before .before .before) .args .t) ((c .before .before .before .before .before) .args .full) ((c .before .before .before .before .before) .args .j) (c .before .before .either .ensures) (c .before .both .ensures) (c .if1 .left) ((c .before .before .before .before .before) .pre .1) ((c .before .before .before .before .before) .pre .2)
 

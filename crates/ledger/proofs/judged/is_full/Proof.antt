@@ -4,35 +4,27 @@ use borrow.Author.Needs.{needs}
 use Rattle.ledger.proofs.judged.is_full.Statement.{statement}
 use Rattle.ledger.proofs.judged.is_full.Tie as tie
 
--- src/judged.rt:28:24
 mul-record : tie.Need-mul-record
 mul-record c = search needs
 
--- src/judged.rt:28:24
 add-record : tie.Need-add-record
 add-record c = search needs
 
--- src/judged.rt:29:23
 mul-row : tie.Need-mul-row
 mul-row c = search needs
 
--- src/judged.rt:29:23
 add-row : tie.Need-add-row
 add-row c = search needs
 
--- src/judged.rt:30:42
 both-requires : tie.Need-both-requires
 both-requires c κs = search needs
 
--- src/judged.rt:30:27
 either-requires : tie.Need-either-requires
 either-requires c κs = search needs
 
--- src/judged.rt:30:5
 either-requires-2 : tie.Need-either-requires-2
 either-requires-2 c κs = search needs
 
--- src/judged.rt:25:1
 returns : tie.Need-returns
 unfolding isFull
 returns c = cc

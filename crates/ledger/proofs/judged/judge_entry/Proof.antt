@@ -6,23 +6,18 @@ use borrow.Author.Needs.{needs}
 use Rattle.ledger.proofs.judged.judge_entry.Statement.{statement}
 use Rattle.ledger.proofs.judged.judge_entry.Tie as tie
 
--- src/judged.rt:78:9
 numbers-in-requires : tie.Need-numbers-in-requires
 numbers-in-requires c κs = search needs
 
--- src/judged.rt:79:9
 is-full-requires : tie.Need-is-full-requires
 is-full-requires c κs = search needs
 
--- src/judged.rt:80:24
 judge-block-requires : tie.Need-judge-block-requires
 judge-block-requires c κs = ((c .before .before .before .before) .pre .0 .sound, (c .before .before .before .before) .pre .1)
 
--- src/judged.rt:80:5
 held-back-requires : tie.Need-held-back-requires
 held-back-requires c κs = ((c .before .before .before .before .before) .pre .0 .sound, c .judge-block .ensures .1, c .judge-block .ensures .2)
 
--- src/judged.rt:73:1
 returns : tie.Need-returns
 returns c = (entry-judged ((c .before .before .before .before .before .before) .args .b) ((c .before .before .before .before .before .before) .args .block) ((c .before .before .before .before .before .before) .args .log) ((c .before .before .before .before .before .before) .args .index) (c .before .before .before .before .numbers-in .ensures) (c .before .before .is-full .ensures) (c .before .judge-block .ensures .0) (c .held-back .ensures .0), c .held-back .ensures .1, c .held-back .ensures .2, subst (λ (k : ℕ). k < 10 ^ 9) (sym (c .held-back .ensures .3)) (c .before .judge-block .ensures .3))
 

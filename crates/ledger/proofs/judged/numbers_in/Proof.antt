@@ -4,27 +4,21 @@ use borrow.Author.Needs.{needs}
 use Rattle.ledger.proofs.judged.numbers_in.Statement.{statement}
 use Rattle.ledger.proofs.judged.numbers_in.Tie as tie
 
--- src/judged.rt:40:13
 enum-known-b : tie.Need-enum-known-b
 enum-known-b c = search needs
 
--- src/judged.rt:45:29
 enum-told : tie.Need-enum-told
 enum-told c = search needs
 
--- src/judged.rt:51:27
 enum-told-2 : tie.Need-enum-told-2
 enum-told-2 c = search needs
 
--- src/judged.rt:34:1
 returns : tie.Need-returns
 returns c = numbers-raw ((c .before .before .before) .args .b) (c .before .b .given .1)
 
--- src/judged.rt:34:1
 returns-2 : tie.Need-returns-2
 returns-2 c = numbers-malformed ((c .before .before) .args .b) (c .enum-told .given .1)
 
--- src/judged.rt:34:1
 returns-3 : tie.Need-returns-3
 returns-3 c = numbers-nothing ((c .before .before) .args .b) (c .enum-told2 .given .1)
 

@@ -1,11 +1,10 @@
 -- `hear_part` meets its contract.
-use mathlib.Core.Path.{ap}
+use mathlib.Core.Path.{ap, _≡_, refl}
 use Rattle.text.proofs.Parts.{part-is}
 use Rattle.stream.specs.Feeding.{Held}
 use lib.ListN.{length, length-drop}
 use native.Mathlib.Omega.{arith}
 use Prim.Native.Nat.{_-_, _≤_}
-use mathlib.Core.Path.{_≡_, refl}
 -- `hear_part` meets its contract: what is kept has its bounds, and each call uses up a byte at least.
 use borrow.Author.Needs.{needs}
 use Rattle.try_chops.proofs.served.hear_part.Statement.{statement}
