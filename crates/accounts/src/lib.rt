@@ -1,10 +1,12 @@
 // The evening's sums: how many hands and blocks, the refusals by code, fees, drops and what nobody claimed; and for each seat what its sitting has brought, put in and been
 // paid, which is written when it leaves. An evening has at most 1,000,000 entries and a hand at most 100,000,000 chips, so no sum comes near its bound.
+#![tactic(auto)]
+
 ghost use Rattle.std.specs.Prelude.{◌≡◌, min};
 ghost use Rattle.accounts.specs.Sums.{added_to, brings, putting, pays, without, nobody, totalled, uncharged, charged, counted};
 
 // What a sitting has brought, put into pots, and been paid.
-#[derive(Drop)]
+#[derive(Clone, Copy)]
 pub struct Account {
     pub brought: u64,
     pub put: u64,
@@ -12,7 +14,7 @@ pub struct Account {
 }
 
 // Sums over sittings: how many, and what they have brought, put in, been paid, and taken home or have in front of them.
-#[derive(Drop)]
+#[derive(Clone, Copy)]
 pub struct Sums {
     pub sittings: u64,
     pub brought: u64,
@@ -22,7 +24,7 @@ pub struct Sums {
 }
 
 // What hands were charged: commission, drops, and chips that nobody claimed.
-#[derive(Drop)]
+#[derive(Clone, Copy)]
 pub struct Charges {
     pub hands: u64,
     pub fees: u64,

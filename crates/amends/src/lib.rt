@@ -1,4 +1,6 @@
 // A correction: five lines, of which the first is `right=N`, and what becomes of it at a table whose log is stored.
+#![tactic(auto)]
+
 ghost use Rattle.std.specs.Prelude.{◌≡◌, true, ◌<◌, ◌^◌};
 ghost use Rattle.paper.specs.Paper.{is_sheet};
 ghost use Rattle.table.specs.Take.{Sound};
@@ -19,7 +21,7 @@ use text::sheet::value_in;
 use text::{Number, read_key_number};
 
 // The corrected number, the kind, and all five lines as a block of that number; each is bad where its lines are.
-#[derive(Drop)]
+#[derive(Clone, Copy)]
 pub struct Right {
     pub n: Number,
     pub kind: Number,

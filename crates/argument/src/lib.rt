@@ -1,4 +1,6 @@
 // What the programs that take options share: whether a word was given.
+#![tactic(auto)]
+
 ghost use Rattle.std.specs.Prelude.{◌≡◌, ◌≤◌, length, take};
 ghost use Rattle.laws.specs.Listing.{same_list};
 

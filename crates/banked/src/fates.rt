@@ -11,7 +11,7 @@ use cards::Hand;
 
 // A wager is lost to the house; it is returned (a Stand Off, and by the house's rule a jackpot wager that Table 1 would pay); at odds of so many to 1 it comes
 // back with so many times as much; or a prize of so many times the wager is paid, and the wager stays with the house.
-#[derive(Drop)]
+#[derive(Clone, Copy)]
 pub enum Fate {
     Lost,
     Returned,

@@ -6,7 +6,7 @@ use crate::Deal;
 use cards::{Hand, any_above, any_twice, beats, best_hand, five_worth};
 
 // How the player's hand stands to the dealer's.
-#[derive(Drop)]
+#[derive(Clone, Copy)]
 pub enum Standing {
     Above,
     Equal,

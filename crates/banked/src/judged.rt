@@ -8,7 +8,7 @@ use crate::{Choice, Deal, Round};
 use laws::{chosen, either, short_of};
 
 // A number for each of the seven wagers.
-#[derive(Drop)]
+#[derive(Clone, Copy)]
 pub struct Seven {
     pub ante: u32,
     pub flop: u32,
@@ -20,7 +20,7 @@ pub struct Seven {
 }
 
 // What comes back to the player of each wager, stake and win together; what he staked and what comes back in all; and his gain, won or lost.
-#[derive(Drop)]
+#[derive(Clone, Copy)]
 pub struct Settled {
     pub backs: Seven,
     pub staked: u32,
@@ -30,7 +30,7 @@ pub struct Settled {
 }
 
 // The answer to a round: settled; or a number outside its range, code 2; or a card that comes twice, code 8.
-#[derive(Drop)]
+#[derive(Clone, Copy)]
 pub enum Outcome {
     Paid(Settled),
     OutOfRange,

@@ -13,7 +13,7 @@ use crate::words::word_ended;
 use text::line::{after_lines, line_end};
 
 // The block, how many bytes it uses up, and whether its fifth LF has come.
-#[derive(Drop)]
+#[derive(Clone, Copy)]
 pub struct Front {
     pub block: Block,
     pub used: usize,
@@ -21,7 +21,7 @@ pub struct Front {
 }
 
 // A line's value, and where the next line starts; 0 where the line was not read.
-#[derive(Drop)]
+#[derive(Clone, Copy)]
 pub struct Line {
     pub value: u32,
     pub next: usize,

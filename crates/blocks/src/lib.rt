@@ -1,4 +1,6 @@
 // The entries of document 01, as they are read: a block of five lines at the front of a log, and the entry that it is.
+#![tactic(auto)]
+
 use paper::Entry;
 
 mod firsts;
@@ -14,7 +16,7 @@ pub use reader::{BLOCK_LINES, block_from, line_kind, read_block, rest};
 
 // A block's five numbers, the kind as its place in the table of kinds, 12 for a word that is none of them; that its form is wrong: code 1; or that
 // no bytes are left.
-#[derive(Drop)]
+#[derive(Clone, Copy)]
 pub enum Block {
     Raw {
         n: u32,
@@ -28,7 +30,7 @@ pub enum Block {
 }
 
 // An entry, or that a block's numbers make none: code 2.
-#[derive(Drop)]
+#[derive(Clone, Copy)]
 pub enum Parsed {
     Read(Entry),
     OutOfRange,

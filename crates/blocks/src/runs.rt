@@ -6,7 +6,7 @@ ghost use Rattle.text.specs.declared.Number.TheVariants.{Value};
 use text::decimal::wide;
 
 // Bytes at the front of a part: how many, and their value.
-#[derive(Drop)]
+#[derive(Clone, Copy)]
 pub struct Run {
     pub count: usize,
     pub value: u32,

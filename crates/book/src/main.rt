@@ -1,5 +1,7 @@
 // The book: the clerk with a stored log. A log on standard input, with corrections among its blocks; the answers on standard output as each block's fifth line
 // comes. With the argument --log, in place of the answers, the log as it stands at the end, and on standard error a line about each block that was refused.
+#![tactic(auto)]
+
 mod keeper;
 
 ghost use Rattle.std.specs.Prelude.{◌≡◌, ◌+◌, ◌≤◌, ◌<◌, length};

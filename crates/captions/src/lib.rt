@@ -1,4 +1,6 @@
 // What is written in the picture: its opening, what stands below a column, a label for each pot and for what goes back, and what the looks mean.
+#![tactic(auto)]
+
 use columns::{height, in_mask, tallest};
 use page::pen::{Pen, fill, put, put_text_at, say};
 use spots::{

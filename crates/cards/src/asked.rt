@@ -5,7 +5,7 @@ ghost use Rattle.cards.specs.Reading.{any_above, any_below, any_outside, is_amon
 use crate::{Hand, best_hand};
 
 // What the box answers when it is asked about cards: a hand, or why it names none.
-#[derive(Drop)]
+#[derive(Clone, Copy)]
 pub enum Reading {
     Known(Hand),
     NotSeven,

@@ -10,7 +10,7 @@ ghost use Rattle.chairs.specs.Chairs.{want_of, sweep_of, column_of, put_at, coun
 use crate::Chair;
 
 // How many hands are live, and for how many of those not all cards were entered.
-#[derive(Drop)]
+#[derive(Clone, Copy)]
 pub struct ShowCount {
     pub hands: u32,
     pub bare: u32,
@@ -35,7 +35,7 @@ pub fn shows(cs: [Chair; 10], seats: u32, game: u32) -> ShowCount
 }
 
 // How many hands are live, and for how many hands a card was entered.
-#[derive(Drop)]
+#[derive(Clone, Copy)]
 pub struct CardCount {
     pub hands: u32,
     pub holders: u32,
@@ -60,7 +60,7 @@ pub fn board_look(cs: [Chair; 10], seats: u32, card: u32) -> CardCount
 }
 
 // Of each sitting dealt in what it has put in and its number; and as masks which hands are live and which sittings are still there.
-#[derive(Drop)]
+#[derive(Clone, Copy)]
 pub struct HandRows {
     pub totals: [u32; 10],
     pub sittings: [u32; 10],
@@ -95,7 +95,7 @@ pub fn rows(cs: [Chair; 10], seats: u32) -> HandRows
 }
 
 // How many seats hold chips, and the first of them clockwise from a seat; 0 where there is none.
-#[derive(Drop)]
+#[derive(Clone, Copy)]
 pub struct Stacked {
     pub count: u32,
     pub next: u32,
@@ -123,7 +123,7 @@ pub fn chip_seats(cs: [Chair; 10], seats: u32, s: u32) -> Stacked
 }
 
 // Two chairs of a new hand, and their seats: those that post.
-#[derive(Drop)]
+#[derive(Clone, Copy)]
 pub struct Dealing {
     pub seat: u32,
     pub chair: Chair,

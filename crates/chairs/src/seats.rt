@@ -26,7 +26,7 @@ pub fn lives(cs: [Chair; 10], seats: u32) -> u32
 }
 
 // How many hands one card was entered for, and how many another.
-#[derive(Drop)]
+#[derive(Clone, Copy)]
 pub struct HolderCount {
     pub first: u32,
     pub second: u32,
@@ -112,7 +112,7 @@ fn first_from(cs: [Chair; 10], seats: u32, mark: u32, s: u32) -> u32
 
 // What the turn is found by: how many hands are live, and how many of these have chips; and the first seat that owes where more than one has, of
 // all seats and of those after one; 0 for none.
-#[derive(Drop)]
+#[derive(Clone, Copy)]
 struct Sought {
     hands: u32,
     stacks: u32,
@@ -179,7 +179,7 @@ pub fn chips(cs: [Chair; 10], seats: u32) -> u64
 }
 
 // What a clerk finds the pots from: what each sitting dealt in has put in, and which hands are live, as a mask.
-#[derive(Drop)]
+#[derive(Clone, Copy)]
 pub struct PutIn {
     pub totals: [u32; 10],
     pub live: u16,

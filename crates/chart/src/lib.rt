@@ -1,5 +1,7 @@
 // The picture of a hand's chips as inline SVG: a column for each sitting, the pots as bands across the columns, returned chips apart above them. Its heights are
 // those of crate `columns`; lengths are in tenths of a pixel. It needs nothing of the page around it, so that it can stand alone.
+#![tactic(auto)]
+
 use columns::{height, in_mask, reach, slab, tallest};
 use page::pen::{Pen, fill, put, put_box, put_one_of, put_text_at, say};
 use spots::{BAND, Chips, column_x, number_of, pot_at, reach_of_first, right_of, wide, y_at};
@@ -126,7 +128,7 @@ fn put_piece(out: &mut [u8], p: Pen, c: Chips, i: usize, j: u32, k: usize) -> Pe
 }
 
 // A piece of a column: above which height it lies, how many chips it has, whose and which pot's it is, whether its sitting contends, and where its column stands.
-#[derive(Drop)]
+#[derive(Clone, Copy)]
 struct Piece {
     hand: u64,
     most: u32,
@@ -206,7 +208,7 @@ fn put_sitting(out: &mut [u8], p: Pen, c: Chips, i: usize, j: u32) -> Pen {
 }
 
 // The pen, and how many columns stand.
-#[derive(Drop)]
+#[derive(Clone, Copy)]
 struct Stood {
     pen: Pen,
     columns: u32,

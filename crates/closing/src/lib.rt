@@ -1,4 +1,6 @@
 // The page's start, and its end: the sittings that are still there, the evening in a table, and the sums that come out.
+#![tactic(auto)]
+
 use accounts::{Account, Charges, Sums};
 use chairs::Chair;
 use notes::Notes;

@@ -1,5 +1,7 @@
 // The numbers of the picture of a hand's chips: a column for each sitting, its chips one above the other; up to which height each pot reaches, how many of a
 // sitting's chips lie in it and how many go back; and how high a chip is drawn. Over the totals and the contenders' masks of crate `pots`.
+#![tactic(auto)]
+
 ghost use Rattle.std.specs.Prelude.{◌≡◌, ◌%◌, min, max, eqb};
 ghost use Rattle.laws.specs.Lists.{max_of};
 ghost use Rattle.laws.specs.Tests.{pick};

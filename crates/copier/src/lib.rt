@@ -1,4 +1,6 @@
 // A log copied fair as it comes in parts: the unfinished sheet or block is kept, each line cut after 33 bytes, and copied or noted as left out at its last LF.
+#![tactic(auto)]
+
 ghost use Rattle.std.specs.Prelude.{◌≡◌, false, ◌⊎◌, ◌+◌, ◌≤◌, ◌<◌, length};
 ghost use Rattle.writing.specs.AnswerSheet.{Wrote};
 ghost use Rattle.text.specs.Codes.{eleven};
@@ -15,7 +17,7 @@ use text::sheet::{ROOM, SheetRead, read_sheet};
 use writing::put_bytes;
 
 // The copier between two bytes: whether the sheet was read, whether it was bad, the sheet, how many blocks were read, and what is kept.
-#[derive(Drop)]
+#[derive(Clone, Copy)]
 pub struct Copier {
     pub opened: bool,
     pub shut: bool,
@@ -25,7 +27,7 @@ pub struct Copier {
 }
 
 // The copier after a part of the log, how many of its bytes are used up, and how many bytes of the copy and of the notes are written.
-#[derive(Drop)]
+#[derive(Clone, Copy)]
 pub struct Fed {
     pub copier: Copier,
     pub used: usize,
@@ -34,7 +36,7 @@ pub struct Fed {
 }
 
 // Whole lines: the copier after them, with nothing kept.
-#[derive(Drop)]
+#[derive(Clone, Copy)]
 pub struct CopierAfter {
     pub copier: Copier,
     pub written: usize,
@@ -270,7 +272,7 @@ pub fn copy_on(c: Copier, buf: &mut [u8], part: &[u8], copy: &mut [u8], notes: &
 }
 
 // What the close has written of the copy and of the notes.
-#[derive(Drop)]
+#[derive(Clone, Copy)]
 pub struct Closed {
     pub written: usize,
     pub noted: usize,

@@ -1,5 +1,7 @@
 // Request No. 10, a second reader of hands: it counts how often each rank is held in all seven cards and which ranks each suit has, and names the class and
 // the ranks of the best five from the counts. It looks at no choice of five.
+#![tactic(auto)]
+
 mod masks;
 mod naming;
 mod seen;

@@ -4,7 +4,7 @@ ghost use Rattle.counts.specs.HandOrder.{highest, leaving, row_foot};
 ghost use Rattle.counts.specs.Kept.{ranks_in, Short};
 
 // The ranks of a flush, and the ranks held at least once, twice, three and four times.
-#[derive(Drop)]
+#[derive(Clone, Copy)]
 pub struct Masks {
     pub flush: u64,
     pub once: u64,

@@ -6,7 +6,7 @@ ghost use Rattle.counts.specs.Kept.{place_of, Seven, Sees, Shows};
 
 use crate::masks::Masks;
 
-#[derive(Drop)]
+#[derive(Clone, Copy)]
 pub struct Seen {
     pub held: u64,
     pub suits: u64,

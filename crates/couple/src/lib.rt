@@ -1,4 +1,6 @@
 // Two tables that share a jackpot pool (request No. 7, the program `pair`): what is answered to each piece of their input.
+#![tactic(auto)]
+
 ghost use Rattle.std.specs.Prelude.{◌≡◌, true, ◌+◌, ◌-◌, ◌≤◌, length};
 ghost use Rattle.writing.specs.AnswerSheet.{Wrote};
 ghost use Rattle.text.specs.Line.{line_number};
@@ -23,7 +25,7 @@ use writing::{put_bytes, write_number_line};
 pub const ROOM: usize = 576;
 
 // Whether the opening was bad, the two tables, the pool, and all parts that went to the house.
-#[derive(Drop)]
+#[derive(Clone, Copy)]
 pub struct Pair {
     pub shut: bool,
     pub tables: [Table; 2],
@@ -32,7 +34,7 @@ pub struct Pair {
 }
 
 // The pair after a piece, and how many bytes were written to it.
-#[derive(Drop)]
+#[derive(Clone, Copy)]
 pub struct PairAfter {
     pub pair: Pair,
     pub written: usize,

@@ -1,4 +1,6 @@
 // Crown Hold'em: rounds on standard input, a block of sixteen lines each, and what comes back of every wager on standard output.
+#![tactic(auto)]
+
 ghost use Rattle.std.specs.Prelude.{◌≡◌, ◌≤◌, ◌<◌, length};
 ghost use Rattle.rounds.specs.RoundParts.{Held};
 
@@ -9,7 +11,7 @@ use rounds::{Fill, close, empty, feed};
 // Answers are written out where less than an answer's room, 216 bytes, is left behind them.
 const ENOUGH: usize = 65000;
 
-#[derive(Drop)]
+#[derive(Clone, Copy)]
 struct ServedTo {
     fill: Fill,
     from: usize,
@@ -44,7 +46,7 @@ fn serve_one(
 }
 
 // What is kept after some input, whether a write failed, and whether to go on.
-#[derive(Drop)]
+#[derive(Clone, Copy)]
 struct Lap {
     fill: Fill,
     failed: bool,

@@ -1,4 +1,6 @@
 // A hand as its section needs it: who is dealt in at its opening; at its end its chips, its sittings with what they put in, hold and are paid.
+#![tactic(auto)]
+
 ghost use Rattle.std.specs.Prelude.{◌≡◌, map, ltb, get_or, ◌≤◌};
 ghost use Rattle.laws.specs.Tests.{one};
 ghost use Rattle.laws.specs.Often.{tally};
@@ -67,7 +69,7 @@ pub fn put_all_dealt(out: &mut [u8], p: Pen, t: Table, u: Table) -> Pen {
 }
 
 // What a seat's best hand is: whether it is looked at, its class and ranks, and the number that hands are compared by.
-#[derive(Drop)]
+#[derive(Clone, Copy)]
 struct Best {
     shown: bool,
     class: u8,

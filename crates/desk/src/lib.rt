@@ -1,4 +1,6 @@
 // One block at the desk: read, taken at the table, answered.
+#![tactic(auto)]
+
 ghost use Rattle.std.specs.Prelude.{◌≡◌, ◌<◌, ◌^◌};
 ghost use Rattle.writing.specs.AnswerSheet.{sheet_after, written_of};
 ghost use Rattle.blocks.specs.Block.{rest_of};
@@ -73,7 +75,7 @@ pub fn shown_of(n: u32, code: u8, t: Table, paid: table::table::Payout) -> Shown
 }
 
 // Whether there was a block, its number, its code, the table after it, and what it paid.
-#[derive(Drop)]
+#[derive(Clone, Copy)]
 pub struct Judged {
     pub block: bool,
     pub n: u32,
@@ -97,7 +99,7 @@ pub fn refused(t: Table, n: u32, code: u8) -> Judged
 
 // A block as an entry for the table: whether there is one, its number, the code that it has already where it makes no entry, and the entry, or one that every
 // table refuses. So each block is taken, and no two tables meet where the ways part.
-#[derive(Drop)]
+#[derive(Clone, Copy)]
 pub struct Planned {
     pub block: bool,
     pub n: u32,
@@ -176,7 +178,7 @@ pub fn judge(t: Table, log: &[u8]) -> Judged
 
 // What the answer to a block says to the caller: whether there was a block, its code, the table after it, and how many bytes were written. Where no bytes
 // are left there is no block and no answer: nothing is written, and the table is the one before.
-#[derive(Drop)]
+#[derive(Clone, Copy)]
 pub struct Answered {
     pub block: bool,
     pub code: u8,

@@ -1,4 +1,6 @@
 // The table's picture: 23 rows of 79 columns and an LF each, on a lent sheet. Of the drawing bounds are promised; what it says comes from `seen`.
+#![tactic(auto)]
+
 mod rows;
 
 ghost use Rattle.std.specs.Prelude.{◌≤◌, length};

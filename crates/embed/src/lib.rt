@@ -1,5 +1,7 @@
 // The box for makers of boxes: what C and Rust on x86-64 link (`rt staticlib embed`; include/clerk.h is its header). A slice is two parameters in C, a pointer
 // and how many elements there are. What nothing here can prove stands in that header: the pointer is to so many elements, and no lent array overlaps another.
+#![tactic(auto)]
+
 ghost use Rattle.std.specs.Prelude.{◌≡◌, ◌≤◌, length};
 ghost use Rattle.writing.specs.AnswerSheet.{Wrote};
 ghost use Rattle.stream.specs.Feeding.{longest_answer};
@@ -74,7 +76,7 @@ pub extern "C" fn clerk_start(state: &mut [u8]) -> u32
 }
 
 // What a call has done: how many bytes of the part it used up, and how many it wrote.
-#[derive(Drop)]
+#[derive(Clone, Copy)]
 struct Did {
     used: usize,
     written: usize,

@@ -1,5 +1,7 @@
 // A log copied fair: a log on standard input, its sheet and its good blocks on standard output, a line about each block left out on standard error. A sheet
 // from before the later requests gets the lines that it lacks, and a line about each of them.
+#![tactic(auto)]
+
 ghost use Rattle.std.specs.Prelude.{◌≡◌, false, ◌≤◌, ◌<◌, length, ltb};
 ghost use Rattle.laws.specs.Tests.{pick};
 ghost use Rattle.lines.specs.Kept.{kept_most};
@@ -22,7 +24,7 @@ fn write_out(copy: &[u8], notes: &[u8]) -> bool {
     laws::both(a, b)
 }
 
-#[derive(Drop)]
+#[derive(Clone, Copy)]
 struct ServedTo {
     copier: Copier,
     from: usize,
@@ -55,7 +57,7 @@ fn serve_one(
 }
 
 // The copier after some input, whether reading or writing failed, and whether to go on.
-#[derive(Drop)]
+#[derive(Clone, Copy)]
 struct Lap {
     copier: Copier,
     failed: bool,
@@ -103,7 +105,7 @@ fn note_added(ended: bool, opened: bool, k: usize) -> bool {
 }
 
 // The renewal and the copier behind it, how far a part is used up, and whether all could be written.
-#[derive(Drop)]
+#[derive(Clone, Copy)]
 struct Opened {
     renewal: Renewal,
     copier: Copier,
@@ -149,7 +151,7 @@ fn opens(done: bool, from: usize, size: usize) -> bool
 }
 
 // The renewal and the copier after some input, whether reading or writing failed, and whether to go on.
-#[derive(Drop)]
+#[derive(Clone, Copy)]
 struct Taken {
     renewal: Renewal,
     copier: Copier,
@@ -251,7 +253,7 @@ fn end(c: Copier, buf: &[u8])
 }
 
 // The copier at the end of the input, and whether all could be written.
-#[derive(Drop)]
+#[derive(Clone, Copy)]
 struct Ended {
     copier: Copier,
     ok: bool,

@@ -10,7 +10,7 @@ use crate::grouped::{column, grouped};
 use crate::put::{put, put_if};
 use laws::either;
 
-#[derive(Drop)]
+#[derive(Clone, Copy)]
 struct Label {
     text: [u8; 12],
 }
@@ -58,7 +58,7 @@ const LABELS: [Label; 12] = [
     },
 ];
 
-#[derive(Drop)]
+#[derive(Clone, Copy)]
 struct Words {
     text: [u8; 40],
 }

@@ -1,5 +1,7 @@
 // What the input of two tables is cut into (request No. 7, the program `pair`): the opening, blocks of a table, whole or cut short, and lines of no table. Bytes come
 // in parts: the unfinished lines are kept in a lent buffer, and a line is looked at as its LF arrives.
+#![tactic(auto)]
+
 ghost use Rattle.std.specs.Prelude.{◌≡◌, ◌+◌, ◌≤◌, ◌<◌, length};
 ghost use Rattle.laws.specs.Tests.{pick};
 ghost use Rattle.writing.specs.AnswerSheet.{over};
@@ -33,14 +35,14 @@ pub const OF_NONE: u8 = 3;
 pub const MISSING: u8 = 4;
 
 // What is due, and what is kept of its lines.
-#[derive(Drop)]
+#[derive(Clone, Copy)]
 pub struct Frame {
     pub due: u8,
     pub fill: Fill,
 }
 
 // What is due next, whether the lines are kept on, and what was made whole.
-#[derive(Drop)]
+#[derive(Clone, Copy)]
 pub struct Next {
     pub due: u8,
     pub keeps: bool,
@@ -48,7 +50,7 @@ pub struct Next {
 }
 
 // The frame after some bytes, how many are used up, what was made whole, what was due for it, and how many bytes of it lie in the buffer.
-#[derive(Drop)]
+#[derive(Clone, Copy)]
 pub struct Heard {
     pub frame: Frame,
     pub used: usize,

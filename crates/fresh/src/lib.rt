@@ -1,4 +1,6 @@
 // The stored log read afresh: every entry taken again at a new table, one of them replaced; and the index of the hands written anew.
+#![tactic(auto)]
+
 ghost use Rattle.std.specs.Prelude.{◌≡◌, true, map, ◌≤◌, ◌<◌, ltb};
 ghost use Rattle.paper.specs.Paper.{is_sheet};
 ghost use Rattle.table.specs.Take.{Sound};
@@ -12,7 +14,7 @@ use table::table::Table;
 use table::take::new_table;
 
 // The table after some entries, and whether each of them was taken.
-#[derive(Drop)]
+#[derive(Clone, Copy)]
 pub struct Played {
     pub table: Table,
     pub ok: bool,
@@ -43,7 +45,7 @@ fn play_on(p: Played, n: u32, e: Entry) -> Played
 
 // A reading of a stored log with one entry replaced: what was played so far, the place of the replaced entry and what stands there now, how many entries are
 // read and how many shall be, and whether more shall be.
-#[derive(Drop)]
+#[derive(Clone, Copy)]
 struct Rereading {
     played: Played,
     at: u32,
@@ -142,7 +144,7 @@ pub fn is_hand(e: Entry) -> bool
 }
 
 // The table after some entries, and how many hands were opened.
-#[derive(Drop)]
+#[derive(Clone, Copy)]
 pub struct Rowed {
     pub table: Table,
     pub hands: u32,

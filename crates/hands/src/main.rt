@@ -2,6 +2,8 @@
 // best five, 8 for a straight flush down to 0 for five odd cards, and their ranks as they are compared; or the paper's number for a refusal. With the
 // argument --counted the second reader answers, which counts; with --place the place of the hand is written in place of its class and ranks; with --five
 // a line has five cards. With --short the cards are those of the 32-card deck, which has none of these.
+#![tactic(auto)]
+
 ghost use Rattle.std.specs.Prelude.{◌≡◌, [], ◌∷◌, ◌+◌, ◌-◌, ◌≤◌, ◌<◌, length};
 ghost use Rattle.cards.specs.Reading.{reading_of};
 ghost use Rattle.hands.specs.Lines.{no_line, grown_of, ended_to, cards_to, taken_to, cards_with, five_of, read_by, answer_of};
@@ -17,7 +19,7 @@ use output::flush;
 const ENOUGH: usize = 65500;
 
 // What is asked for: five cards in place of seven; the deck; the second reader in place of the first; the hand's place in place of its class and ranks.
-#[derive(Drop)]
+#[derive(Clone, Copy)]
 struct Wish {
     five: bool,
     deck: u32,
@@ -26,7 +28,7 @@ struct Wish {
 }
 
 // A line that is being read: how many numbers stand in it so far, and the one that has begun.
-#[derive(Drop)]
+#[derive(Clone, Copy)]
 struct Line {
     have: usize,
     word: u8,
@@ -269,7 +271,7 @@ fn answer(w: Wish, l: Line, cards: &mut [u8], out: &mut [u8], at: usize) -> usiz
     put(out, end, 10)
 }
 
-#[derive(Drop)]
+#[derive(Clone, Copy)]
 struct ServedTo {
     line: Line,
     at: usize,
@@ -310,7 +312,7 @@ fn serve(w: Wish, l: Line, cards: &mut [u8], part: &[u8]) -> Line
     line
 }
 
-#[derive(Drop)]
+#[derive(Clone, Copy)]
 struct Lap {
     line: Line,
     more: bool,

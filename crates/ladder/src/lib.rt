@@ -1,5 +1,7 @@
 // Document 02, request No. 11, "Hands kept as a place": the place of a hand among the 7,462 classes of equal hands of 52 cards. No ladder is laid
 // out: the hands that stand below are counted.
+#![tactic(auto)]
+
 ghost use Rattle.std.specs.Prelude.{◌≡◌, [], ◌∷◌, ◌+◌, ◌≤◌, eqb};
 ghost use Rattle.cards.specs.Cards.{in_row};
 ghost use Rattle.ladder.specs.Ladder.{ranks_in, is_straight, place_of, kept_of};

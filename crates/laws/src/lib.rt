@@ -1,4 +1,6 @@
 // Small total functions over tests and numbers. Straight-line code made of them leaves one fact to prove, and no join of branches.
+#![tactic(auto)]
+
 ghost use Rattle.std.specs.Prelude.{◌≡◌, ◌+◌, ◌-◌, min, max};
 ghost use Rattle.laws.specs.Tests.{both, either, pick, one};
 

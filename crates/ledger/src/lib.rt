@@ -1,5 +1,7 @@
 // A table with its stored log: an entry is taken and kept, a correction replaces one entry and the log is read afresh. A block is judged first and its answer
 // written; only then, where it is taken, are the two lent buffers changed.
+#![tactic(auto)]
+
 pub mod judged;
 
 ghost use Rattle.std.specs.Prelude.{◌≡◌, true, ◌≤◌, ◌<◌, ◌^◌, length};
@@ -29,7 +31,7 @@ use text::sheet::value_in;
 use writing::Written;
 
 // The table and how many hands were opened: so many rows has the index. As many entries as the table has taken are stored.
-#[derive(Drop)]
+#[derive(Clone, Copy)]
 pub struct Book {
     pub table: Table,
     pub hands: u32,
@@ -45,7 +47,7 @@ pub fn opened(sheet: Sheet) -> Book
 }
 
 // What the answer to a block says to the caller: whether there was a block, its code, the book after it, and how many bytes were written.
-#[derive(Drop)]
+#[derive(Clone, Copy)]
 pub struct Answered {
     pub block: bool,
     pub code: u8,

@@ -1,4 +1,6 @@
 // Lines that come in parts: the unfinished ones are kept in a lent buffer, each cut after 33 bytes.
+#![tactic(auto)]
+
 ghost use Rattle.std.specs.Prelude.{◌≡◌, ◌≤◌, ◌<◌, length};
 ghost use Rattle.writing.specs.AnswerSheet.{over};
 ghost use Rattle.text.specs.TableSheet.{sheet_lines};
@@ -7,7 +9,7 @@ ghost use Rattle.lines.specs.Kept.{nothing, lines_of, bad_of, keep_of, gather_of
 use text::sheet::LINES;
 
 // How far a lent buffer is filled by what is kept: its bytes, its LFs, the bytes of the line that is not ended, and whether a line of it has grown past 32 bytes.
-#[derive(Drop)]
+#[derive(Clone, Copy)]
 pub struct Fill {
     pub count: usize,
     pub lines: usize,
@@ -71,7 +73,7 @@ fn keep(buf: &mut [u8], m: Fill, b: u8) -> Fill
     m
 }
 
-#[derive(Drop)]
+#[derive(Clone, Copy)]
 pub struct Progress {
     pub fill: Fill,
     pub used: usize,

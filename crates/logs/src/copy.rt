@@ -15,7 +15,7 @@ use writing::{put_bytes, put_digits, write_number_line};
 pub const NOTE: usize = 31;
 
 // A block's code, 0 where it was copied, and how many bytes were written.
-#[derive(Drop)]
+#[derive(Clone, Copy)]
 pub struct Copied {
     pub code: u8,
     pub written: usize,

@@ -10,7 +10,7 @@ use paper::{Entry, Numbers, Sheet, in_range, is_sheet, numbers_of};
 use writing::{digit_count, put_bytes, write_number_line};
 
 // A kind's line with its LF, and how many bytes it has.
-#[derive(Drop)]
+#[derive(Clone, Copy)]
 struct KindLine {
     line: [u8; 10],
     bytes: usize,

@@ -1,4 +1,6 @@
 // A sheet and an entry written in document 01's text form, each at the front of a lent buffer; and a log copied fair.
+#![tactic(auto)]
+
 pub mod copy;
 mod entry;
 mod sheet;
@@ -7,7 +9,7 @@ pub use entry::write_entry;
 pub use sheet::write_sheet;
 
 // How many bytes were written; that a number is outside its range: code 2; or that the buffer is too short: code 12.
-#[derive(Drop)]
+#[derive(Clone, Copy)]
 pub enum Put {
     Bytes(usize),
     OutOfRange,

@@ -1,4 +1,6 @@
 // What the page keeps between two blocks: a few numbers for each seat, and sums. `entries` says what an entry does to it.
+#![tactic(auto)]
+
 ghost use Rattle.std.specs.Prelude.{◌≡◌, map, get_or, set};
 ghost use Rattle.accounts.specs.Sums.{nobody};
 ghost use Rattle.chairs.specs.Chairs.{round_of, is_here};
@@ -11,7 +13,7 @@ use table::table::Table;
 pub mod entries;
 
 // What each seat put in by round: before the flop, flop, turn, river.
-#[derive(Drop)]
+#[derive(Clone, Copy)]
 pub struct Rounds {
     pub first: [u32; 10],
     pub flop: [u32; 10],
@@ -21,7 +23,7 @@ pub struct Rounds {
 
 // What is kept between two blocks: how many hands were opened; whether refused blocks are being folded away; of the open hand each seat's stack before, what it put in by
 // round, and how its hand ended (1 folded, 2 dead); the blocks by code, what hands were charged, the sums over the sittings that left, and each seat's account.
-#[derive(Drop)]
+#[derive(Clone, Copy)]
 pub struct Notes {
     pub hands: u64,
     pub refusing: bool,

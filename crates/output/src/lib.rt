@@ -1,9 +1,11 @@
 // What the programs that go through their input part by part share: bytes that are gathered in a buffer and written out before it is full.
+#![tactic(auto)]
+
 ghost use Rattle.std.specs.Prelude.{◌≡◌, ◌+◌, ◌≤◌, length, leb};
 ghost use Rattle.laws.specs.Tests.{pick};
 
 // How much is still to be written, and whether what was written could be.
-#[derive(Drop)]
+#[derive(Clone, Copy)]
 pub struct Flushed {
     pub at: usize,
     pub ok: bool,

@@ -1,5 +1,7 @@
 // The clerk between two calls in lent bytes, and back: 18 words and ten single bytes, then 28 bytes for each of the ten chairs. A word takes four bytes, the low
 // one first. `pack` says that what it has left reads back as the clerk that it was given.
+#![tactic(auto)]
+
 ghost use Rattle.std.specs.Prelude.{◌≡◌, ◌++◌, ◌+◌, ◌*◌, ◌≤◌, ◌<◌, ◌^◌, length, drop};
 ghost use Rattle.laws.specs.Tests.{one};
 ghost use Rattle.laws.specs.Lists.{All};

@@ -1,5 +1,7 @@
 // Two tables that share a jackpot pool: their blocks on standard input, the answers on standard output. With the argument --table and 1 or 2 only that table's answers
 // are written, for its screen.
+#![tactic(auto)]
+
 ghost use Rattle.std.specs.Prelude.{◌≡◌, false, ◌≤◌, ◌<◌, length};
 ghost use Rattle.lines.specs.Kept.{kept_most};
 ghost use Rattle.frames.specs.Frames.{Held};
@@ -13,7 +15,7 @@ use libc::{STDIN_FILENO, STDOUT_FILENO};
 use output::ahead;
 use pairs::{close, feed_on};
 
-#[derive(Drop)]
+#[derive(Clone, Copy)]
 struct ServedTo {
     pair: Pair,
     frame: Frame,
@@ -49,7 +51,7 @@ fn serve_one(
 }
 
 // The pair and what is due after some input, whether reading or writing failed, and whether to go on.
-#[derive(Drop)]
+#[derive(Clone, Copy)]
 struct Lap {
     pair: Pair,
     frame: Frame,

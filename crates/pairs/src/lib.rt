@@ -1,4 +1,6 @@
 // The input of two tables as it comes in parts: each line is looked at as its LF arrives, and what it makes whole is answered.
+#![tactic(auto)]
+
 ghost use Rattle.std.specs.Prelude.{◌≡◌, false, [], ◌+◌, ◌≤◌, ◌<◌, length};
 ghost use Rattle.lines.specs.Kept.{kept_most};
 ghost use Rattle.frames.specs.Frames.{Held, last_due, piece_of, end_what};
@@ -110,7 +112,7 @@ pub fn take_piece(p: Pair, only: u8, what: u8, due: u8, lines: &[u8], out: &mut 
 }
 
 // The pair and what is due after a part of the input, how many of its bytes are used up, and how many bytes are written.
-#[derive(Drop)]
+#[derive(Clone, Copy)]
 pub struct Fed {
     pub pair: Pair,
     pub frame: Frame,

@@ -1,5 +1,7 @@
 // The payer: a tray and then the clerk's answers on standard input; at each settled block how many chips of each row go to each sitting, on standard output as soon as its
 // last line has come; at the end the tray as it stands. With the argument --check the proposals are another program's, and are checked.
+#![tactic(auto)]
+
 ghost use Rattle.std.specs.Prelude.{◌≡◌, ◌≤◌, ◌<◌, length};
 ghost use Rattle.lines.specs.Kept.{kept_most, Room};
 ghost use Rattle.teller.specs.Keeping.{Sound};
@@ -15,7 +17,7 @@ use teller::{Teller, said, start};
 const ENOUGH: usize = 62000;
 
 // The teller, what is kept of the unfinished line, how far the part is read and the output written, and whether what was written out could be.
-#[derive(Drop)]
+#[derive(Clone, Copy)]
 struct Going {
     teller: Teller,
     fill: Fill,
@@ -68,7 +70,7 @@ fn take_one(
 }
 
 // The teller and what is kept of the unfinished line, and whether to go on.
-#[derive(Drop)]
+#[derive(Clone, Copy)]
 struct Lap {
     teller: Teller,
     fill: Fill,

@@ -1,4 +1,6 @@
 // What the program `pay` writes: one line more is taken, and what is answered to it stands at the front of a lent sheet; and the end of the input.
+#![tactic(auto)]
+
 mod paying;
 mod writer;
 

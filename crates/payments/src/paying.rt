@@ -11,7 +11,7 @@ use rows::{accept_from, propose_from};
 use teller::{Teller, anew, faulty};
 
 // The teller after an answer, and how many bytes were written.
-#[derive(Drop)]
+#[derive(Clone, Copy)]
 pub struct Answered {
     pub teller: Teller,
     pub written: usize,

@@ -1,4 +1,6 @@
 // The picture of an answer block for a person: fixed-width rows, drawn line by line as the answer's lines arrive, in constant memory.
+#![tactic(auto)]
+
 mod reading;
 mod rows;
 
@@ -29,7 +31,7 @@ pub const MOST: usize = 400;
 pub const CLOSE_MOST: usize = 60;
 
 // What a line says: its kind, by its place in the table of keys, and its number; the number of keys for a line that is no answer line.
-#[derive(Drop)]
+#[derive(Clone, Copy)]
 pub struct Line {
     pub kind: usize,
     pub value: u32,
@@ -37,7 +39,7 @@ pub struct Line {
 
 // The screen between two bytes: how many bytes of the unfinished line are kept, whether bytes of it were shown already, the kind of the line
 // before, and how many pots were shown in a row.
-#[derive(Drop)]
+#[derive(Clone, Copy)]
 pub struct Screen {
     pub count: usize,
     pub long: bool,
@@ -45,7 +47,7 @@ pub struct Screen {
     pub pots: u32,
 }
 
-#[derive(Drop)]
+#[derive(Clone, Copy)]
 pub struct Stepped {
     pub screen: Screen,
     pub at: usize,
@@ -192,7 +194,7 @@ pub fn step(colour: bool, s: Screen, buf: &mut [u8], b: u8, out: &mut [u8], at: 
 }
 
 // The screen after a part of the input, how many of its bytes are used up, and how many bytes are drawn.
-#[derive(Drop)]
+#[derive(Clone, Copy)]
 pub struct Drawn {
     pub screen: Screen,
     pub used: usize,

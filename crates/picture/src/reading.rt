@@ -10,7 +10,7 @@ use text::decimal::number_in;
 use text::line::{line_end, value_of};
 
 // The letters of a key and how many they are, and the greatest number that the box writes there.
-#[derive(Drop)]
+#[derive(Clone, Copy)]
 struct Key {
     letters: [u8; 9],
     count: usize,

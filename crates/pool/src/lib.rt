@@ -1,5 +1,7 @@
 // The jackpot pool that two tables feed (request No. 7): what fits of a hand's drop, what of it goes to the house, and who wins the pool.
 // The cage pays what is won: no table's stacks are looked at here.
+#![tactic(auto)]
+
 ghost use Rattle.std.specs.Prelude.{◌≡◌};
 ghost use Rattle.pool.specs.Jackpot.{fits_in, house_of, fed_by, settled_pool, opened_with};
 
@@ -9,20 +11,20 @@ use paper::{BAD_SHEET, when};
 // The most that the pool may hold: nine digits.
 pub const MOST: u32 = 999999999;
 
-#[derive(Drop)]
+#[derive(Clone, Copy)]
 pub struct Pool {
     pub held: u32,
 }
 
 // A settled hand of a table that shares the pool: what it drops, and whether a seat of it holds the royal flush that wins.
-#[derive(Drop)]
+#[derive(Clone, Copy)]
 pub struct Hand {
     pub drop: u32,
     pub royal: bool,
 }
 
 // The pool after a hand, what the hand wins of it, and what of its drop went to the house.
-#[derive(Drop)]
+#[derive(Clone, Copy)]
 pub struct Settled {
     pub pool: Pool,
     pub jackpot: u32,
@@ -30,7 +32,7 @@ pub struct Settled {
 }
 
 // The code of an opening, and the pool that it opens: an empty one where it is refused.
-#[derive(Drop)]
+#[derive(Clone, Copy)]
 pub struct PoolOpened {
     pub code: u8,
     pub pool: Pool,

@@ -1,5 +1,7 @@
 // The stored log and its index in lent buffers: an entry's record of 8 bytes, a hand's row of 44, each at its place and with all other bytes as they were;
 // and a reader of the stored log, which holds it with its place.
+#![tactic(auto)]
+
 ghost use Rattle.std.specs.Prelude.{◌≡◌, ◌+◌, ◌-◌, ◌*◌, ◌%◌, ◌≤◌, length};
 ghost use Rattle.writing.specs.AnswerSheet.{Wrote};
 ghost use Rattle.records.specs.Bytes.{word_bytes, words_bytes};
@@ -17,7 +19,7 @@ pub const ROW: usize = 44;
 
 // A record as it is read at a place: whether it is there, the entry's kind and its three numbers, and the place behind it. Where there is none all numbers are
 // 0 and the place stays.
-#[derive(Drop)]
+#[derive(Clone, Copy)]
 pub struct Record {
     pub there: bool,
     pub kind: u8,
@@ -187,14 +189,14 @@ pub fn put_row(index: &mut [u8], h: u32, n: u32, stacks: [u32; 10])
 
 // ---- a reader holds the stored log with its place
 
-#[derive(Drop)]
+#[derive(Clone, Copy)]
 pub struct Reader<'a> {
     pub log: &'a [u8],
     pub at: usize,
 }
 
 // A record, and the reader behind it.
-#[derive(Drop)]
+#[derive(Clone, Copy)]
 pub struct RecordRead<'a> {
     pub got: Record,
     pub rest: Reader<'a>,

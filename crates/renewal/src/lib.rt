@@ -1,5 +1,7 @@
 // Logs from before the later requests: their sheets lack the last lines, and end where a block begins or with the input. Such a log gets today's sheet as it
 // comes, byte by byte. Each later sheet line adds itself to the constants.
+#![tactic(auto)]
+
 ghost use Rattle.std.specs.Prelude.{◌≡◌, false, ◌-◌, ◌≤◌, ◌<◌, length};
 ghost use Rattle.text.specs.TableSheet.{sheet_lines};
 ghost use Rattle.writing.specs.AnswerSheet.{Wrote};
@@ -30,7 +32,7 @@ pub const MOST: usize = MEANT_ROOM + 2;
 
 // The renewal between two bytes: how many lines have ended, whether a byte of the next has come, whether that is an `n` which is held back, and whether the
 // sheet has ended.
-#[derive(Drop)]
+#[derive(Clone, Copy)]
 pub struct Renewal {
     pub lines: usize,
     pub begun: bool,
@@ -39,7 +41,7 @@ pub struct Renewal {
 }
 
 // The renewal after a byte or the close, and how many bytes are given.
-#[derive(Drop)]
+#[derive(Clone, Copy)]
 pub struct Stepped {
     pub renewal: Renewal,
     pub written: usize,
@@ -182,7 +184,7 @@ fn step(s: Renewal, b: u8, out: &mut [u8]) -> Stepped
 }
 
 // The renewal after a part of the log, how many of its bytes are used up, and how many bytes are given.
-#[derive(Drop)]
+#[derive(Clone, Copy)]
 pub struct Given {
     pub renewal: Renewal,
     pub used: usize,

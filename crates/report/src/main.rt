@@ -1,4 +1,6 @@
 // The supervisor's page: a log on standard input, one HTML page on standard output, in constant memory.
+#![tactic(auto)]
+
 ghost use Rattle.std.specs.Prelude.{◌≤◌, ◌<◌, length};
 ghost use Rattle.lines.specs.Kept.{kept_most, Room};
 ghost use Rattle.table.specs.Take.{Sound};
@@ -17,7 +19,7 @@ use table::take::new_table;
 use text::sheet::SheetRead;
 
 // Between two blocks: whether the sheet was read, whether it was bad, the table, and what is noted.
-#[derive(Drop)]
+#[derive(Clone, Copy)]
 struct Page {
     opened: bool,
     shut: bool,
@@ -99,7 +101,7 @@ fn unfinished(m: Fill, want: usize) -> Fill
 }
 
 // The page, what is kept of unfinished lines, and how far the part is read.
-#[derive(Drop)]
+#[derive(Clone, Copy)]
 struct Going {
     page: Page,
     fill: Fill,
@@ -134,7 +136,7 @@ fn take_one(g: Page, m: Fill, buf: &mut [u8], part: &[u8], from: usize, out: &mu
 }
 
 // The page and what is kept, and whether to go on.
-#[derive(Drop)]
+#[derive(Clone, Copy)]
 struct Lap {
     page: Page,
     fill: Fill,

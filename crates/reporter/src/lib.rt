@@ -1,4 +1,6 @@
 // The supervisor's page as the log comes: each block is judged by the proved box, and what it did is written. Between two blocks only a few numbers for each seat are kept.
+#![tactic(auto)]
+
 ghost use Rattle.std.specs.Prelude.{◌≡◌};
 ghost use Rattle.table.specs.Take.{Sound};
 ghost use Rattle.desk.specs.Desk.{judged_of};
@@ -13,7 +15,7 @@ use story::Event;
 use table::table::{Payout, Table};
 
 // The table and the notes after a block, and the pen.
-#[derive(Drop)]
+#[derive(Clone, Copy)]
 pub struct Reported {
     pub table: Table,
     pub notes: Notes,
@@ -21,7 +23,7 @@ pub struct Reported {
 }
 
 // A block's five numbers.
-#[derive(Drop)]
+#[derive(Clone, Copy)]
 struct Raw {
     n: u32,
     kind: u32,

@@ -9,7 +9,7 @@ use crate::reading::read_numbers;
 use laws::both;
 
 // How far a lent buffer is filled by what is kept: its bytes, its LFs, and the bytes of the line that is not ended.
-#[derive(Drop)]
+#[derive(Clone, Copy)]
 pub struct Fill {
     pub count: usize,
     pub lines: usize,
@@ -52,7 +52,7 @@ fn keep(buf: &mut [u8], m: Fill, b: u8) -> Fill
     m
 }
 
-#[derive(Drop)]
+#[derive(Clone, Copy)]
 struct Progress {
     fill: Fill,
     used: usize,
@@ -79,7 +79,7 @@ fn gather(buf: &mut [u8], m: Fill, part: &[u8]) -> Progress
 }
 
 // What is kept after some bytes, how many were used up and how many written.
-#[derive(Drop)]
+#[derive(Clone, Copy)]
 pub struct Fed {
     pub fill: Fill,
     pub used: usize,

@@ -10,7 +10,7 @@ use text::line::{line_end, number_of};
 use text::sheet::{is_value, value_in};
 
 // The letters of a line's key, and how many they are.
-#[derive(Drop)]
+#[derive(Clone, Copy)]
 struct Key {
     bytes: [u8; 7],
     letters: usize,
@@ -48,7 +48,7 @@ fn key_at(k: usize) -> Key
 }
 
 // A line: whether its form is good, its number, and where the next line starts.
-#[derive(Drop)]
+#[derive(Clone, Copy)]
 struct Line {
     good: bool,
     value: u32,
@@ -83,7 +83,7 @@ fn read_line(block: &[u8], at: usize, k: usize) -> Line
 }
 
 // The numbers of a block, whether the form of every line is good, and how many bytes the lines use up.
-#[derive(Drop)]
+#[derive(Clone, Copy)]
 pub struct Sixteen {
     pub good: bool,
     pub numbers: [u32; 16],

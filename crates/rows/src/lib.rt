@@ -1,19 +1,21 @@
 // The dealer's tray as a lent slice of row structs whose counts are lowered on acceptance. What takes the rows lent, or lends them, is a walk by hand and
 // only loops and calls; the work on one row, on the columns and on the answer is covered functions that take structs by value.
+#![tactic(auto)]
+
 ghost use Rattle.std.specs.Prelude.{◌≡◌, ◌++◌, ◌≤◌, length, take, drop};
 ghost use Rattle.rows.specs.Rows.{judged_rows, rows_after, proposing_rows, list_of};
 ghost use Rattle.rows.specs.Columns.{no_columns, with_row, settled_of, proposed_code, proposed_list, recount};
 
 pub const ROWS: usize = 16;
 
-#[derive(Drop)]
+#[derive(Clone, Copy)]
 pub struct Row {
     pub worth: u32,
     pub count: u32,
 }
 
 // The rows' worths and counts, as the checker and the proposer over two number slices take them. Of rows past the sixteenth nothing is kept: they are too many.
-#[derive(Drop)]
+#[derive(Clone, Copy)]
 pub struct Columns {
     pub worths: [u32; 16],
     pub counts: [u32; 16],
@@ -41,7 +43,7 @@ fn with_row(c: Columns, r: Row, i: usize) -> Columns
 }
 
 // The checker's answer, and the counts after it.
-#[derive(Drop)]
+#[derive(Clone, Copy)]
 pub struct Answer {
     pub counts: [u32; 16],
     pub code: u32,
@@ -119,7 +121,7 @@ pub fn propose(rows: &[Row], paid: &[u32], list: &mut [u32]) -> u32
 }
 
 // A tray's rows after an answer, and the answer.
-#[derive(Drop)]
+#[derive(Clone, Copy)]
 pub struct Payment {
     pub rows: [Row; 16],
     pub code: u32,

@@ -1,5 +1,7 @@
 // Request No. 7: who holds the royal flush that wins the pool. "A royal flush on five board cards in which two hole cards are needed, held by a live
 // seat with all cards entered": two of the hole cards with three of the board. It is the same five cards in either deck.
+#![tactic(auto)]
+
 ghost use Rattle.std.specs.Prelude.{◌≡◌, true, [], ◌∷◌, ◌++◌, map, take};
 ghost use Rattle.paper.specs.Paper.{is_game};
 ghost use Rattle.cards.specs.Cards.{one_suit};

@@ -1,5 +1,7 @@
 // The screen: answers on standard input, and a picture of each for a person on standard output, as it comes. With the argument --plain, or where the
 // output is no terminal, without colour.
+#![tactic(auto)]
+
 ghost use Rattle.std.specs.Prelude.{◌≡◌, false, ◌≤◌, ◌<◌, length};
 ghost use Rattle.picture.specs.Screen.{Held, line_room, drawn_most};
 ghost use Rattle.picture.specs.Parts.{DrawnTo};
@@ -9,7 +11,7 @@ use libc::{STDIN_FILENO, STDOUT_FILENO};
 use output::ahead;
 use picture::{CLOSE_MOST, LINE_ROOM, Screen, close, draw_on, start};
 
-#[derive(Drop)]
+#[derive(Clone, Copy)]
 struct Shown {
     screen: Screen,
     from: usize,
@@ -41,7 +43,7 @@ fn show_one(
 }
 
 // The screen after some input, whether reading or writing failed, and whether to go on.
-#[derive(Drop)]
+#[derive(Clone, Copy)]
 struct Lap {
     screen: Screen,
     failed: bool,

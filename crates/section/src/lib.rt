@@ -1,4 +1,6 @@
 // A hand's section: its heading and who is dealt in, and when it is settled, or the log ends, the picture of its chips, its tables and what it paid and why.
+#![tactic(auto)]
+
 use captions::put_seats;
 use chart::put_chart;
 use columns::{in_mask, wins};
@@ -8,7 +10,7 @@ use spots::Chips;
 
 // A sitting in a hand: its number, its stack before, what it put in by round and goes back to it, how its hand ended (0 live, 1 folded, 2 dead), whether it is still
 // there and who sits there now; its cards; where it is looked at, its best hand and the number of that; what it is paid.
-#[derive(Drop)]
+#[derive(Clone, Copy)]
 pub struct Part {
     pub sitting: u32,
     pub before: u32,
@@ -27,7 +29,7 @@ pub struct Part {
 }
 
 // A hand: its chips, its sittings by seat, their scores; and, where it is settled, fee, drop and what nobody claims.
-#[derive(Drop)]
+#[derive(Clone, Copy)]
 pub struct Hand {
     pub chips: Chips,
     pub parts: [Part; 10],

@@ -16,7 +16,7 @@ use table::take::new_table;
 use text::sheet::SheetRead;
 
 // Whether the sheet was read, whether it is bad, the table, what is kept of unfinished lines, and what was told.
-#[derive(Drop)]
+#[derive(Clone, Copy)]
 pub struct Seen {
     pub opened: bool,
     pub shut: bool,
@@ -26,7 +26,7 @@ pub struct Seen {
 }
 
 // How much of a part was used up, and whether something new is known: a sheet or a block has ended in it.
-#[derive(Drop)]
+#[derive(Clone, Copy)]
 pub struct Fed {
     pub seen: Seen,
     pub used: usize,

@@ -9,7 +9,7 @@ use table::table::{Board, Payout};
 
 // The number and the code of the last entry; the board that is shown, and what was paid, until the next hand opens; and for each seat whether its hand was killed
 // in this hand.
-#[derive(Drop)]
+#[derive(Clone, Copy)]
 pub struct Told {
     pub n: u32,
     pub code: u8,
@@ -19,7 +19,7 @@ pub struct Told {
 }
 
 // A block's kind by its place in the table of kinds, and its seat; 12 where it is none.
-#[derive(Drop)]
+#[derive(Clone, Copy)]
 pub struct Act {
     pub kind: u32,
     pub seat: u32,

@@ -1,5 +1,7 @@
 // Request No. 7: one block at a table that shares a jackpot pool, with the pool as a number: judged as at any table, its drop into the pool, and answered with
 // the `jackpot` line. The cage pays what is won: no stack moves by it, and what the table does is what it would do with any other pool.
+#![tactic(auto)]
+
 ghost use Rattle.std.specs.Prelude.{◌≡◌, ◌≤◌, ◌<◌, ◌^◌};
 ghost use Rattle.writing.specs.AnswerSheet.{sheet_after, written_of};
 ghost use Rattle.answers.specs.Answer.{SmallShown};
@@ -24,7 +26,7 @@ pub const LONGEST: usize = answers::LONGEST_SHARED;
 
 // What the answer to a block says to the caller: whether there was a block, its code, the table and the pool after it, what of its drop went to the house, and
 // how many bytes were written. After a refusal, and after 12, the table and the pool are those before.
-#[derive(Drop)]
+#[derive(Clone, Copy)]
 pub struct SharedAnswer {
     pub block: bool,
     pub code: u8,

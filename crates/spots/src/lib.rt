@@ -1,4 +1,6 @@
 // What is drawn of a hand's chips, and where things stand in the picture, in tenths of a pixel: small total sums that always fit.
+#![tactic(auto)]
+
 ghost use Rattle.std.specs.Prelude.{◌≡◌, ◌-◌, get_or};
 ghost use Rattle.spots.specs.Spots.{no_pot, pot_at, reach_of_first, number_of_pot, column_x, right_of, next_column, y_at, apart_at, label_y, more_by};
 
@@ -7,7 +9,7 @@ use pots::{Pot, Pots};
 
 // What is drawn of a hand: its number, how many were dealt in, what each put in, its sitting (0 where nobody was dealt in), who is live and who is still there,
 // the pots, and what goes back.
-#[derive(Drop)]
+#[derive(Clone, Copy)]
 pub struct Chips {
     pub hand: u64,
     pub columns: u32,

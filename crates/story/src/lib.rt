@@ -1,10 +1,12 @@
 // What happens at the table, a line for each entry: what a taken one did, in numbers of the table before and after it; the words of a refused one, folded away.
+#![tactic(auto)]
+
 use page::pen::{Pen, fill, put, put_if, say};
 use page::words::{put_card, put_kind, put_refusal};
 
 // An entry with its numbers, and what it did: the sitting of its seat and that sitting's stack, before and after; what it had put in before; whether it was in the
 // open hand; and the mark after it.
-#[derive(Drop)]
+#[derive(Clone, Copy)]
 pub struct Event {
     pub n: u32,
     pub kind: u32,

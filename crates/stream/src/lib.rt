@@ -1,4 +1,6 @@
 // A log that comes in parts: the unfinished sheet or block is kept, each line cut after 33 bytes, and answered at its last LF.
+#![tactic(auto)]
+
 ghost use Rattle.std.specs.Prelude.{◌≡◌, true, false, ◌+◌, ◌≤◌, ◌<◌, length, eqb};
 ghost use Rattle.blocks.specs.Front.{block_ended};
 ghost use Rattle.writing.specs.AnswerSheet.{over, Wrote};
@@ -22,7 +24,7 @@ use text::sheet::SheetRead;
 pub mod place;
 
 // The clerk between two bytes: whether the sheet was read, whether it was bad, the table, and what is kept.
-#[derive(Drop)]
+#[derive(Clone, Copy)]
 pub struct Clerk {
     pub opened: bool,
     pub shut: bool,
@@ -32,7 +34,7 @@ pub struct Clerk {
 
 // The clerk after a part of the log, how many of its bytes are used up, how many bytes are written, and whether a block had no room for its answer: it is used
 // up and not taken (code 12).
-#[derive(Drop)]
+#[derive(Clone, Copy)]
 pub struct Fed {
     pub clerk: Clerk,
     pub used: usize,
@@ -41,7 +43,7 @@ pub struct Fed {
 }
 
 // Whole lines: the clerk after them, with nothing kept.
-#[derive(Drop)]
+#[derive(Clone, Copy)]
 pub struct ClerkAfter {
     pub clerk: Clerk,
     pub written: usize,
@@ -292,7 +294,7 @@ pub fn start() -> Clerk
 }
 
 // What the close has written, and whether the last answer had no room (code 12).
-#[derive(Drop)]
+#[derive(Clone, Copy)]
 pub struct Closed {
     pub written: usize,
     pub short: bool,

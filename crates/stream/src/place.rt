@@ -12,7 +12,7 @@ use paper::or_else;
 use table::table::Table;
 
 // What was answered where it lies: the table after it, the bytes used up and the bytes written.
-#[derive(Drop)]
+#[derive(Clone, Copy)]
 pub struct RanInPlace {
     pub table: Table,
     pub used: usize,

@@ -6,7 +6,7 @@ use chairs::Chair;
 use paper::Sheet;
 
 // How the open hand stands; without one, the puck seat of the last.
-#[derive(Drop)]
+#[derive(Clone, Copy)]
 pub struct Play {
     pub opened: bool,
     pub puck: u32,
@@ -16,13 +16,13 @@ pub struct Play {
 }
 
 // The cards on the board: the first `count` of `cards`.
-#[derive(Drop)]
+#[derive(Clone, Copy)]
 pub struct Board {
     pub count: u8,
     pub cards: [u8; 5],
 }
 
-#[derive(Drop)]
+#[derive(Clone, Copy)]
 pub struct Table {
     pub sheet: Sheet,
     pub taken: u32,
@@ -33,7 +33,7 @@ pub struct Table {
 }
 
 // What a settled hand pays: to the sitting dealt in at each seat, with its number; all 0 unless a settle was taken.
-#[derive(Drop)]
+#[derive(Clone, Copy)]
 pub struct Payout {
     pub settled: bool,
     pub fee: u32,
@@ -43,7 +43,7 @@ pub struct Payout {
     pub unclaimed: u32,
 }
 
-#[derive(Drop)]
+#[derive(Clone, Copy)]
 pub struct Taken {
     pub code: u8,
     pub table: Table,

@@ -19,7 +19,7 @@ pub const GIVE: u32 = 6;
 const OTHER: u32 = 7;
 
 // The key's place among those that are looked at; whether the number behind the key is of good form, and the number.
-#[derive(Drop)]
+#[derive(Clone, Copy)]
 pub struct Line {
     pub kind: u32,
     pub good: bool,

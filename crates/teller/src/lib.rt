@@ -1,4 +1,6 @@
 // The teller of the program `pay`: what a line says, and what is kept between two lines. The texts that it writes are `payments`'.
+#![tactic(auto)]
+
 mod keys;
 mod state;
 

@@ -21,7 +21,7 @@ pub const PROPOSAL_DUE: u32 = 4;
 pub const FAULT: u32 = 5;
 
 // The tray: how many rows it has, how many were read, the worth that waits for its count, and the rows.
-#[derive(Drop)]
+#[derive(Clone, Copy)]
 pub struct Tray {
     pub rows: usize,
     pub read: usize,
@@ -30,7 +30,7 @@ pub struct Tray {
 }
 
 // The sittings listed since the last `unclaimed`, at most eleven counted; whether one waits for its `paid`; whether something was wrong.
-#[derive(Drop)]
+#[derive(Clone, Copy)]
 pub struct Listed {
     pub count: usize,
     pub half: bool,
@@ -40,7 +40,7 @@ pub struct Listed {
 }
 
 // What is due, how many `give` lines were read, the tray and the listed sittings.
-#[derive(Drop)]
+#[derive(Clone, Copy)]
 pub struct Teller {
     pub due: u32,
     pub given: usize,

@@ -7,7 +7,7 @@ use crate::line::{after_lines, read_key_number};
 use paper::{Sheet, is_sheet};
 
 // A sheet, or that one of its lines is missing, malformed or out of its range: code 11.
-#[derive(Drop)]
+#[derive(Clone, Copy)]
 pub enum SheetRead {
     Read(Sheet),
     Bad,
@@ -20,7 +20,7 @@ pub const LINES: usize = 9;
 pub const ROOM: usize = LINES * 34;
 
 // The key of a line of the sheet, and how many letters it has.
-#[derive(Drop)]
+#[derive(Clone, Copy)]
 pub struct Key {
     pub bytes: [u8; 5],
     pub letters: usize,

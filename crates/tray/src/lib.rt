@@ -1,5 +1,7 @@
 // Paying in real chips: a dealer's tray as two number slices, the worths and the counts of its rows, and the checker of a proposal, which lowers the counts
 // where it accepts. A proposal is one list, sitting by sitting, and for each sitting row by row.
+#![tactic(auto)]
+
 ghost use Rattle.std.specs.Prelude.{◌≡◌, ℕ, ◌-◌, ◌*◌, ◌≤◌, eqb, length, get_or};
 ghost use Rattle.tray.specs.Counting.{all_to};
 ghost use Rattle.tray.specs.Proposal.{row_fits, fits, given, worth_given, taken_from, pays_all, holds_all, judged, lowered, counts_after};

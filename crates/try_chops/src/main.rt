@@ -1,6 +1,8 @@
 // A log in every cut into two and into three parts, empty ones too, at every room for an answer from 0 to the log's longest answer: what the library's start,
 // feed and close answer, and the clerk before the close, are held to those of the whole log fed at once with the same room.
 // Reads a log on standard input, and says how many cuts and rooms were tried, how many of them together came out alike, and the first place that did not.
+#![tactic(auto)]
+
 mod served;
 
 ghost use Rattle.std.specs.Prelude.{◌≤◌, length};
@@ -15,7 +17,7 @@ use stream::Clerk;
 use text::sheet::ROOM;
 
 // The whole log with one room, beside its clerk's bytes: how many bytes the clerk keeps before the close, and the trace with it.
-#[derive(Drop)]
+#[derive(Clone, Copy)]
 struct Whole {
     kept: usize,
     at: usize,
@@ -23,7 +25,7 @@ struct Whole {
 }
 
 // Where a log is cut, with how much room.
-#[derive(Drop)]
+#[derive(Clone, Copy)]
 struct Place {
     room: usize,
     first: usize,
@@ -31,7 +33,7 @@ struct Place {
 }
 
 // How many were tried, how many came out alike, and the first that did not.
-#[derive(Drop)]
+#[derive(Clone, Copy)]
 struct Tally {
     cuts: u64,
     rooms: u64,

@@ -8,7 +8,7 @@ use paper::NO_ROOM;
 use stream::{Clerk, close, feed, start};
 
 // The clerk after some calls, how far the trace is filled, and whether it has had room for all of them.
-#[derive(Drop)]
+#[derive(Clone, Copy)]
 pub struct Heard {
     pub clerk: Clerk,
     pub at: usize,
@@ -16,7 +16,7 @@ pub struct Heard {
 }
 
 // After one call: how much of its part is used up, too.
-#[derive(Drop)]
+#[derive(Clone, Copy)]
 struct Call {
     clerk: Clerk,
     used: usize,
@@ -158,7 +158,7 @@ pub fn serve(
 }
 
 // The end of the log: how far the trace is filled then, and whether it has had room.
-#[derive(Drop)]
+#[derive(Clone, Copy)]
 pub struct Ended {
     pub at: usize,
     pub ok: bool,

@@ -6,7 +6,7 @@ ghost use Rattle.try_pots.specs.MadeHands.{number_for, column_of, seats_of, rule
 use laws::{both, chosen};
 use pots::Commission;
 
-#[derive(Drop)]
+#[derive(Clone, Copy)]
 pub struct Hand {
     pub seats: usize,
     pub puck: usize,

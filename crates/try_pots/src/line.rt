@@ -5,7 +5,7 @@ ghost use Rattle.try_pots.specs.Numbers.{no_scan, begun_of, spoilt_of, digit_to,
 use laws::{both, either};
 
 // A line so far: how many numbers are done, the number that is not, whether that has a digit, and whether the line is no line of numbers.
-#[derive(Drop)]
+#[derive(Clone, Copy)]
 pub struct Scan {
     pub count: usize,
     pub value: u32,

@@ -73,7 +73,7 @@ fn put_pots(out: &mut [u8], at: usize, p: Pots) -> usize
 }
 
 // What the crate `pots` says of a hand.
-#[derive(Drop)]
+#[derive(Clone, Copy)]
 struct Told {
     pots: Pots,
     back: u32,

@@ -1,5 +1,7 @@
 // Pots of made-up hands, for the comparison with the second program (tests/pots): a hand a line on standard input, an answer a line on standard output.
 // A hand is numbers with blanks between them, `seats puck rate cap step board drop`, and then for each seat its total, whether it is live, its strength, whether it is there.
+#![tactic(auto)]
+
 mod hand;
 mod line;
 mod lines;
@@ -15,7 +17,7 @@ const LINE: usize = 600;
 
 const ENOUGH: usize = 64000;
 
-#[derive(Drop)]
+#[derive(Clone, Copy)]
 struct ServedTo {
     scan: Scan,
     at: usize,
@@ -56,7 +58,7 @@ fn serve(s: Scan, nums: &mut [u32], part: &[u8]) -> Scan {
     scan
 }
 
-#[derive(Drop)]
+#[derive(Clone, Copy)]
 struct Lap {
     scan: Scan,
     more: bool,

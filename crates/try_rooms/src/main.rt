@@ -1,6 +1,8 @@
 // Every answer of a log into every sheet that is too short for it: code 12, and no byte changes; and into the one that is just long enough. How long that is
 // is asked beforehand.
 // Reads a log of at most 65,536 bytes on standard input, and says how many blocks it has, how many rooms were tried and how many went wrong.
+#![tactic(auto)]
+
 ghost use Rattle.table.specs.Take.{Sound};
 
 use answers::LONGEST;
@@ -15,7 +17,7 @@ use text::sheet::{SheetRead, after_sheet};
 // What stands in a sheet before anything is written there: no answer has this byte.
 const BLANK: u8 = 170;
 
-#[derive(Drop)]
+#[derive(Clone, Copy)]
 struct Tally {
     blocks: u64,
     rooms: u64,
@@ -92,7 +94,7 @@ fn no(b: bool) -> u64 {
     if b { 0 } else { 1 }
 }
 
-#[derive(Drop)]
+#[derive(Clone, Copy)]
 struct Tried {
     table: Table,
     tally: Tally,

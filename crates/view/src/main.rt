@@ -1,5 +1,7 @@
 // The dealer's table: a log on standard input, and the table as it stands after each entry on standard output, as it comes. With --standing one picture that is
 // drawn again in its place, its lamp amber and a refusal red; with --plain before it, without colours.
+#![tactic(auto)]
+
 ghost use Rattle.std.specs.Prelude.{◌≤◌, ◌<◌, length};
 ghost use Rattle.lines.specs.Kept.{kept_most};
 ghost use Rattle.seen.specs.Seen.{Held};
@@ -11,14 +13,14 @@ use seen::feed::{Seen, close, ends_open, feed, start};
 use text::sheet::ROOM;
 
 // How the pictures are drawn.
-#[derive(Drop)]
+#[derive(Clone, Copy)]
 struct Form {
     standing: bool,
     colour: bool,
 }
 
 // What is seen after some input, whether reading or writing failed, and whether to go on.
-#[derive(Drop)]
+#[derive(Clone, Copy)]
 struct Lap {
     seen: Seen,
     failed: bool,
@@ -26,7 +28,7 @@ struct Lap {
 }
 
 // What is seen after some bytes of a part, how far they go, and whether it is worth a picture.
-#[derive(Drop)]
+#[derive(Clone, Copy)]
 struct Heard {
     seen: Seen,
     from: usize,

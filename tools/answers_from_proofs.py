@@ -1,0 +1,252 @@
+#!/usr/bin/env python3
+"""Turns the Proof.antt of a crate's functions, by which older Rattle walked the goals in order, into Invariants.antt and Answers.antt.
+
+usage: tools/answers_from_proofs.py NAMES CRATE [FUNCTION..]
+
+NAMES is a names.json of `rt check --generated NAMES --old-names`. A FUNCTION is the folder of its proof below proofs/, as settle/count; none: all.
+A Proof.antt that walks the code itself (with no tie.close) stays. What is turned is checked by nobody here: rt check decides.
+"""
+import json
+import os
+import re
+import sys
+
+SEP = r"\s(){}\[\];,@\"«»"
+CHAIN = re.compile(rf"(?<![^{SEP}])([^{SEP}.]+)((?:\.[^{SEP}.]+)+|)(?![^{SEP}])")
+HEAD = re.compile(r"(?:(?:abbrev|pub|unfoldable)\s+)*(\S+)")
+
+
+def norm(word):
+    return word.replace("_", "-").lower()
+
+
+class Function:
+    def __init__(self, names):
+        self.parent, self.step, self.old_step = {}, {}, {}
+        self.clause, self.arm = {}, {}
+        clauses = names.get("clauses") or []
+        arms = names.get("arms") or []
+        for k, (place, above, step, _callee, _rest) in enumerate(names["places"]):
+            key = norm(place)
+            self.parent[key] = norm(above) if above else None
+            self.old_step[key], self.step[key] = norm(step[0]), step[1]
+            self.clause[key] = clauses[k]["fields"] if k < len(clauses) and clauses[k] else None
+            self.arm[key] = arms[k] if k < len(arms) else None
+        self.place_name = {norm(p[0]): n for p, n in zip(names["places"], names["places_by_name"])}
+        self.goal, self.at = {}, {}
+        for (old, new), (place, _) in zip(names["needs"], names["asked_at"]):
+            self.goal[norm(old)] = new
+            self.at[norm(old)] = norm(place)
+        self.settled = set(names.get("settled") or [])
+        self.loops = {norm(old): (new, params) for (old, new), params in names["loops"]}
+        self.changed = {norm(l[0][0]): c for l, c in zip(names["loops"], names["changed"])}
+        self.args = {}
+        for old, new in names["args"]:
+            m, n = re.fullmatch(r"\.args \.(\S+)", old), re.fullmatch(r"\.args \.(\S+)", new)
+            if m and n:
+                self.args[m[1]] = n[1]
+
+    # what a chain of fields from a place says now
+    def turned(self, place, parts):
+        while parts and parts[0] == "before" and place:
+            place, parts = self.parent.get(place), parts[1:]
+        if not parts or place is None:
+            return place, parts
+        head = norm(parts[0])
+        arm = self.arm.get(place)
+        if arm:
+            best = None
+            for field, step, path in arm[2]:
+                if norm(step) == head and [norm(x) for x in path] == [norm(x) for x in parts[1:1 + len(path)]]:
+                    if best is None or len(path) > len(best[1]):
+                        best = (field, path)
+            if best and not (best[0].endswith("-own")):
+                return place, [arm[0], best[0]] + parts[1 + len(best[1]):]
+        if head == "args" and len(parts) > 1:
+            return place, ["args", self.args.get(parts[1], parts[1])] + parts[2:]
+        if head == self.old_step.get(place) and self.step[place]:
+            new = [self.step[place]] + parts[1:]
+            fields = self.clause.get(place)
+            if fields and len(new) > 1 and new[1] == "ensures":
+                k, rest = 0, new[2:]
+                while k < len(fields) - 1 and rest and rest[0] == "1":
+                    k, rest = k + 1, rest[1:]
+                if k < len(fields) - 1 and rest and rest[0] == "0":
+                    rest = rest[1:]
+                    new = [new[0], "ensures", fields[k]] + rest
+                elif k == len(fields) - 1:
+                    new = [new[0], "ensures", fields[k]] + rest
+            return place, new
+        return place, parts
+
+    def body(self, text, place, context="c"):
+        """The text of an answer, with what it cites of the context c under today's names."""
+        scope = {context: place}
+
+        def turn(m):
+            head, parts = m[1], [p for p in m[2].split(".") if p]
+            if head not in scope:
+                return m[0]
+            at, new = self.turned(scope[head], parts)
+            before = text[max(0, m.start() - 60):m.start()]
+            bound = re.search(r"let (\S+)(?: : [^=\n]+)? = $", before)
+            if not new and bound and re.match(r"\s+in\b", text[m.end():m.end() + 8]):
+                scope[bound[1]] = at
+            if not new and parts and "before" in parts:
+                return head
+            # an argument's record under a name of its own
+            return ".".join([head] + new)
+
+        return CHAIN.sub(turn, text)
+
+
+def blocks(text):
+    """The file's declarations, each with the comments above it."""
+    out, comments, current = [], [], []
+    for line in text.split("\n"):
+        if line.startswith("--") or not line.strip():
+            if current and (line.startswith("--") or not line.strip()):
+                pass
+        if re.match(r"[^\s)\]]", line) and not line.startswith("--"):
+            name = HEAD.match(line)[1]
+            word = line.split()[0]
+            same = current and (word == "unfolding" or (current[0][0] == name and ":" not in line.split()[1:2]) or (word not in ("use", "module", "abbrev", "pub", "unfoldable") and current[0][0] == name))
+            if same:
+                current[1].append(line)
+                continue
+            current = (name, [line])
+            out.append([name, comments, current[1]])
+            current = (current, )
+            current = (out[-1], )
+            current = ((name,), out[-1][2])
+            comments = []
+        elif line.startswith("--"):
+            comments.append(line)
+        elif current:
+            current[1].append(line)
+    return out
+
+
+def loop_vars(fn, key, heads):
+    """For the parameters of an invariant in an old file: what each is called in a turn l."""
+    new, params = fn.loops[key]
+    changed = fn.changed[key]
+    table, seen = {}, {}
+    bare = [h.rstrip("₀") for h in heads]
+    for h, b in zip(heads, bare):
+        if h.endswith("₀"):
+            table[h] = f"l.initial.{b}"
+        else:
+            table[h] = f"l.{b}"
+    return new, table
+
+
+def main(argv):
+    names_file, crate, *only = argv
+    every = json.load(open(names_file))
+    top = f"crates/{crate}/proofs"
+    done = 0
+    for folder, dirs, files in sorted(os.walk(top)):
+        if "Proof.antt" not in files:
+            continue
+        f = folder[len(top) + 1:]
+        if only and f not in only:
+            continue
+        text = open(f"{folder}/Proof.antt", encoding="utf-8").read()
+        if "tie.close" not in text:
+            print("walk:", f)
+            continue
+        key = f"Rattle-{crate}-proofs.{f.replace('/', '.')}.Lts"
+        if key not in every:
+            print("no names:", f)
+            continue
+        fn = Function(every[key])
+        head, uses, answers, invariants, helpers = [], [], [], [], []
+        lines = text.split("\n")
+        for line in lines:
+            if line.startswith("--") and not uses:
+                head.append(line)
+            elif re.match(r"use ", line):
+                uses.append(line)
+        rest = "\n".join(l for l in lines if not l.startswith("use "))
+        tie = next((re.sub(r"^use (\S+)\.Tie as tie$", r"\1", u) for u in uses if u.endswith(".Tie as tie")), None)
+        uses = [u for u in uses if not re.search(r"\.Tie as tie$|\.Statement\.\{statement\}$", u)]
+        for name, comments, body in blocks(rest):
+            comments = [c for c in comments if c not in head]
+            code = "\n".join(body).rstrip()
+            m = re.match(rf"(?:abbrev |pub )*{re.escape(name)} : tie\.(\S+)", code)
+            if m and m[1].startswith("Need-"):
+                old = norm(m[1][5:])
+                if old not in fn.goal:
+                    print("no goal:", f, m[1])
+                    continue
+                new = fn.goal[old]
+                sig_end = code.index("\n") if "\n" in code else len(code)
+                later = code[sig_end + 1:]
+                # the clause: name c κs = body
+                later = re.sub(rf"(?m)^{re.escape(name)} (\S+)((?: \S+)*?) κs( |$)", rf"{name} \1\2\3", later)
+                later = re.sub(rf"(?m)^{re.escape(name)}(?= )", new, later)
+                ctx = re.search(rf"(?m)^{re.escape(new)} (\S+)", later)
+                later = fn.body(later, fn.at[old], ctx[1] if ctx else "c")
+                answers.append((new, comments, f"pub {new} : goal.{new}\n{later}"))
+            elif m and (m[1].startswith("invariant") or m[1].startswith("decreases") or m[1].startswith("measure")):
+                kind, _, loop = m[1].partition("-")
+                clause = re.search(rf"(?m)^{re.escape(name)} ([^=]*?) =", code)
+                heads = clause[1].split() if clause else []
+                if norm(loop) in fn.loops:
+                    new, table = loop_vars(fn, norm(loop), heads)
+                    label = f"{kind}-{new}"
+                    var = "l"
+                else:
+                    label, table, var = m[1], {h: f"l.{h}" for h in heads}, "l"
+                said = code[clause.end():] if clause else ""
+                said = CHAIN.sub(lambda k: table[k[1]] + k[2] if k[1] in table else k[0], said)
+                unfolding = re.search(r"(?m)^unfolding .*$", code)
+                invariants.append((label, comments, f"abbrev pub {label} : goal.{label}\n" + (unfolding[0] + "\n" if unfolding else "") + f"{label} {var} ={said}"))
+            elif "tie.close" in code:
+                continue
+            else:
+                if "tie." in code:
+                    pm = re.search(r"\((\S+) : tie\.(\S+?)(?: [^)]*)?\)", code)
+                    if pm:
+                        place = norm(pm[2])
+                        code = fn.body(code, place, pm[1])
+                        code = re.sub(r"\((\S+) : tie\.(\S+?)(?: invariant[^)]*)?\)", lambda k: f"({k[1]} : goal.{fn.place_name.get(norm(k[2]), k[2])})", code)
+                        print("helper over a place:", f, name, pm[2])
+                helpers.append((name, comments, code))
+        inv_text = "\n".join(c for _, _, c in invariants)
+        mine = set()
+        more = True
+        while more:
+            more = False
+            for n, _, c in helpers:
+                if n not in mine and re.search(rf"(?<![^{SEP}]){re.escape(n)}(?![^{SEP}.])", inv_text):
+                    mine.add(n)
+                    inv_text += "\n" + c
+                    more = True
+
+        def put(where, what, lead):
+            with open(where, "w", encoding="utf-8") as out:
+                out.write("\n".join(lead) + "\n\n")
+                out.write("\n\n".join("\n".join(comments + [code.rstrip()]) for _, comments, code in what) + "\n")
+
+        assert tie, f
+        if invariants:
+            given = [h for h in helpers if h[0] in mine]
+            given = [(n, cm, c if re.match(r"(abbrev |unfoldable )*pub |module", c) else "pub " + c if not c.startswith(("abbrev ", "unfoldable ")) else c.replace(" ", " pub ", 1)) for n, cm, c in given]
+            put(f"{folder}/Invariants.antt", given + invariants, head + uses + [f"use {tie}.Given as goal"])
+        lead = head + uses + [f"use {tie}.Goals as goal"]
+        if mine:
+            lead.append(f"use {tie}.Invariants.{{{', '.join(n for n, _, _ in helpers if n in mine)}}}")
+        trivial = re.compile(r" = search rules$")
+        answers = [a for a in answers if not (trivial.search(a[2]) and a[2].count("\n") == 1)]
+        answers = [a for a in answers if a[0] not in fn.settled]
+        if answers:
+            put(f"{folder}/Answers.antt", [h for h in helpers if h[0] not in mine] + answers, lead)
+        os.remove(f"{folder}/Proof.antt")
+        done += 1
+    print(done, "functions turned")
+
+
+if __name__ == "__main__":
+    main(sys.argv[1:])
