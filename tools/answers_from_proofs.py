@@ -22,7 +22,7 @@ def norm(word):
 
 class Function:
     def __init__(self, names):
-        self.parent, self.step, self.old_step = {}, {}, {}
+        self.parent, self.step, self.old_step, self.cited = {}, {}, {}, set()
         self.clause, self.arm = {}, {}
         clauses = names.get("clauses") or []
         arms = names.get("arms") or []
@@ -79,22 +79,31 @@ class Function:
             return place, new
         return place, parts
 
-    def body(self, text, place, context="c"):
-        """The text of an answer, with what it cites of the context c under today's names."""
-        scope = {context: place}
+    def body(self, text, place, context="c", goal=None):
+        """The text of an answer, with what it cites of the context c under today's names. A whole context that is handed on is the record of
+        its place: behind a goal `(goal.at.GOAL c).PLACE`, in a lemma over a place what the field `before` has."""
+        scope, bags = {context: place}, set()
 
         def turn(m):
             head, parts = m[1], [p for p in m[2].split(".") if p]
+            if head in bags and parts and parts[0] in self.args:
+                return ".".join([head, self.args[parts[0]]] + parts[1:])
             if head not in scope:
                 return m[0]
             at, new = self.turned(scope[head], parts)
             before = text[max(0, m.start() - 60):m.start()]
             bound = re.search(r"let (\S+)(?: : [^=\n]+)? = $", before)
-            if not new and bound and re.match(r"\s+in\b", text[m.end():m.end() + 8]):
-                scope[bound[1]] = at
-            if not new and parts and "before" in parts:
-                return head
-            # an argument's record under a name of its own
+            if not new:
+                if bound and re.match(r"\s+in\b", text[m.end():m.end() + 8]):
+                    scope[bound[1]] = at
+                    return head if goal else m[0]
+                # the clause's own variable
+                if not parts and re.search(r"(?:^|\n)\S+ $", before) and text[m.end():m.end() + 1] in " =" and head == context:
+                    return m[0]
+                self.cited.add(self.place_name.get(at, at))
+                return f"(goal.at.{goal} {context}).{self.place_name.get(at, at)}" if goal else m[0]
+            if new == ["args"] and bound:
+                bags.add(bound[1])
             return ".".join([head] + new)
 
         return CHAIN.sub(turn, text)
@@ -176,7 +185,7 @@ def main(argv):
             code = "\n".join(body).rstrip()
             m = re.match(rf"(?:abbrev |pub )*{re.escape(name)} : tie\.(\S+)", code)
             if m and m[1].startswith("Need-"):
-                old = norm(m[1][5:])
+                old = re.sub(r"^(overflow|nonzero)-", "", norm(m[1][5:])) if norm(m[1][5:]) not in fn.goal else norm(m[1][5:])
                 if old not in fn.goal:
                     print("no goal:", f, m[1])
                     continue
@@ -187,7 +196,7 @@ def main(argv):
                 later = re.sub(rf"(?m)^{re.escape(name)} (\S+)((?: \S+)*?) κs( |$)", rf"{name} \1\2\3", later)
                 later = re.sub(rf"(?m)^{re.escape(name)}(?= )", new, later)
                 ctx = re.search(rf"(?m)^{re.escape(new)} (\S+)", later)
-                later = fn.body(later, fn.at[old], ctx[1] if ctx else "c")
+                later = fn.body(later, fn.at[old], ctx[1] if ctx else "c", new)
                 answers.append((new, comments, f"pub {new} : goal.{new}\n{later}"))
             elif m and (m[1].startswith("invariant") or m[1].startswith("decreases") or m[1].startswith("measure")):
                 kind, _, loop = m[1].partition("-")
@@ -211,8 +220,8 @@ def main(argv):
                     if pm:
                         place = norm(pm[2])
                         code = fn.body(code, place, pm[1])
-                        code = re.sub(r"\((\S+) : tie\.(\S+?)(?: invariant[^)]*)?\)", lambda k: f"({k[1]} : goal.{fn.place_name.get(norm(k[2]), k[2])})", code)
-                        print("helper over a place:", f, name, pm[2])
+                        code = re.sub(r"\((\S+) : tie\.(\S+?)(?: invariant[^)]*)?\)", lambda k: f"({k[1]} : {fn.place_name.get(norm(k[2]), k[2])})", code)
+                        fn.cited.add(fn.place_name.get(place, place))
                 helpers.append((name, comments, code))
         inv_text = "\n".join(c for _, _, c in invariants)
         mine = set()
@@ -235,7 +244,10 @@ def main(argv):
             given = [h for h in helpers if h[0] in mine]
             given = [(n, cm, c if re.match(r"(abbrev |unfoldable )*pub |module", c) else "pub " + c if not c.startswith(("abbrev ", "unfoldable ")) else c.replace(" ", " pub ", 1)) for n, cm, c in given]
             put(f"{folder}/Invariants.antt", given + invariants, head + uses + [f"use {tie}.Given as goal"])
-        lead = head + uses + [f"use {tie}.Goals as goal"]
+        lead = head + uses
+        if fn.cited:
+            lead.append(f"use {tie}.Goals.{{{', '.join(sorted(fn.cited))}}}")
+        lead.append(f"use {tie}.Goals as goal")
         if mine:
             lead.append(f"use {tie}.Invariants.{{{', '.join(n for n, _, _ in helpers if n in mine)}}}")
         trivial = re.compile(r" = search rules$")

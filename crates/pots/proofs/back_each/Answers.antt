@@ -1,0 +1,34 @@
+-- `back_each` meets its contract: each total less the top. The invariant: what is written and what is still to come are that of all.
+-- Assumes nothing.
+use Prim.Native.Nat.{◌+◌, ◌≤◌, ◌-◌}
+use mathlib.Core.Path.{◌≡◌, refl, sym, ap, ◌∙◌}
+use mathlib.Core.List.{◌∷◌, ◌++◌, map}
+use borrow.Author.Rules.{rules}
+use lib.ListN.{length, drop, take, length-set}
+use Rattle.pots.specs.Heights.{returned_of}
+use Rattle.pots.proofs.Filled.{top_is}
+use Rattle.laws.proofs.Places.{front_turn, front_done}
+use Rattle.laws.proofs.Sums.{map_same}
+use Rattle.pots.proofs.Returns.{returned_is}
+use Rattle.pots.proofs.back_each.Goals as goal
+
+pub loop-i-preserved : goal.loop-i-preserved
+loop-i-preserved c =
+    let l = c.loop-i in
+    let ts = c.args.totals in
+    let top = c.top_of-top.result in (
+      search rules,
+      length-set l.a l.i c.short_of.result ∙ l.invariant.1,
+      front_turn (map (λ t. t - top)) (map (λ t. t - top)) 0 l.a _ ts l.i c.short_of.result (search rules) (search rules)
+          (ap (λ k. k ∷ map (λ t. t - top) (drop (l.i + 1) ts)) (sym c.short_of.ensures)) l.invariant.2,
+    )
+
+pub returns : goal.returns
+returns c =
+    let l = c.loop-i in
+    let ts = c.args.totals in
+    let v = c.args.live in
+    let top = c.top_of-top.result in
+    let e = top_is ts c.live_totals.result v top c.live_totals.ensures c.top_of-top.ensures in
+    front_done (map (λ t. t - top)) l.a _ ts l.i (search rules) (search rules) refl l.invariant.2
+    ∙ map_same (λ t. t - top) (returned_of ts v) ts (λ t. ap (λ k. t - k) e ∙ sym (returned_is ts v t))

@@ -1,0 +1,19 @@
+-- `back_each` meets its contract: each total less the top. The invariant: what is written and what is still to come are that of all.
+-- Assumes nothing.
+use Prim.Native.Nat.{◌+◌, ◌≤◌, ◌-◌}
+use mathlib.Core.Path.{◌≡◌, refl, sym, ap, ◌∙◌}
+use mathlib.Core.List.{◌∷◌, ◌++◌, map}
+use borrow.Author.Rules.{rules}
+use lib.ListN.{length, drop, take, length-set}
+use Rattle.pots.specs.Heights.{returned_of}
+use Rattle.pots.proofs.Filled.{top_is}
+use Rattle.laws.proofs.Places.{front_turn, front_done}
+use Rattle.laws.proofs.Sums.{map_same}
+use Rattle.pots.proofs.Returns.{returned_is}
+use Rattle.pots.proofs.back_each.Given as goal
+
+abbrev pub invariant-loop-i : goal.invariant-loop-i
+invariant-loop-i l = (l.i ≤ 10) × (length l.a ≡ 10) × (take l.i l.a ++ map (λ t. t - l.top) (drop l.i l.totals) ≡ map (λ t. t - l.top) l.totals)
+
+abbrev pub decreases-loop-i : goal.decreases-loop-i
+decreases-loop-i l = 10 - l.i

@@ -1,0 +1,16 @@
+-- `live_totals` meets its contract. The invariant: what is written and the live totals still to come are those of all.
+-- Assumes nothing.
+use Prim.Native.Nat.{◌+◌, ◌≤◌, ◌-◌, ◌/◌}
+use mathlib.Core.Path.{◌≡◌, refl, sym, ap, ◌∙◌}
+use mathlib.Core.List.{◌∷◌, ◌++◌}
+use borrow.Author.Rules.{rules}
+use lib.ListN.{length, drop, length-set, take}
+use Rattle.laws.proofs.Places.{front_turn, front_done}
+use Rattle.pots.specs.Heights.{live_of}
+use Rattle.pots.proofs.live_totals.Given as goal
+
+abbrev pub invariant-loop-i : goal.invariant-loop-i
+invariant-loop-i l = (l.i ≤ 10) × (length l.a ≡ 10) × (take l.i l.a ++ live_of (drop l.i l.totals) l.rest ≡ live_of l.totals l.live)
+
+abbrev pub decreases-loop-i : goal.decreases-loop-i
+decreases-loop-i l = 10 - l.i

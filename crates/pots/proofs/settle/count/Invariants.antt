@@ -1,0 +1,15 @@
+-- `count` meets its contract. The invariant: what is counted and the ones of the rest are those of the mask.
+-- Assumes nothing.
+use Prim.Native.Nat.{◌+◌, ◌≤◌, ◌-◌, ◌/◌}
+use mathlib.Core.Path.{◌≡◌, ap}
+use native.Mathlib.Omega.{arith}
+use borrow.Author.Rules.{rules}
+use Rattle.pots.specs.Settle.{ones}
+use Rattle.laws.proofs.Bits.{ones_step, ones_le, ones_none}
+use Rattle.pots.proofs.settle.count.Given as goal
+
+abbrev pub invariant-loop-i : goal.invariant-loop-i
+invariant-loop-i l = (l.i ≤ 10) × (l.n + ones (10 - l.i) l.rest ≡ ones 10 l.mask)
+
+abbrev pub decreases-loop-i : goal.decreases-loop-i
+decreases-loop-i l = 10 - l.i

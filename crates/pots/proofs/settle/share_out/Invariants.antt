@@ -1,0 +1,16 @@
+-- `share_out` meets its contract. The invariant: what is written and the shares still to come are those of all.
+-- Assumes nothing.
+use Prim.Native.Nat.{◌+◌, ◌≤◌, ◌-◌}
+use mathlib.Core.Path.{◌≡◌, refl, sym, ◌∙◌, ap₂}
+use mathlib.Core.List.{◌∷◌, ◌++◌}
+use borrow.Author.Rules.{rules}
+use lib.ListN.{length, drop, take, length-set}
+use Rattle.pots.specs.Settle.{share_out}
+use Rattle.laws.proofs.Places.{front_turn, front_done}
+use Rattle.pots.proofs.settle.share_out.Given as goal
+
+abbrev pub invariant-loop-i : goal.invariant-loop-i
+invariant-loop-i l = (l.i ≤ 10) × (length l.a ≡ 10) × (take l.i l.a ++ share_out l.base l.left (drop l.i l.ws) ≡ share_out l.base l.odd l.ws)
+
+abbrev pub decreases-loop-i : goal.decreases-loop-i
+decreases-loop-i l = 10 - l.i

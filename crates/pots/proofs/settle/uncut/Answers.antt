@@ -1,0 +1,9 @@
+-- `uncut` meets its contract.
+-- Assumes nothing.
+use borrow.Author.Rules.{rules}
+use Rattle.pots.specs.Settle.{uncut_of}
+use Rattle.pots.proofs.settle.uncut.Goals as goal
+
+pub returns : goal.returns
+unfolding uncut_of
+returns c = cc
