@@ -186,6 +186,11 @@ def main(argv):
             m = re.match(rf"(?:abbrev |pub )*{re.escape(name)} : tie\.(\S+)", code)
             if m and m[1].startswith("Need-"):
                 old = re.sub(r"^(overflow|nonzero)-", "", norm(m[1][5:])) if norm(m[1][5:]) not in fn.goal else norm(m[1][5:])
+                if old not in fn.goal and old.startswith("slice-bounds-"):
+                    old = "part-" + old[len("slice-bounds-"):]
+                if old not in fn.goal and old.startswith("slice-aggregate-"):
+                    # that a part is a slice: nobody asks for it any more
+                    continue
                 if old not in fn.goal:
                     print("no goal:", f, m[1])
                     continue

@@ -1,0 +1,14 @@
+-- `cards::choose::packed` meets its contract: what is packed so far are the cards from `i` on. Assumes nothing.
+use mathlib.Core.Path.{◌≡◌, refl}
+use Prim.Native.Nat.{◌-◌, ◌≤◌, ◌<◌}
+use native.Mathlib.Omega.{arith}
+use lib.ListN.{length, drop}
+use Rattle.cards.specs.Searching.{lows, units}
+use Rattle.cards.proofs.Packing.{packed_start, packed_turn, units_seven}
+use Rattle.cards.proofs.choose.packed.Given as goal
+
+abbrev pub invariant-loop-i : goal.invariant-loop-i
+invariant-loop-i l = (l.at ≤ l.i) × (l.i ≤ length l.cards) × (lows (length l.cards - l.i) l.n ≡ drop l.i l.cards) × (l.n < units (length l.cards - l.i))
+
+abbrev pub decreases-loop-i : goal.decreases-loop-i
+decreases-loop-i l = l.i

@@ -1,0 +1,19 @@
+-- `cards::weighing::in_full` meets its contract. Assumes nothing.
+use mathlib.Core.Path.{ap, ◌∙◌}
+use borrow.Author.Rules.{rules}
+use Rattle.cards.specs.Hands.{value_of}
+use Rattle.cards.proofs.Searched.{class_small}
+use Rattle.cards.proofs.Weighed.{larger_better}
+use Rattle.cards.proofs.weighing.in_full.Goals as goal
+
+pub value-requires : goal.value-requires
+value-requires c = c.requires.0
+
+pub number_of-requires : goal.number_of-requires
+number_of-requires c = class_small _ _ _ c.value.ensures
+
+pub returns : goal.returns
+returns c =
+    let s = c in
+    larger_better s.args.ranking s.requires.0 s.args.so_far c.number_of_lem.result s.args.chosen _ c.value.result s.requires.1 c.number_of_lem.ensures
+    (c.value.ensures ∙ ap (value_of s.args.ranking) c.five_in.ensures) c.larger.ensures

@@ -1,0 +1,17 @@
+-- `choose_three` meets its contract.
+use native.Mathlib.Omega.{arith}
+use Rattle.ladder.proofs.Steps.{one-fits, two_fits, three-in, choose_out}
+use borrow.Author.Rules.{rules}
+use Rattle.ladder.proofs.choose_three.Goals as goal
+
+pub overflow_mul-result : goal.overflow_mul-result
+overflow_mul-result c = omega (arith, one-fits c.args.n c.if-n-lt13.true c.short_of.ensures)
+
+pub overflow_mul-result-then-n-lt13 : goal.overflow_mul-result-then-n-lt13
+overflow_mul-result-then-n-lt13 c = omega (arith, two_fits c.args.n c.if-n-lt13.true c.short_of.ensures c.short_of-then-n-lt13.ensures)
+
+pub returns-then-n-lt13 : goal.returns-then-n-lt13
+returns-then-n-lt13 c = three-in c.args.n c.if-n-lt13.true c.short_of.ensures c.short_of-then-n-lt13.ensures
+
+pub returns : goal.returns
+returns c = choose_out c.args.n 3 c.if-n-lt13.false

@@ -1,0 +1,14 @@
+-- `choose_two` meets its contract.
+use native.Mathlib.Omega.{arith}
+use Rattle.ladder.proofs.Steps.{one-fits, two_in, choose_out}
+use borrow.Author.Rules.{rules}
+use Rattle.ladder.proofs.choose_two.Goals as goal
+
+pub overflow_mul-result : goal.overflow_mul-result
+overflow_mul-result c = omega (arith, one-fits c.args.n c.if-n-lt13.true c.short_of.ensures)
+
+pub returns-then-n-lt13 : goal.returns-then-n-lt13
+returns-then-n-lt13 c = two_in c.args.n c.if-n-lt13.true c.short_of.ensures
+
+pub returns : goal.returns
+returns c = choose_out c.args.n 2 c.if-n-lt13.false

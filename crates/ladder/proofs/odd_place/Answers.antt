@@ -1,0 +1,8 @@
+-- `ladder::odd_place` meets its contract. Assumes nothing.
+use Rattle.ladder.specs.Reckoned.{odd_place}
+use borrow.Author.Rules.{rules}
+use Rattle.ladder.proofs.odd_place.Goals as goal
+
+pub returns : goal.returns
+unfolding odd_place
+returns c = cc

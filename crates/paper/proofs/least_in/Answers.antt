@@ -1,0 +1,6 @@
+-- `least_in` meets its contract.
+use borrow.Author.Rules.{rules}
+use Rattle.paper.proofs.least_in.Goals as goal
+
+pub returns-then-span : goal.returns-then-span
+returns-then-span c = rw c.if-span.true c.least_card.ensures
