@@ -60,7 +60,7 @@ class Function:
                 if norm(step) == head and [norm(x) for x in path] == [norm(x) for x in parts[1:1 + len(path)]]:
                     if best is None or len(path) > len(best[1]):
                         best = (field, path)
-            if best and not (best[0].endswith("-own")):
+            if best:
                 return place, [arm[0], best[0]] + parts[1 + len(best[1]):]
         if head == "args" and len(parts) > 1:
             return place, ["args", self.args.get(parts[1], parts[1])] + parts[2:]
@@ -136,6 +136,98 @@ def blocks(text):
     return out
 
 
+def clauses_of(crate, f):
+    """The names of the ensures of a function, where it has two or more."""
+    steps = f.split("/")
+    name, mods = steps[-1].lstrip("+"), [s for s in steps[:-1] if s[0].islower()]
+    base = f"crates/{crate}/src/"
+    for path in ([base + "/".join(mods) + ".rt", base + "/".join(mods) + "/mod.rt"] if mods else [base + "lib.rt", base + "main.rt"]):
+        if not os.path.exists(path):
+            continue
+        text = open(path, encoding="utf-8").read()
+        owner = next((s for s in steps[:-1] if s[0].isupper()), None)
+        start = text.find(f"impl {owner}") if owner else 0
+        if owner and start < 0:
+            start = text.find(f" {owner}")
+        m = re.compile(rf"\bfn {re.escape(name)}\b").search(text, max(start, 0))
+        if m:
+            found = []
+            for line in text[m.start():].split("\n")[1:]:
+                if line.rstrip() in ("{", "    {") or line.startswith("}"):
+                    break
+                k = re.match(r"\s*ensures(?: (\w+))? \{", line)
+                if k:
+                    found.append(k[1])
+            return found if len(found) > 1 else None
+    return None
+
+
+def split_tuple(inner):
+    parts, depth, at = [], 0, 0
+    for k, ch in enumerate(inner):
+        if ch in "([{":
+            depth += 1
+        elif ch in ")]}":
+            depth -= 1
+        elif ch == "," and depth == 0:
+            parts.append(inner[at:k].strip())
+            at = k + 1
+    if inner[at:].strip():
+        parts.append(inner[at:].strip())
+    return parts
+
+
+def as_tuple(expression):
+    """The parts of an expression that is one tuple in parentheses, or None."""
+    e = expression.strip()
+    if not (e.startswith("(") and e.endswith(")")):
+        return None
+    depth = 0
+    for k, ch in enumerate(e):
+        depth += ch in "([{"
+        depth -= ch in ")]}"
+        if depth == 0 and k < len(e) - 1:
+            return None
+    parts = split_tuple(e[1:-1])
+    return parts if len(parts) > 1 else None
+
+
+def in_record(names, expression):
+    """An answer to several clauses, which were nested to the right, as a record by their names."""
+    parts = as_tuple(expression)
+    if len(names) == 1:
+        return [(names[0], expression.strip() if not parts or expression.strip().startswith("(") else expression.strip())]
+    if parts:
+        rest = parts[1] if len(parts) == 2 else "(" + ", ".join(parts[1:]) + ")"
+        more = in_record(names[1:], rest)
+        return [(names[0], parts[0])] + more if more else None
+    return None
+
+
+def by_clause(names, text):
+    """The text of an answer's clause `name c = body`, with what it answers as a record."""
+    lines = text.rstrip()
+    end = len(lines)
+    if lines.endswith(")"):
+        depth, k = 0, end - 1
+        while k >= 0:
+            depth += lines[k] in ")]}"
+            depth -= lines[k] in "([{"
+            if depth == 0:
+                break
+            k -= 1
+        before = lines[:k].rstrip()
+        if before.endswith("=") or re.search(r"\bin$", before):
+            fields = in_record(names, lines[k:])
+            if fields:
+                return lines[:k] + "record { " + "; ".join(f"{n} = {e}" for n, e in fields) + " }"
+    m = re.search(r"(?:(?<=\bin)\s+|=\s+)((?:(?!\bin\b)[^=]|(?<=[^\s])=)*)$", lines)
+    if m:
+        chain = ["r" + ".1" * k + (".0" if k < len(names) - 1 else "") for k in range(len(names))]
+        return lines[:m.start(1)] + "let r = " + m[1].strip() + " in record { " + "; ".join(f"{n} = {e}" for n, e in zip(names, chain)) + " }"
+    return text
+
+
 def loop_vars(fn, key, heads):
     """For the parameters of an invariant in an old file: what each is called in a turn l."""
     new, params = fn.loops[key]
@@ -202,6 +294,9 @@ def main(argv):
                 later = re.sub(rf"(?m)^{re.escape(name)}(?= )", new, later)
                 ctx = re.search(rf"(?m)^{re.escape(new)} (\S+)", later)
                 later = fn.body(later, fn.at[old], ctx[1] if ctx else "c", new)
+                said = clauses_of(crate, f)
+                if said and new.startswith("returns") and " search rules" not in later[-14:]:
+                    later = by_clause(said, later)
                 answers.append((new, comments, f"pub {new} : goal.{new}\n{later}"))
             elif m and (m[1].startswith("invariant") or m[1].startswith("decreases") or m[1].startswith("measure")):
                 kind, _, loop = m[1].partition("-")

@@ -97,7 +97,7 @@ module _ (t : Ranking) where
   pub beats_number : Placed t → (n m : ℕ) → IsHand t n → IsHand t m → beats_by t (hand_in n) (hand_in m) ≡ ltb m n
   beats_number pl n m p q =
       ap₂ above (key_digits n p) (key_digits m q)
-      ∙ sym (above_told (n / 281474976710656) (m / 281474976710656) (class_in n) (class_in m) (digits 5 n) (digits 5 m) (λ e. class_told pl (class_in n) (class_in m) p.class-is q.class-is (sym p.placed ∙ e ∙ q.placed)))
+      ∙ sym (above_told (n / 281474976710656) (m / 281474976710656) (class_in n) (class_in m) (digits 5 n) (digits 5 m) (λ e. class_told pl (class_in n) (class_in m) p.class_is q.class_is (sym p.placed ∙ e ∙ q.placed)))
       ∙ above_spells 256 0 (seven n) (seven m) (long n m) (seven_small n p) (seven_small m q)
       ∙ ap₂ ltb (seven_spells m) (seven_spells n)
 
@@ -113,4 +113,4 @@ module _ (t : Ranking) where
       let x : r / 256 % 256 ≡ h.r4 = omega arith in
       let y : r % 256 ≡ h.r5 = omega arith in
       let z : r / 281474976710656 ≡ p = omega arith in
-      (rw (x0, u, v, w, x, y), record { placed = z ∙ g ∙ ap (λ (i : ℕ). get_or t.places i 0) (sym x0); class-is = omega arith; small = omega arith })
+      (rw (x0, u, v, w, x, y), record { placed = z ∙ g ∙ ap (λ (i : ℕ). get_or t.places i 0) (sym x0); class_is = omega arith; small = omega arith })

@@ -93,7 +93,7 @@ seven_best t pl l n a b c d e f g r seven down packed er =
 
 pub hand_nine : (t : Ranking) (a : ℕ) → IsHand t a → (hand_in a).class ≤ 9
 unfolding hand_in
-hand_nine t a h = h.class-is
+hand_nine t a h = h.class_is
 
 module _ (chosen have unit : ℕ) (un : unit ≡ units have) (some : 0 < unit) where
   pub taken_small : chosen % unit < unit
@@ -113,7 +113,7 @@ module _ (chosen have unit : ℕ) (un : unit ≡ units have) (some : 0 < unit) w
     few-stands lt = record {
       some = omega arith;
       most = omega arith;
-      unit-is = un;
+      unit_is = un;
       taken = taken_small;
       left = subst (λ (k : ℕ). rest < units k) (omega arith) small;
     }

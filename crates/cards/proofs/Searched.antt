@@ -68,7 +68,7 @@ unfolding hand_in digits
 no_hand_law = refl
 
 pub none_is : (t : Ranking) → length t.places ≡ 9 → IsHand t 9895604649984
-none_is t n = record { placed = sym (get_or-eq_default t.places 0 (omega arith)); class-is = omega arith; small = omega arith }
+none_is t n = record { placed = sym (get_or-eq_default t.places 0 (omega arith)); class_is = omega arith; small = omega arith }
 
 pub found_none : (t : Ranking) (r : Hand) (l : List ℕ) → length l < 5 → r ≡ hand_in 9895604649984 → r ≡ best_of t l
 found_none t r l h e = e ∙ no_hand_law ∙ sym (best_short t l h)

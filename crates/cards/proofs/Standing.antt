@@ -63,10 +63,10 @@ module _ (rest spare chosen have unit : ℕ) (st : Stands rest spare chosen have
   more_left = more_small (5 + spare - (have + 1)) rest (subst (λ (k : ℕ). rest < units k) left_is st.left)
 
   pub unit_small : unit ≤ 281474976710656
-  unit_small = subst (λ (u : ℕ). u ≤ 281474976710656) (sym st.unit-is) (units_most have st.most)
+  unit_small = subst (λ (u : ℕ). u ≤ 281474976710656) (sym st.unit_is) (units_most have st.most)
 
   unit_next : unit * 256 ≡ units (have + 1)
-  unit_next = omega (arith, units_next have, st.unit-is)
+  unit_next = omega (arith, units_next have, st.unit_is)
 
   pub with_small : rest % 256 * unit + chosen < unit * 256
   with_small =
@@ -76,14 +76,14 @@ module _ (rest spare chosen have unit : ℕ) (st : Stands rest spare chosen have
 
   -- a card more is taken
   pub stands_with : Stands (rest / 256) spare (rest % 256 * unit + chosen) (have + 1) (unit * 256)
-  stands_with = record { some = st.some; most = omega (arith, five); unit-is = unit_next; taken = with_small; left = more_left }
+  stands_with = record { some = st.some; most = omega (arith, five); unit_is = unit_next; taken = with_small; left = more_left }
 
   -- a card is skipped, and not the last of those to be skipped
   pub stands_without : (spare ≡ 1 → ⊥) → Stands (rest / 256) (spare - 1) chosen have unit
   stands_without two = record {
     some = omega (arith, st.some, two);
     most = st.most;
-    unit-is = st.unit-is;
+    unit_is = st.unit_is;
     taken = st.taken;
     left = subst (λ (k : ℕ). rest / 256 < units k) (omega (arith, st.some, five)) more_left;
   }
@@ -94,9 +94,9 @@ module _ (rest spare chosen have unit : ℕ) (st : Stands rest spare chosen have
   -- the last is skipped: five are left
   pub five_small : spare ≡ 1 → rest / 256 * unit + chosen < 1099511627776
   five_small e =
-      let m : rest / 256 * units have + chosen < units (5 - have + have) = above_small have (5 - have) (rest / 256) chosen (last_small e) (subst (λ (u : ℕ). chosen < u) st.unit-is st.taken) in
+      let m : rest / 256 * units have + chosen < units (5 - have + have) = above_small have (5 - have) (rest / 256) chosen (last_small e) (subst (λ (u : ℕ). chosen < u) st.unit_is st.taken) in
       let k : 5 - have + have ≡ 5 = omega (arith, five) in
-      subst (λ (u : ℕ). rest / 256 * u + chosen < 1099511627776) (sym st.unit-is)
+      subst (λ (u : ℕ). rest / 256 * u + chosen < 1099511627776) (sym st.unit_is)
       (omega (arith, m, ap units k, units_five))
 
   rest_is : lows (5 + spare - have) rest ≡ rest % 256 ∷ lows (5 + spare - (have + 1)) (rest / 256)
@@ -105,8 +105,8 @@ module _ (rest spare chosen have unit : ℕ) (st : Stands rest spare chosen have
 
   with_is : lows (have + 1) (rest % 256 * unit + chosen) ≡ lows have chosen ++ (rest % 256 ∷ [])
   with_is =
-      subst (λ (u : ℕ). lows (have + 1) (rest % 256 * u + chosen) ≡ lows have chosen ++ (rest % 256 ∷ [])) (sym st.unit-is)
-      (lows_one have (rest % 256) chosen (subst (λ (u : ℕ). chosen < u) st.unit-is st.taken) (omega arith))
+      subst (λ (u : ℕ). lows (have + 1) (rest % 256 * u + chosen) ≡ lows have chosen ++ (rest % 256 ∷ [])) (sym st.unit_is)
+      (lows_one have (rest % 256) chosen (subst (λ (u : ℕ). chosen < u) st.unit_is st.taken) (omega arith))
 
   module _ (t : Ranking) (h : Hand) where
     -- the last is skipped: what the five are worth that are left
@@ -117,8 +117,8 @@ module _ (rest spare chosen have unit : ℕ) (st : Stands rest spare chosen have
         let n : ℕ = rest / 256 * unit + chosen in
         let k : have + (5 - have) ≡ 5 = omega (arith, five) in
         let d : lows 5 n ≡ lows have chosen ++ lows (5 - have) (rest / 256) =
-        ap₂ lows (sym k) (ap (λ (u : ℕ). rest / 256 * u + chosen) st.unit-is)
-        ∙ lows_above have (5 - have) (rest / 256) chosen (subst (λ (u : ℕ). chosen < u) st.unit-is st.taken) in
+        ap₂ lows (sym k) (ap (λ (u : ℕ). rest / 256 * u + chosen) st.unit_is)
+        ∙ lows_above have (5 - have) (rest / 256) chosen (subst (λ (u : ℕ). chosen < u) st.unit_is st.taken) in
         let v : value_of t (digits 5 n) ≡ value_of t (lows have chosen ++ lows (5 - have) (rest / 256)) = value_same t (digits 5 n) (lows 5 n) (lows_digits 5 n) ∙ ap (value_of t) d in
         let z : spare - 1 ≡ 0 = omega arith in
         let y : 5 + spare - (have + 1) ≡ 5 - have = omega arith in

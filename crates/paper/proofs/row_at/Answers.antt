@@ -39,6 +39,6 @@ returns-in-10 c = rw c.in-10.is
 pub returns-in_default : goal.returns-in_default
 returns-in_default c =
     let k = c.args.k in
-    let r = c.in_default.rest in
+    let r = c.in_default.in_default-own.rest in
     let most : 11 ≤ k = (past k 10 (past k 9 (past k 8 (past k 7 (past k 6 (past k 5 (past k 4 (past k 3 (past k 2 (past k 1 (past k 0 zero-le r.0.0.0.0.0.0.0.0.0.0.1) r.0.0.0.0.0.0.0.0.0.1) r.0.0.0.0.0.0.0.0.1) r.0.0.0.0.0.0.0.1) r.0.0.0.0.0.0.1) r.0.0.0.0.0.1) r.0.0.0.0.1) r.0.0.0.1) r.0.0.1) r.0.1) r.1) in
     rw (only k 11 most c.requires)

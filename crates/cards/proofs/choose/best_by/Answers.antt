@@ -16,7 +16,7 @@ unfolding units
 search-requires c =
     let s = c in
     let n : length s.args.ranking.places ≡ 9 = search rules in (
-      record { some = omega arith; most = omega arith; unit-is = refl; taken = omega arith; left = c.seven_in-n.ensures.small },
+      record { some = omega arith; most = omega arith; unit_is = refl; taken = omega arith; left = c.seven_in-n.ensures.small },
       s.requires,
       none_is s.args.ranking n,
     )

@@ -21,7 +21,7 @@ pub returns-then-left-have : goal.returns-then-left-have
 returns-then-left-have c =
     let s = c in
     let a = s.args in
-    (all_found a.chosen a.have c.unit_of-unit.result c.unit_of-unit.ensures.is c.unit_of-unit.ensures.small.0 a.ranking (hand_in a.so_far) a.at c.packed-rest.result a.cards.now (omega arith) (omega arith) c.packed-rest.ensures.is c.packed-rest.ensures.small _ c.if-left-have.true c.in_full.ensures.0, c.in_full.ensures.1)
+    record { is = all_found a.chosen a.have c.unit_of-unit.result c.unit_of-unit.ensures.is c.unit_of-unit.ensures.small.0 a.ranking (hand_in a.so_far) a.at c.packed-rest.result a.cards.now (omega arith) (omega arith) c.packed-rest.ensures.is c.packed-rest.ensures.small _ c.if-left-have.true c.in_full.ensures.0; small = c.in_full.ensures.1 }
 
 pub search-requires : goal.search-requires
 search-requires c =
@@ -33,4 +33,4 @@ pub returns : goal.returns
 returns c =
     let s = c in
     let a = s.args in
-    (few-found a.chosen a.have c.unit_of-unit.result c.unit_of-unit.ensures.is c.unit_of-unit.ensures.small.0 a.ranking (hand_in a.so_far) a.at c.packed-rest.result a.cards.now (omega arith) (omega arith) c.packed-rest.ensures.is c.packed-rest.ensures.small s.requires.4 _ (hand_nine a.ranking a.so_far s.requires.5) c.if-left-have.false c.search.ensures.is, c.search.ensures.small)
+    record { is = few-found a.chosen a.have c.unit_of-unit.result c.unit_of-unit.ensures.is c.unit_of-unit.ensures.small.0 a.ranking (hand_in a.so_far) a.at c.packed-rest.result a.cards.now (omega arith) (omega arith) c.packed-rest.ensures.is c.packed-rest.ensures.small s.requires.4 _ (hand_nine a.ranking a.so_far s.requires.5) c.if-left-have.false c.search.ensures.is; small = c.search.ensures.small }

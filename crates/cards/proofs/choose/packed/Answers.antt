@@ -34,4 +34,4 @@ returns c =
     let s = c.args in
     let l = c.loop-i in
     let e : l.i ≡ s.at = omega arith in
-    (rw e at l.invariant.2, rw e at l.invariant.3)
+    record { is = rw e at l.invariant.2; small = rw e at l.invariant.3 }

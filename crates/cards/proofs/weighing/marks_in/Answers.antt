@@ -7,4 +7,4 @@ use Rattle.cards.proofs.weighing.marks_in.Goals as goal
 
 pub returns : goal.returns
 unfolding marks_in
-returns c = (refl, omega arith)
+returns c = record { is = refl; small = omega arith }

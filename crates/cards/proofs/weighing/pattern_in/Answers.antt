@@ -8,4 +8,4 @@ use Rattle.cards.proofs.weighing.pattern_in.Goals as goal
 
 pub returns : goal.returns
 unfolding pattern_in gathered
-returns c = (ap (λ (m : ℕ). m * 134480385 / 16777216 % 16) c.marks_in.ensures.is, omega arith)
+returns c = record { is = ap (λ (m : ℕ). m * 134480385 / 16777216 % 16) c.marks_in.ensures.is; small = omega arith }

@@ -7,4 +7,4 @@ use Rattle.cards.proofs.weighing.ranks_in.Goals as goal
 
 pub returns : goal.returns
 unfolding ranks_in
-returns c = (refl, ranks_small _)
+returns c = record { is = refl; small = ranks_small _ }

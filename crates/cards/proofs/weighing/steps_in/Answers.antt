@@ -7,4 +7,4 @@ use Rattle.cards.proofs.weighing.steps_in.Goals as goal
 
 pub returns : goal.returns
 unfolding steps_in
-returns c = (refl, omega arith)
+returns c = record { is = refl; small = omega arith }

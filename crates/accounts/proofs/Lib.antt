@@ -1,2 +1,0 @@
--- Theorems about the evening's sums.
-pub mod Evening

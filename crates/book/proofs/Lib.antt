@@ -1,2 +1,0 @@
--- Laws for the program's proofs.
-pub mod Fronts

@@ -1,3 +1,0 @@
--- Laws of two tables that share a pool.
-
-pub mod Tables

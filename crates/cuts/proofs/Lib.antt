@@ -1,2 +1,0 @@
--- Lines cut after 33 bytes read as the lines themselves.
-pub mod Lines

@@ -1,2 +1,0 @@
--- Laws about a hand as its section needs it.
-pub mod Laws

@@ -1,2 +1,0 @@
--- Laws about what the page keeps.
-pub mod Laws

@@ -1,2 +1,0 @@
--- A law for the programs' loops.
-pub mod Rest

@@ -1,2 +1,0 @@
--- A law for the program.
-pub mod Inside

@@ -1,6 +1,0 @@
-pub mod Steps
-pub mod Sittings
-pub mod Worths
-pub mod Payment
-pub mod Finding
-pub mod Order

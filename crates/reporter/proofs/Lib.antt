@@ -1,2 +1,0 @@
--- A law about a block that is told.
-pub mod Laws

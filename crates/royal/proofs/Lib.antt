@@ -1,3 +1,0 @@
--- Laws of the royal flush.
-pub mod Laws
-pub mod Once

@@ -1,4 +1,0 @@
--- Laws for what is seen.
-pub mod Laws
-pub mod Feeds
-pub mod Least

@@ -1,2 +1,0 @@
--- The bands of the picture.
-pub mod Drawing
