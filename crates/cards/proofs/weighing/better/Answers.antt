@@ -27,4 +27,4 @@ pub returns : goal.returns
 returns c =
     let s = c in
     row-better s.args.ranking s.requires.0 s.args.so_far s.args.chosen c.ranks_in-ranks.result c.steps_in-steps.result c.marks_in.result c.suits_in.result c.suits_in-2.result s.requires.1 c.ranks_in-ranks.ensures.is c.steps_in-steps.ensures.is c.marks_in.ensures.is c.if-marks_in-ne16843009.false c.suits_in.ensures c.suits_in-2.ensures c.if-suits_in.false
-    c.pattern_in-k.result c.row_of-row.result c.pattern_in-k.ensures.is c.if-k-eq0.false c.row_of-row.ensures c.hand_at.result (spread c.cards_in.result) (spread c.ranks_of.result) c.cards_in.ensures c.ranks_of.ensures c.hand_at.ensures c.number_of_lem.result c.larger-2.result c.number_of_lem.ensures c.larger-2.ensures
+    c.pattern_in-k.result c.row_of-row.result c.pattern_in-k.ensures.is c.if-k-eq0.false c.row_of-row.ensures c.hand_at.result (spread c.cards_in.result) (spread c.ranks_of.result) c.cards_in.ensures c.ranks_of.ensures c.hand_at.ensures c.number_of.result c.larger-2.result c.number_of.ensures c.larger-2.ensures

@@ -15,5 +15,5 @@ number_of-requires c = class_small _ _ _ c.value.ensures
 pub returns : goal.returns
 returns c =
     let s = c in
-    larger_better s.args.ranking s.requires.0 s.args.so_far c.number_of_lem.result s.args.chosen _ c.value.result s.requires.1 c.number_of_lem.ensures
+    larger_better s.args.ranking s.requires.0 s.args.so_far c.number_of.result s.args.chosen _ c.value.result s.requires.1 c.number_of.ensures
     (c.value.ensures ∙ ap (value_of s.args.ranking) c.five_in.ensures) c.larger.ensures
