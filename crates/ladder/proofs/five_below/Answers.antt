@@ -6,4 +6,4 @@ use Rattle.ladder.proofs.five_below.Goals as goal
 
 pub returns : goal.returns
 unfolding five_below
-returns c = (cc, omega arith)
+returns c = record { is = cc; small = omega arith }

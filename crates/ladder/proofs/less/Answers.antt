@@ -6,4 +6,4 @@ use Rattle.ladder.proofs.less.Goals as goal
 
 pub returns : goal.returns
 unfolding less
-returns c = (cc, omega (arith, c.short_of.ensures))
+returns c = record { is = cc; small = omega (arith, c.short_of.ensures) }

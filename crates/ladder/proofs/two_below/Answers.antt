@@ -6,4 +6,4 @@ use Rattle.ladder.proofs.two_below.Goals as goal
 
 pub returns : goal.returns
 unfolding two_below
-returns c = (cc, omega arith)
+returns c = record { is = cc; small = omega arith }

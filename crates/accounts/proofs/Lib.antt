@@ -1,0 +1,2 @@
+-- Theorems about the evening's sums.
+pub mod Evening

@@ -1,0 +1,6 @@
+-- `with_account` meets its contract.
+use borrow.Author.Rules.{rules}
+use Rattle.accounts.proofs.with_account.Goals as goal
+
+pub returns : goal.returns
+returns c = cc

@@ -1,0 +1,6 @@
+-- `with_charges` meets its contract.
+use borrow.Author.Rules.{rules}
+use Rattle.accounts.proofs.with_charges.Goals as goal
+
+pub returns : goal.returns
+returns c = cc

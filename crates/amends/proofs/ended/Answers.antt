@@ -1,0 +1,7 @@
+-- `ended` meets its contract.
+use Rattle.amends.proofs.Judging.{ended_is}
+use borrow.Author.Rules.{rules}
+use Rattle.amends.proofs.ended.Goals as goal
+
+pub returns : goal.returns
+returns c = ended_is c.args.lines.now c.after_lines-fifth.ensures c.line_end.ensures

@@ -1,0 +1,6 @@
+-- `right_code` meets its contract.
+use borrow.Author.Rules.{rules}
+use Rattle.amends.proofs.right_code.Goals as goal
+
+pub returns : goal.returns
+returns c = cc

@@ -1,0 +1,6 @@
+-- Laws of a round.
+
+pub mod Tables
+pub mod Codes
+pub mod Folds
+pub mod ZeroSum

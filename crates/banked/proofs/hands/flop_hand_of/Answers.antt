@@ -1,0 +1,8 @@
+-- `banked::hands::flop_hand_of` meets its contract. Assumes nothing.
+use Rattle.banked.specs.Hands.{flop_hand_of}
+use borrow.Author.Rules.{rules}
+use Rattle.banked.proofs.hands.flop_hand_of.Goals as goal
+
+pub returns : goal.returns
+unfolding flop_hand_of
+returns c = c.five_worth.ensures

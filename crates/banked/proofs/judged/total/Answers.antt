@@ -1,0 +1,10 @@
+-- `banked::judged::total` meets its contract. Assumes nothing.
+use Rattle.banked.specs.Rounds.{total_of}
+use native.Mathlib.Omega.{arith}
+use mathlib.Core.Path.{refl}
+use borrow.Author.Rules.{rules}
+use Rattle.banked.proofs.judged.total.Goals as goal
+
+pub returns : goal.returns
+unfolding total_of
+returns c = (refl, omega arith)

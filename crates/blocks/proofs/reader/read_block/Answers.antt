@@ -1,0 +1,11 @@
+-- `read_block` meets its contract: five readings, each of what the one before left.
+use Rattle.blocks.proofs.Blocks.{block_none, block_five}
+use mathlib.Core.Path.{sym}
+use borrow.Author.Rules.{rules}
+use Rattle.blocks.proofs.reader.read_block.Goals as goal
+
+pub returns-then-log-eq0 : goal.returns-then-log-eq0
+returns-then-log-eq0 c = sym (block_none c.args.log.now c.if-log-eq0.true)
+
+pub returns : goal.returns
+returns c = block_five c.args.log.now c.if1.false c.number_of_lem.ensures c.behind.ensures c.line-kind.ensures c.behind2.ensures c.number-of2.ensures c.behind3.ensures c.number-of3.ensures c.behind4.ensures c.number_of-b.ensures c.block_from.ensures

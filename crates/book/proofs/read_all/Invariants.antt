@@ -1,0 +1,14 @@
+-- `read_all` meets its contract: the loop over the input ends, and the book is ready behind it. Assumes nothing.
+use borrow.Author.Rules.{rules}
+use Prim.Native.Nat.{ℕ, ◌≤◌}
+use mathlib.Core.Path.{◌≡◌, refl, sym, subst, ◌∙◌}
+use lib.ListN.{length}
+use Rattle.lines.specs.Kept.{kept_most}
+use Rattle.book.specs.Ready.{Ready}
+use Rattle.book.proofs.read_all.Given as goal
+
+abbrev pub invariant-loop-turns : goal.invariant-loop-turns
+invariant-loop-turns l = (length l.buf ≡ length l.initial.buf) × (length l.log ≡ length l.initial.log) × (length l.index ≡ length l.initial.index) × Ready l.k
+
+abbrev pub decreases-loop-turns : goal.decreases-loop-turns
+decreases-loop-turns l = l.turns

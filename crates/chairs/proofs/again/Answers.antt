@@ -1,0 +1,6 @@
+-- `again` meets its contract.
+use borrow.Author.Rules.{rules}
+use Rattle.chairs.proofs.again.Goals as goal
+
+pub returns : goal.returns
+returns c = rw c.both-spent.ensures

@@ -1,0 +1,6 @@
+-- `held` meets its contract.
+use borrow.Author.Rules.{rules}
+use Rattle.chairs.proofs.held.Goals as goal
+
+pub returns : goal.returns
+returns c = rw c.hole_with-k.ensures

@@ -1,0 +1,6 @@
+-- `paid` meets its contract.
+use borrow.Author.Rules.{rules}
+use Rattle.chairs.proofs.paid.Goals as goal
+
+pub returns : goal.returns
+returns c = rw c.least-p.ensures

@@ -1,0 +1,20 @@
+-- The invariant: what is counted so far and what the rest counts make the whole count.
+use mathlib.Core.Path.{refl, ap, ◌≡◌}
+use lib.ListN.{length, drop, get_or}
+use borrow.Author.Rules.{rules}
+use Prim.Native.Nat.{◌≤◌, ◌+◌, ◌-◌}
+use native.Mathlib.Omega.{arith}
+use Rattle.laws.specs.Tests.{one}
+use Rattle.laws.proofs.Often.{one_small}
+use Rattle.chairs.specs.Chairs.{want_of, count_of}
+use Rattle.chairs.specs.Who.{Live}
+use Rattle.chairs.proofs.Laws.{unread, count_step}
+use Rattle.chairs.proofs.Above.{above_count}
+use Rattle.chairs.proofs.seats.lives.Given as goal
+
+abbrev pub invariant-loop-i : goal.invariant-loop-i
+invariant-loop-i l =
+    (l.last ≡ l.seats) × (l.i ≤ l.last) × (l.hands ≤ l.i) × (l.hands + count_of (want_of Live) (drop l.i l.cs) ≡ count_of (want_of Live) l.cs)
+
+abbrev pub decreases-loop-i : goal.decreases-loop-i
+decreases-loop-i l = l.last - l.i

@@ -1,0 +1,8 @@
+-- `height` meets its contract.
+use Rattle.columns.specs.Columns.{drawn_of}
+use borrow.Author.Rules.{rules}
+use Rattle.columns.proofs.height.Goals as goal
+
+pub returns : goal.returns
+unfolding drawn_of
+returns c = cc

@@ -1,0 +1,10 @@
+-- `slab` meets its contract.
+use mathlib.Core.Path.{◌∙◌, ap₂}
+use Prim.Native.Nat.{◌-◌}
+use Rattle.columns.specs.Columns.{slab_of}
+use borrow.Author.Rules.{rules}
+use Rattle.columns.proofs.slab.Goals as goal
+
+pub returns : goal.returns
+unfolding slab_of
+returns c = c.short_of.ensures ∙ ap₂ ◌-◌ c.least.ensures c.least-2.ensures

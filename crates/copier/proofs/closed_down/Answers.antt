@@ -1,0 +1,8 @@
+-- `closed_down` meets its contract.
+use Rattle.copier.proofs.Steps.{made}
+use Rattle.copier.specs.Onward.{Shut}
+use borrow.Author.Rules.{rules}
+use Rattle.copier.proofs.closed_down.Goals as goal
+
+pub returns : goal.returns
+returns c = made Shut (rw c.empty-z.ensures.0)

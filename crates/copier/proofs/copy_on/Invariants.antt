@@ -1,0 +1,14 @@
+-- `copy_on` meets its contract: at each turn what was written, and what is heard so far, is said by `Feeding`.
+use Rattle.copier.proofs.On.{Feeding, on_start, goes_when, on_used, on_room, on_notes, on_moves, on_turn, on_done}
+use borrow.Author.Rules.{rules}
+use lib.ListN.{length}
+use native.Mathlib.Omega.{arith}
+use Prim.Native.Nat.{◌-◌}
+use mathlib.Core.Path.{refl}
+use Rattle.copier.proofs.copy_on.Given as goal
+
+abbrev pub invariant-loop-buf : goal.invariant-loop-buf
+invariant-loop-buf l = Feeding l.initial.copier l.initial.buf l.part l.initial.copy l.initial.notes l.buf l.copy l.notes l.copier l.used l.at l.said
+
+abbrev pub decreases-loop-buf : goal.decreases-loop-buf
+decreases-loop-buf l = length l.part - l.used

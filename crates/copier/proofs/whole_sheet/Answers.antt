@@ -1,0 +1,15 @@
+-- `whole_sheet` meets its contract: the sheet is bad, or is copied.
+use Rattle.copier.proofs.Steps.{bad_gave, read_gave}
+use native.Mathlib.Omega.{arith}
+use borrow.Author.Rules.{rules}
+use Rattle.copier.proofs.whole_sheet.Goals as goal
+
+pub returns-in-Bad : goal.returns-in-Bad
+returns-in-Bad c = let s = c in
+    let n = c.note_bad.ensures in
+    record { gave = bad_gave s.args.block.now s.args.copy.now s.args.notes.now c.read_sheet.ensures c.in-Bad.is n c.closed_down-d.ensures.0; held = (c.closed_down-d.ensures.1, omega arith, omega (arith, n.count, s.requires.1)) }
+
+pub returns-in-Read : goal.returns-in-Read
+returns-in-Read c = let s = c in
+    let k = c.copy_sheet-k.ensures in
+    record { gave = read_gave s.args.block.now s.args.copy.now s.args.notes.now c.read_sheet.ensures c.in-Read.is s.requires.0 k.0 k.1.0 c.behind-d.ensures.0; held = (c.behind-d.ensures.1, k.1.1, omega arith) }

@@ -1,0 +1,3 @@
+-- Laws of two tables that share a pool.
+
+pub mod Tables

@@ -1,0 +1,15 @@
+-- `crown::serve` meets its contract. Assumes nothing.
+use borrow.Author.Rules.{rules}
+use Prim.Native.Nat.{◌-◌, ◌≤◌}
+use lib.ListN.{length}
+use native.Mathlib.Omega.{arith}
+use Rattle.rounds.specs.RoundParts.{Held}
+use mathlib.Core.Path.{◌≡◌, refl}
+use Rattle.crown.proofs.serve.Given as goal
+
+abbrev pub invariant-loop-from : goal.invariant-loop-from
+invariant-loop-from l =
+    (length l.buf ≡ length l.initial.buf) × (length l.out ≡ 65536) × Held l.fill × (l.from ≤ length l.part) × (l.at ≤ 65536)
+
+abbrev pub decreases-loop-from : goal.decreases-loop-from
+decreases-loop-from l = length l.part - l.from

@@ -1,0 +1,2 @@
+-- Laws about a hand as its section needs it.
+pub mod Laws

@@ -1,0 +1,6 @@
+-- `shown` meets its contract.
+use borrow.Author.Rules.{rules}
+use Rattle.dealings.proofs.shown.Goals as goal
+
+pub returns : goal.returns
+returns c = cc

@@ -1,0 +1,18 @@
+-- `answer` meets its contract: the block is read, and answered.
+use mathlib.Core.Path.{ap, ◌∙◌}
+use mathlib.Core.List.{List}
+use Prim.Native.Nat.{ℕ}
+use Rattle.writing.specs.AnswerSheet.{sheet_after}
+use Rattle.desk.proofs.Laws.{block_small, read_answered}
+use borrow.Author.Rules.{rules}
+use Rattle.desk.proofs.answer.Goals as goal
+
+pub answer_block-requires : goal.answer_block-requires
+answer_block-requires c = (c.requires, rw c.read_block.ensures (block_small c.args.log.now))
+
+pub returns : goal.returns
+returns c =
+    let s = c in
+    let a = read_answered s.args.table s.args.log.now s.args.sheet.now c.read_block.ensures in
+    let w = c.answer_block.ensures in
+    record { answer = w.0 ∙ a.0; bytes = w.1.0 ∙ ap (λ (x : List ℕ). sheet_after x s.args.sheet.now) a.1; sound = w.1.1 }

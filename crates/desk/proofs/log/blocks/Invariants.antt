@@ -1,0 +1,16 @@
+-- `blocks` meets its contract.
+use Rattle.desk.proofs.Whole.{going_room, whole_part, Going, going_start, going_turn, going_done}
+use mathlib.Core.Path.{refl, ap, ◌∙◌}
+use lib.ListN.{length}
+use Rattle.blocks.proofs.Blocks.{rest_shorter}
+use borrow.Author.Rules.{rules}
+use native.Mathlib.Omega.{arith}
+use Rattle.desk.proofs.log.blocks.Given as goal
+
+abbrev pub invariant-loop-left : goal.invariant-loop-left
+invariant-loop-left l =
+    Going l.initial.table l.log l.initial.out l.table l.left l.out l.at
+
+abbrev pub decreases-loop-left : goal.decreases-loop-left
+decreases-loop-left l =
+    length l.left

@@ -1,0 +1,14 @@
+-- `refuse_sheet` meets its contract.
+use mathlib.Core.Path.{refl}
+use lib.ListN.{length}
+use borrow.Author.Tests.{lt-leb, le-leb}
+use borrow.Author.Rules.{rules}
+use Rattle.desk.proofs.log.refuse_sheet.Goals as goal
+
+pub returns-then-out-lt8 : goal.returns-then-out-lt8
+returns-then-out-lt8 c =
+    rw (lt-leb 8 (length c.args.out.now) c.if-out-lt8.true) (record { count = refl; sheet = refl })
+
+pub returns : goal.returns
+returns c =
+    rw (le-leb 8 (length c.args.out.now) c.if1.false) c.put_bytes.ensures

@@ -1,0 +1,6 @@
+-- `keeps_pots` meets its contract.
+use borrow.Author.Rules.{rules}
+use Rattle.desk.proofs.quiet.keeps_pots.Goals as goal
+
+pub returns : goal.returns
+returns c = cc

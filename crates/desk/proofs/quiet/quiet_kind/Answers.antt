@@ -1,0 +1,6 @@
+-- `quiet_kind` meets its contract.
+use borrow.Author.Rules.{rules}
+use Rattle.desk.proofs.quiet.quiet_kind.Goals as goal
+
+pub returns : goal.returns
+returns c = cc

@@ -1,0 +1,11 @@
+-- `shown_with` meets its contract.
+use Rattle.desk.proofs.Laws.{made_shown}
+use borrow.Author.Rules.{rules}
+use Rattle.desk.proofs.quiet.shown_with.Goals as goal
+
+pub returns : goal.returns
+returns c =
+    let a = c.args in
+    let h = c.requires in
+    let k = h.4 in
+    made_shown a.n a.code a.t a.paid (k.count, k.list, k.few) k.back c.payout_shown-p.ensures c.wide.ensures h.0 h.1 h.2 h.3

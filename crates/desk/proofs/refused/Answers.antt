@@ -1,0 +1,6 @@
+-- `refused` meets its contract.
+use borrow.Author.Rules.{rules}
+use Rattle.desk.proofs.refused.Goals as goal
+
+pub returns : goal.returns
+returns c = rw c.no_payout-none.ensures

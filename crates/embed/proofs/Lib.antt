@@ -1,0 +1,4 @@
+-- What makers link: what is proved of the calls.
+pub mod Codes
+pub mod Calls
+pub mod Maker

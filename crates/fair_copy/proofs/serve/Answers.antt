@@ -1,0 +1,36 @@
+-- `serve` meets its contract: at each turn the copier has heard the part so far.
+use Rattle.copier.proofs.On.{hears_none, hears_on, hears_all}
+use Rattle.copier.specs.Feeding.{Held, HeardTo}
+use lib.ListN.{length}
+use native.Mathlib.Omega.{arith}
+use Prim.Native.Nat.{◌-◌, ◌≤◌}
+use mathlib.Core.Path.{◌≡◌, refl}
+use mathlib.Core.Bool.{true≢false}
+use borrow.Author.Rules.{rules}
+use Rattle.fair_copy.proofs.serve.Goals as goal
+
+pub loop-from-init : goal.loop-from-init
+loop-from-init c = let s = c in (refl, search rules, search rules, s.requires.0, omega arith, hears_none s.args.c s.args.buf.now s.args.part.now)
+
+pub serve_one-s-requires : goal.serve_one-s-requires
+serve_one-s-requires c = let i = c.loop-from.invariant in (i.3, omega (arith, c.requires.1, i.0), c.loop-from-test.true, omega (arith, i.1), omega (arith, i.2))
+
+pub returns-then-not-s : goal.returns-then-not-s
+returns-then-not-s c = record { heard = λ e. absurd (true≢false e); held = c.serve_one-s.ensures.held.0 }
+
+pub loop-from-smaller : goal.loop-from-smaller
+loop-from-smaller c = let o = c.serve_one-s.ensures.held in omega (arith, o.1, o.2)
+
+pub loop-from-preserved : goal.loop-from-preserved
+loop-from-preserved c = let s = c in
+    let g = c.loop-from in
+    let o = c.serve_one-s in
+    (search rules, search rules, search rules, o.ensures.1.0, o.ensures.1.2, hears_on s.args.c s.args.buf.now s.args.part.now g.from g.copier g.buf o.result.copier _ o.result.from g.invariant.5 o.ensures.0)
+
+pub shape_of-buf : goal.shape_of-buf
+shape_of-buf c = c.loop-from.invariant.0
+
+pub returns : goal.returns
+returns c = let s = c in
+    let g = c.loop-from in
+    record { heard = λ e. hears_all s.args.c s.args.buf.now s.args.part.now g.from g.copier g.buf c.loop-from-test.false g.invariant.4 g.invariant.5; held = g.invariant.3 }

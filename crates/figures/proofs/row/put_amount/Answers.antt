@@ -1,0 +1,8 @@
+-- `put_amount` meets its contract.
+use Rattle.figures.specs.ScreenRow.{amount_of}
+use borrow.Author.Rules.{rules}
+use Rattle.figures.proofs.row.put_amount.Goals as goal
+
+pub returns : goal.returns
+unfolding amount_of
+returns c = (rw c.grouped.ensures at c.put_cell.ensures.0, c.put_cell.ensures.1)

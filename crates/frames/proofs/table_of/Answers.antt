@@ -1,0 +1,9 @@
+-- `table_of` meets its contract.
+use mathlib.Core.Path.{ap, ◌∙◌}
+use Rattle.frames.specs.Frames.{table_of, table_in}
+use borrow.Author.Rules.{rules}
+use Rattle.frames.proofs.table_of.Goals as goal
+
+pub returns : goal.returns
+unfolding table_of
+returns c = (c.table_in.ensures.0 ∙ ap table_in c.read_key_number.ensures, c.table_in.ensures.1)

@@ -1,0 +1,19 @@
+-- `write_rows` meets its contract.
+use Rattle.fresh.proofs.Steps.{rowed_turn, index_turn, rowed_most}
+use Rattle.fresh.specs.Reading.{rows_begun, rowed_from, index_from}
+use Rattle.records.specs.Stored.{entry_in}
+use Rattle.table.specs.declared.table.Table.{Table}
+use Rattle.table.specs.Take.{Sound}
+use mathlib.Core.Path.{◌≡◌, refl, ap, ◌∙◌}
+use lib.ListN.{length}
+use Prim.Native.Nat.{ℕ, ◌-◌, ◌≤◌}
+use native.Mathlib.Omega.{arith}
+use borrow.Author.Rules.{rules}
+use Rattle.fresh.proofs.write_rows.Given as goal
+
+abbrev pub invariant-loop-k : goal.invariant-loop-k
+invariant-loop-k l =
+    (l.p ≡ rowed_from l.initial.p (entry_in l.log) l.k) × (l.index ≡ index_from l.initial.p (entry_in l.log) l.k l.initial.index) × (l.k ≤ l.count) × Sound l.p.table × (l.p.hands ≤ l.k) × (length l.index ≡ length l.initial.index)
+
+abbrev pub decreases-loop-k : goal.decreases-loop-k
+decreases-loop-k l = l.count - l.k

@@ -1,0 +1,3 @@
+-- Laws for the program.
+pub mod Written
+pub mod Ended

@@ -1,0 +1,14 @@
+-- `hands::serve` meets its contract. Assumes nothing.
+use mathlib.Core.Path.{◌≡◌, refl}
+use Prim.Native.Nat.{◌-◌, ◌≤◌}
+use native.Mathlib.Omega.{arith}
+use lib.ListN.{length}
+use borrow.Author.Rules.{rules}
+use Rattle.hands.proofs.serve.Given as goal
+
+abbrev pub invariant-loop-i : goal.invariant-loop-i
+invariant-loop-i l =
+    (length l.cards ≡ length l.initial.cards) × (length l.out ≡ 65536) × (l.line.have ≤ length l.initial.cards) × (l.at ≤ 65536) × (l.i ≤ length l.part)
+
+abbrev pub decreases-loop-i : goal.decreases-loop-i
+decreases-loop-i l = length l.part - l.i

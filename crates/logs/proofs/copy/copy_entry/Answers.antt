@@ -1,0 +1,10 @@
+-- `copy_entry` meets its contract: no entry, or what the writer says.
+use Rattle.logs.proofs.Copies.{entry_none, entry_put}
+use borrow.Author.Rules.{rules}
+use Rattle.logs.proofs.copy.copy_entry.Goals as goal
+
+pub returns-in-OutOfRange : goal.returns-in-OutOfRange
+returns-in-OutOfRange c = entry_none c.args.sheet c.args.n c.args.p c.args.buffer.now c.in-OutOfRange.is c.left_out.ensures
+
+pub returns-in-Read : goal.returns-in-Read
+returns-in-Read c = entry_put c.args.sheet c.args.n c.args.p c.args.buffer.now c.in-Read.is c.write_entry.ensures.answer c.write_entry.ensures.bytes c.told.ensures

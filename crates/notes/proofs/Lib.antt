@@ -1,0 +1,2 @@
+-- Laws about what the page keeps.
+pub mod Laws

@@ -1,0 +1,12 @@
+-- `put_at` meets its contract.
+use mathlib.Core.Path.{◌≡◌, sym}
+use native.Mathlib.Omega.{arith}
+use lib.ListN.{length, get_or-eq_default}
+use borrow.Author.Rules.{rules}
+use Rattle.notes.proofs.put_at.Goals as goal
+
+pub returns : goal.returns
+returns c =
+    let l = c.args.round in
+    let n : length l ≡ 10 = search rules in
+    sym (get_or-eq_default l 0 (omega (arith, n, c.if-i-lt10.false)))

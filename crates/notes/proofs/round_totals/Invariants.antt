@@ -1,0 +1,17 @@
+-- `round_totals` meets its contract: in front of the place the round totals are written, behind it they are still to come.
+use mathlib.Core.Path.{◌≡◌, refl, sym, ap}
+use mathlib.Core.List.{◌∷◌, ◌++◌, map}
+use Prim.Native.Nat.{ℕ, ◌+◌, ◌-◌, ◌≤◌}
+use lib.ListN.{length, take, drop, length-set}
+use native.Mathlib.Omega.{arith}
+use Rattle.chairs.proofs.Laws.{unread}
+use Rattle.laws.proofs.Places.{front_turn, front_done}
+use Rattle.chairs.specs.Chairs.{round_of}
+use borrow.Author.Rules.{rules}
+use Rattle.notes.proofs.round_totals.Given as goal
+
+abbrev pub invariant-loop-i : goal.invariant-loop-i
+invariant-loop-i l = (l.i ≤ 10) × (length l.a ≡ 10) × (take l.i l.a ++ map round_of (drop l.i l.cs) ≡ map round_of l.cs)
+
+abbrev pub decreases-loop-i : goal.decreases-loop-i
+decreases-loop-i l = 10 - l.i

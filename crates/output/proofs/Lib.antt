@@ -1,0 +1,2 @@
+-- A law for the programs' loops.
+pub mod Rest

@@ -1,0 +1,6 @@
+-- `head_words` meets its contract.
+use borrow.Author.Rules.{rules}
+use Rattle.packed.proofs.head_words.Goals as goal
+
+pub returns : goal.returns
+returns c = cc

@@ -1,0 +1,17 @@
+-- `put_words` meets its contract.
+use Rattle.packed.proofs.Rows.{Going, going_start, going_at, going_turn, going_done}
+use Rattle.records.specs.Bytes.{word_bytes}
+use Rattle.packed.specs.Fits.{IsWord}
+use Rattle.text.proofs.Parts.{part_is}
+use lib.ListN.{length, length-drop}
+use mathlib.Core.Path.{◌≡◌, refl, ap}
+use Prim.Native.Nat.{ℕ, ◌-◌, ◌*◌, ◌≤◌}
+use native.Mathlib.Omega.{arith}
+use borrow.Author.Rules.{rules}
+use Rattle.packed.proofs.put_words.Given as goal
+
+abbrev pub invariant-loop-k : goal.invariant-loop-k
+invariant-loop-k l = (l.k ≤ length l.ws) × Going word_bytes IsWord l.ws l.initial.buffer l.buffer l.k l.at
+
+abbrev pub decreases-loop-k : goal.decreases-loop-k
+decreases-loop-k l = length l.ws - l.k

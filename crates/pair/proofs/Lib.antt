@@ -1,0 +1,2 @@
+-- A law for the program.
+pub mod Inside

@@ -1,0 +1,7 @@
+-- `close` meets its contract: what is kept at the end of the input is answered as the definition says.
+use Rattle.pairs.proofs.Runs.{end_gave}
+use borrow.Author.Rules.{rules}
+use Rattle.pairs.proofs.close.Goals as goal
+
+pub returns : goal.returns
+returns c = let t = c.take_piece.ensures in record { gave = end_gave c.args.only c.args.p c.args.f.due _ _ c.at-end.ensures t.0; good = t.1 }

@@ -1,0 +1,17 @@
+-- `feed` meets its contract: the lines up to the first that makes something whole, and that is answered.
+use Rattle.pairs.proofs.On.{fed_one}
+use borrow.Author.Rules.{rules}
+use Rattle.pairs.proofs.feed.Goals as goal
+
+pub take_piece-s-requires : goal.take_piece-s-requires
+take_piece-s-requires c =
+    let s = c.requires in
+    let h = c.hear-on.ensures in
+    (s.0, h.1.4, s.2, s.4)
+
+pub returns : goal.returns
+returns c =
+    let s = c in
+    let hear = c.hear-on in
+    let h = hear.ensures in
+    let t = c.take_piece-s.ensures in record { fed = fed_one s.args.only s.args.p s.args.f s.args.buf.now s.args.part.now s.args.out.now hear.result _ h.0 t.0; held = (t.1.0, h.1.0, h.1.1, h.1.2, t.1.1) }

@@ -1,0 +1,14 @@
+-- `hear_on` meets its contract: line after line, and nothing is whole but at the end.
+use Rattle.pairs.proofs.Gathers.{Hearing, hear_start, turn_used, turn_less, hear_turn, hear_done, goes_on_when}
+use Rattle.lines.specs.Kept.{kept_most}
+use lib.ListN.{length}
+use Prim.Native.Nat.{◌-◌, ◌≤◌}
+use borrow.Author.Rules.{rules}
+use native.Mathlib.Omega.{arith}
+use Rattle.pairs.proofs.hear_on.Given as goal
+
+abbrev pub invariant-loop-from : goal.invariant-loop-from
+invariant-loop-from l = Hearing l.initial.h.frame l.initial.buf l.part l.buf l.h × (kept_most ≤ length l.initial.buf)
+
+abbrev pub decreases-loop-from : goal.decreases-loop-from
+decreases-loop-from l = length l.part - l.h.used

@@ -1,0 +1,5 @@
+pub mod SmallRows
+pub mod Same
+pub mod Deciding
+pub mod Keeps
+pub mod Cutting

@@ -1,0 +1,16 @@
+-- `put_visible` meets its contract: after i turns the first i bytes are shown.
+use borrow.Author.Rules.{rules}
+use Rattle.picture.proofs.Foreign.{visible_start, visible_on, visible_done}
+use Rattle.picture.specs.Rows.{visible_all}
+use Rattle.figures.specs.Placing.{Put}
+use lib.ListN.{length, take, length-set}
+use native.Mathlib.Omega.{arith}
+use mathlib.Core.Path.{◌≡◌, refl}
+use Prim.Native.Nat.{◌+◌, ◌-◌, ◌≤◌}
+use Rattle.picture.proofs.put_visible.Given as goal
+
+abbrev pub invariant-loop-i : goal.invariant-loop-i
+invariant-loop-i l = (l.i ≤ length l.bytes) × (length l.out ≡ length l.initial.out) × Put (visible_all (take l.i l.bytes)) l.at l.initial.out l.out (l.at + l.i)
+
+abbrev pub decreases-loop-i : goal.decreases-loop-i
+decreases-loop-i l = length l.bytes - l.i

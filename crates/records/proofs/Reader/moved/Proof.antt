@@ -1,0 +1,120 @@
+-- `records::Reader::moved` meets its contract: a walk of its MIR, by hand. A reader is made of the slice of the one that was passed and of the place that was
+-- passed. The struct is Copy: what it owns is had twice, once for the one passed and once, with the other place, inside the result.
+-- Assumes nothing.
+use mathlib.Core.Path.{refl}
+use Prim.Native.Nat.{ℕ, ◌<◌, ◌^◌}
+use mathlib.Core.List.{[], ◌∷◌}
+use lib.Dec.{T as Holds}
+use seplogic.Ra.Ura.{Ura}
+use mir.Syntax.{named, w64}
+use mir.Val.{Val, WT, has_ty, vint}
+use base.Logic.{SProp, ent, emp, via, fst∗}
+use base.Fml.{Lft, Share, Fml, ftrue, flft}
+use prog.Memory.{Memory}
+use prog.Routine.{Routine}
+use prog.Wp.{Calls, Loops, WpFn, Tables}
+use types.Logic.{Logic}
+use contract.Lifetimes.{Lfts}
+use contract.Monad.{Fun}
+use contract.Running.{tables, tables_of}
+use types.Kit.{‵, raw, ◌⊛◌, ◌$◌, ◌∵◌, !, qed, by, move, use1, split, fsplit, fjoin, suffices, frame}
+use types.Part.{agg, whole, sub, look_in}
+use types.Run.{look, init, forget, stop, fld, from, load, of_opd, and_then, no_more, assigns, returns, enter, alloc1, alloc0, params1, pass1, pass0, free1, free0}
+use sound.WpLaws.{WpFn-mono}
+use denote.RattleType.{RattleType, owns}
+use denote.Laws.{Is}
+use denote.Plain.{uint_Makes, uint_vals, uint_Tells}
+use denote.Builtin.{usize}
+use denote.Signature.{named_lft}
+use denote.Steps.{owned}
+use denote.Struct.Declared.{Declared}
+use denote.Struct.Rest.{own_put}
+use denote.Struct.Values.{Values}
+use denote.Triple.Entry.{Vals, on_entry}
+use denote.Triple.Spec.{Meets, triple_of}
+use denote.Triple.Table.{entered}
+use denote.Triple.Walked.{says, Stays, stay_none, walk_of, Goes-none, Walks, ends_at, walked, walk_Meets, AllGo}
+use denote.Exit.{yes}
+use Rattle.records.specs.declared.Reader.{Reader}
+use Rattle.records.specs.contracts.Reader.moved.Key.{name as #records·Reader·moved}
+use denote.Struct.Laws as LL
+use Rattle.records.specs.contracts.Reader as T
+use Rattle.records.proofs.Reader.TheLaws as T'
+use Rattle.records.specs.contracts.Reader.moved as moved
+use Rattle.records.proofs.Reader.moved.Statement as stated
+use Rattle.records.proofs.Reader.moved.Code as code
+
+abbrev B : Lfts 1 → RattleType
+B κs = T.the_row (named_lft 1 0 tt κs)
+
+abbrev stayed : Stays (moved.ended).signature.params (moved.ended).kept
+stayed = (stay_none B yes, (stay_none (λ _. usize) yes, tt))
+
+module _ {M : Type 1} {𝓤 : Ura M} (𝓛 : Logic 𝓤) (mem : Memory → SProp 𝓤) (run : Routine → Fun 𝓤) (κ : Lft) (q : Share) (d : Reader) (i : ℕ) where
+  open 𝓛 use {H}
+
+  abbrev mach : Val
+  mach = T'.lowered d
+
+  abbrev made : Reader
+  made = record { log = d.log; at = i }
+
+  abbrev at : Vals moved.signature (κ, tt)
+  at = (mach ∷ [], (vint w64 i ∷ [], tt))
+
+  abbrev Post : Val → SProp 𝓤
+  Post = (walk_of 𝓛 moved.ended stayed (moved.clauses 𝓛 mem run)).post (((κ, tt), (q, tt), tt, (d, (i, tt)), at), tt)
+
+  abbrev Own : Fml
+  Own = (B (κ, tt)).own d (mach ∷ [])
+
+  -- the struct's type and laws, and d's fields' values
+  abbrev D : Declared
+  D = T.the_type (named_lft 1 0 tt (κ, tt))
+
+  abbrev L : LL.Laws D
+  L = T'.the_laws (named_lft 1 0 tt (κ, tt))
+
+  abbrev vd : Values D.parts
+  vd = (d.log, (d.at, tt))
+
+  exits : i < 2 ^ 64 → ent 𝓤 (on_entry 𝓛 moved.signature (κ, tt) (q, tt) (d, (i, tt)) at) (Post (T'.lowered made))
+  exits fits =
+      qed 𝓛 ((‵ (flft κ q) ⊛ ‵ ftrue) ∷ ‵ (owns (B (κ, tt) ∷ usize ∷ []) (d, (i, tt)) at) ∷ []) ∵
+      suffices ! _ (ends_at 𝓛 moved.ended stayed (moved.clauses 𝓛 mem run) (((κ, tt), (q, tt), tt, (d, (i, tt)), at), tt) (T'.lowered made) made (tt, (tt, tt)) (tt, (tt, tt))) $ says ! refl $
+      frame ! $ fsplit ! $ use1 𝓛 (‵ Own ⊛ ‵ Own) ((LL.copy D (T'.the_copy (named_lft 1 0 tt (κ, tt))) 𝓛).twice d (mach ∷ [])) $ split ! $ move ! (0 ∷ 2 ∷ []) $ fjoin ! $ frame ! $
+      -- [what the struct owns]: the other place takes the place of at
+      owned ! usize (Is usize) (uint_Makes 𝓛 w64) i _ (refl, fits) $ move ! (1 ∷ 0 ∷ []) $ by ! (own_put 𝓛 D L 1 vd i mach)
+
+  module _ (C : Calls 𝓤 H) (Λ : Loops 𝓤 H) where
+    walk : Holds (has_ty (T'.mir (named 0)) mach) × WT mach → i < 2 ^ 64
+        → ent 𝓤 (on_entry 𝓛 moved.signature (κ, tt) (q, tt) (d, (i, tt)) at) (WpFn 𝓤 H C Λ code.function (mach ∷ vint w64 i ∷ []) Post)
+    walk wt fits =
+        qed 𝓛 (raw (on_entry 𝓛 moved.signature (κ, tt) (q, tt) (d, (i, tt)) at) ∷ []) ∵ enter ! C Λ code.function (mach ∷ vint w64 i ∷ []) _ $
+        alloc1 ! (λ l₀. alloc1 ! (λ l₁. alloc1 ! (λ l₂. alloc1 ! (λ l₃. alloc0 ! $ params1 ! $ pass1 ! (init ! 4 refl wt) $ pass1 ! (init ! 2 refl (tt, record { fits = fits })) $ pass0 ! $
+        assigns ! (of_opd ! (load ! (from ! (fld ! refl (stop !))) (look_in ! 4 (sub ! 0 refl (whole !))))) (from ! (stop !)) (init ! 0 refl (tt, wt.1.0)) $
+        assigns ! (agg ! (and_then ! (load ! (from ! (stop !)) (look ! 0 refl)) (and_then ! (load ! (from ! (stop !)) (look ! 2 refl)) (no_more !)))) (from ! (stop !)) (init ! 6 refl (tt, (wt.1.0, (record { fits = fits }, tt)))) $
+        returns ! (look ! 6 refl) $ forget ! 0 refl $ forget ! 2 refl $ forget ! 4 refl $ forget ! 6 refl $
+        move ! (6 ∷ 7 ∷ []) $ free1 ! $ move ! (4 ∷ 5 ∷ []) $ free1 ! $ move ! (2 ∷ 3 ∷ []) $ free1 ! $ free1 ! $ free0 ! $ by ! (exits fits)))))
+
+module _ {M : Type 1} {𝓤 : Ura M} (𝓛 : Logic 𝓤) (mem : Memory → SProp 𝓤) (run : Routine → Fun 𝓤) where
+  open 𝓛 use {H}
+
+  moved_walks : (C : Calls 𝓤 H) (Λ : Loops 𝓤 H) → Walks 𝓛 moved.ended stayed (WpFn 𝓤 H C Λ code.function) (moved.clauses 𝓛 mem run)
+  moved_walks C Λ = walked 𝓛 moved.ended stayed (moved.clauses 𝓛 mem run) (WpFn 𝓤 H C Λ code.function) (λ κs. (LL.vals (T.the_type (named_lft 1 0 tt κs)) (T'.the_laws (named_lft 1 0 tt κs)), (uint_vals w64, tt))) (λ κs. (LL.tells (T.the_type (named_lft 1 0 tt κs)) (T'.the_laws (named_lft 1 0 tt κs)), (uint_Tells w64, tt)))
+      (λ κs qs bounds a g are. via 𝓤 _ (fst∗ 𝓤 _ (emp 𝓤)) (walk 𝓛 mem run κs.0 qs.0 a.0 a.1.0 C Λ ((LL.lawful (T.the_type (named_lft 1 0 tt κs)) (T'.the_laws (named_lft 1 0 tt κs)) 𝓛).typed a.0 _ are.0).0 are.1.0.1))
+
+  goes : AllGo 𝓛 1 (moved.signature).params (moved.ended).kept stayed
+  goes = (Goes-none 𝓛 1 B yes (λ κs x f. refl), (Goes-none 𝓛 1 (λ _. usize) yes (λ κs x f. refl), tt))
+
+moved_meets : {M : Type 1} {𝓤 : Ura M} (𝓛 : Logic 𝓤) → (mem : Memory → SProp 𝓤) (run : Routine → Fun 𝓤) (𝓣 : Tables 𝓤 𝓛.H)
+    → Meets 𝓛 moved.signature (WpFn 𝓤 𝓛.H 𝓣.C 𝓣.Λ code.function) (moved.spec 𝓛 mem run)
+moved_meets {𝓤 = 𝓤} 𝓛 mem run 𝓣 = walk_Meets 𝓛 moved.ended stayed (goes 𝓛 mem run) (moved.clauses 𝓛 mem run) (WpFn 𝓤 𝓛.H 𝓣.C 𝓣.Λ code.function) (WpFn-mono 𝓤 𝓛.H 𝓛.laws 𝓣 code.function)
+    (moved_walks 𝓛 mem run 𝓣.C 𝓣.Λ)
+
+pub moved-spec : {M : Type 1} → stated.statement M
+unfolding code.routine tables_of
+moved-spec 𝓤 𝓛 𝓜 𝓡 =
+    entered 𝓤 𝓛.H (triple_of 𝓛 moved.signature (moved.spec 𝓛 𝓜.mem 𝓡.run))
+    (tables 𝓤 𝓛.H 𝓜 𝓡 code.env).C (tables 𝓤 𝓛.H 𝓜 𝓡 code.env).Λ #records·Reader·moved code.function (code.unfolded 𝓤 𝓛.H 𝓜 𝓡)
+    (moved_meets 𝓛 𝓜.mem 𝓡.run (tables_of 𝓤 𝓛.H 𝓜 (tables 𝓤 𝓛.H 𝓜 𝓡 code.env)))

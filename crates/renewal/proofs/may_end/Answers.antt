@@ -1,0 +1,6 @@
+-- `may_end` meets its contract.
+use borrow.Author.Rules.{rules}
+use Rattle.renewal.proofs.may_end.Goals as goal
+
+pub returns : goal.returns
+returns c = rw c.if-begun.false

@@ -1,0 +1,2 @@
+-- A law about a block that is told.
+pub mod Laws

@@ -1,0 +1,6 @@
+-- `is_empty` meets its contract.
+use borrow.Author.Rules.{rules}
+use Rattle.rounds.proofs.parts.is_empty.Goals as goal
+
+pub returns : goal.returns
+returns c = cc

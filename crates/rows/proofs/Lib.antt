@@ -1,0 +1,7 @@
+pub mod Fits
+pub mod Reading
+pub mod Settling
+pub mod Slots
+pub mod Adding
+pub mod Lending
+pub mod Paid

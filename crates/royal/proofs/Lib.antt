@@ -1,0 +1,3 @@
+-- Laws of the royal flush.
+pub mod Laws
+pub mod Once

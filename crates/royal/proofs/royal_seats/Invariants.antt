@@ -1,0 +1,19 @@
+-- The invariant: what is counted so far and what the rest counts make the whole count. Assumes nothing.
+use borrow.Author.Rules.{rules}
+use mathlib.Core.Path.{◌≡◌, ap, ◌∙◌}
+use Prim.Native.Nat.{◌+◌, ◌-◌, ◌≤◌}
+use native.Mathlib.Omega.{arith}
+use lib.ListN.{length, drop}
+use Rattle.laws.specs.Tests.{one}
+use Rattle.chairs.specs.Chairs.{count_of}
+use Rattle.chairs.proofs.Laws.{unread, count_step}
+use Rattle.royal.specs.Royal.{holds_royal, royal_seats}
+use Rattle.royal.proofs.Laws.{count_done}
+use Rattle.royal.proofs.Once.{one_most}
+use Rattle.royal.proofs.royal_seats.Given as goal
+
+abbrev pub invariant-loop-i : goal.invariant-loop-i
+invariant-loop-i l = (l.i ≤ 10) × (l.n ≤ l.i) × (l.n + count_of (holds_royal l.game l.b) (drop l.i l.cs) ≡ count_of (holds_royal l.game l.b) l.cs)
+
+abbrev pub decreases-loop-i : goal.decreases-loop-i
+decreases-loop-i l = 10 - l.i

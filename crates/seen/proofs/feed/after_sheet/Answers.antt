@@ -1,0 +1,19 @@
+-- `after_sheet` meets its contract: the sheet is bad, or lays the table.
+use mathlib.Core.Path.{sym, ap, ◌∙◌}
+use Rattle.desk.proofs.Opened.{opened_is}
+use Rattle.seen.specs.Seen.{opened_by, after_sheet}
+use borrow.Author.Rules.{rules}
+use Rattle.seen.proofs.feed.after_sheet.Goals as goal
+
+pub good_sheet-requires : goal.good_sheet-requires
+good_sheet-requires c = opened_is c.args.block.now _ (sym c.read_lone_sheet.ensures ∙ c.in-Read.is)
+
+pub returns-in-Bad : goal.returns-in-Bad
+unfolding after_sheet
+returns-in-Bad c = let e = sym c.read_lone_sheet.ensures ∙ c.in-Bad.is in
+    (c.bad_sheet.ensures.0 ∙ sym (ap (opened_by c.args.s) e), c.bad_sheet.ensures.1)
+
+pub returns-in-Read : goal.returns-in-Read
+unfolding after_sheet
+returns-in-Read c = let e = sym c.read_lone_sheet.ensures ∙ c.in-Read.is in
+    (c.good_sheet.ensures.0 ∙ sym (ap (opened_by c.args.s) e), c.good_sheet.ensures.1)

@@ -1,0 +1,11 @@
+-- `good_sheet` meets its contract.
+use mathlib.Core.Path.{ap}
+use native.Mathlib.Omega.{arith}
+use Rattle.lines.specs.declared.Fill.{Fill}
+use borrow.Author.Rules.{rules}
+use Rattle.seen.proofs.feed.good_sheet.Goals as goal
+
+pub returns : goal.returns
+returns c = let z = c.empty-z.ensures in
+    let t = c.new_table-t.ensures in
+    (rw (c.start-o.ensures, z.0, t.0), record { sound = t.1; room = z.1; lines = omega (arith, ap (λ (m : Fill). m.lines) z.0) })

@@ -1,0 +1,6 @@
+-- `start` meets its contract.
+use borrow.Author.Rules.{rules}
+use Rattle.seen.proofs.told.start.Goals as goal
+
+pub returns : goal.returns
+returns c = rw c.no_payout-none.ensures

@@ -1,0 +1,2 @@
+-- The bands of the picture.
+pub mod Drawing

@@ -1,0 +1,19 @@
+-- `whole_sheet` meets its contract: the sheet is bad, or opens the table.
+use Rattle.desk.proofs.Opened.{opened_is}
+use mathlib.Core.Path.{sym, ◌∙◌}
+use Rattle.stream.proofs.Steps.{bad_gave, read_gave}
+use borrow.Author.Rules.{rules}
+use Rattle.stream.proofs.whole_sheet.Goals as goal
+
+pub new_table-requires : goal.new_table-requires
+new_table-requires c = opened_is c.args.block.now _ (sym c.read_lone_sheet.ensures ∙ c.in-Read.is)
+
+pub returns-in-Bad : goal.returns-in-Bad
+returns-in-Bad c =
+    let s = c in
+    bad_gave s.args.t s.args.block.now s.args.out.now c.read_lone_sheet.ensures c.in-Bad.is c.refuse_sheet.ensures c.empty-z.ensures.0 s.requires
+
+pub returns-in-Read : goal.returns-in-Read
+returns-in-Read c =
+    let s = c in
+    read_gave s.args.t s.args.block.now s.args.out.now c.read_lone_sheet.ensures c.in-Read.is c.new_table.ensures c.empty-z.ensures.0

@@ -1,0 +1,16 @@
+pub mod Laws
+pub mod Turns
+pub mod Numbers
+pub mod Sounds
+pub mod Codes
+pub mod ChairsOk
+pub mod Closing
+pub mod InTurn
+pub mod Standing
+pub mod Reached
+pub mod Blinds
+pub mod Chips
+pub mod Refusals
+pub mod Arms
+pub mod Acts
+pub mod Taking

@@ -1,0 +1,6 @@
+-- `lift_after` meets its contract.
+use borrow.Author.Rules.{rules}
+use Rattle.table.proofs.betting.lift_after.Goals as goal
+
+pub returns : goal.returns
+returns c = rw (c.is_full_lift.ensures, c.short_of-rise.ensures) at c.chosen.ensures

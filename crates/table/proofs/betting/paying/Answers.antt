@@ -1,0 +1,6 @@
+-- `paying` meets its contract.
+use borrow.Author.Rules.{rules}
+use Rattle.table.proofs.betting.paying.Goals as goal
+
+pub returns : goal.returns
+returns c = rw (c.paid.ensures, c.short_of-put.ensures, c.round_of.ensures) at c.acting.ensures

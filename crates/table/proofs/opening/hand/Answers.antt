@@ -1,0 +1,15 @@
+-- `hand` meets its contract.
+use Rattle.table.proofs.Arms.{refused_by, applied_by}
+use Rattle.paper.specs.declared.Entry.TheVariants.{Hand}
+use mathlib.Core.Path.{sym, ◌∙◌}
+use borrow.Author.Rules.{rules}
+use Rattle.table.proofs.opening.hand.Goals as goal
+
+pub returns-then-k-ne-TAKEN : goal.returns-then-k-ne-TAKEN
+returns-then-k-ne-TAKEN c = refused_by c.args.t (Hand c.args.s) _ _ c.hand_code-k.ensures c.if-k-ne-TAKEN.true c.judged.ensures
+
+pub opened-requires : goal.opened-requires
+opened-requires c = (c.requires.0.payable.chips, c.requires.0.standing, c.requires.1, sym c.hand_code-k.ensures ∙ c.if-k-ne-TAKEN.false)
+
+pub returns : goal.returns
+returns c = applied_by c.args.t (Hand c.args.s) _ _ c.hand_code-k.ensures c.if-k-ne-TAKEN.false c.judged-2.ensures.0 (c.judged-2.ensures.1 ∙ c.opened.ensures) c.judged-2.ensures.2

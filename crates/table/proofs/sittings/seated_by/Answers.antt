@@ -1,0 +1,6 @@
+-- `seated_by` meets its contract.
+use borrow.Author.Rules.{rules}
+use Rattle.table.proofs.sittings.seated_by.Goals as goal
+
+pub returns-then-ok : goal.returns-then-ok
+returns-then-ok c = rw c.if-ok.true c.seated.ensures

@@ -1,0 +1,6 @@
+-- `with_chair` meets its contract.
+use borrow.Author.Rules.{rules}
+use Rattle.table.proofs.table.with_chair.Goals as goal
+
+pub returns : goal.returns
+returns c = rw c.put_chair-ds.ensures at c.with_chairs.ensures

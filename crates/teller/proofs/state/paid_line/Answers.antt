@@ -1,0 +1,7 @@
+-- `teller::state::paid_line` meets its contract: a `paid` line. Assumes nothing.
+use mathlib.Core.Path.{refl}
+use borrow.Author.Rules.{rules}
+use Rattle.teller.proofs.state.paid_line.Goals as goal
+
+pub returns : goal.returns
+returns c = rw (c.now_bad.ensures, c.one_more.ensures, c.put_number-paid.ensures) refl

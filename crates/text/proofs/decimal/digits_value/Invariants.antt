@@ -1,0 +1,16 @@
+-- `digits_value` meets its contract: what is left, behind the value so far, is what the whole is.
+use borrow.Author.Rules.{rules}
+use mathlib.Core.Path.{◌≡◌, refl, sym, ◌∙◌}
+use Prim.Native.Nat.{◌-◌, ◌≤◌, ◌<◌, ◌^◌}
+use native.Mathlib.Numerals.{add-one}
+use lib.ListN.{length, drop}
+use Rattle.text.specs.Number.{digits_from}
+use Rattle.text.proofs.Numbers.{digits_stop, digits_on, digits_end, step_below, room}
+use native.Mathlib.Omega.{arith}
+use Rattle.text.proofs.decimal.digits_value.Given as goal
+
+abbrev pub invariant-loop-i : goal.invariant-loop-i
+invariant-loop-i l = (l.i ≤ length l.part) × (l.v < 10 ^ l.i) × (digits_from l.v (drop l.i l.part) ≡ digits_from 0 l.part)
+
+abbrev pub decreases-loop-i : goal.decreases-loop-i
+decreases-loop-i l = length l.part - l.i

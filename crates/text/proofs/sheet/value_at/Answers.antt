@@ -1,0 +1,7 @@
+-- `value_at` meets its contract.
+use borrow.Author.Rules.{rules}
+use Rattle.text.proofs.sheet.value_at.Goals as goal
+
+pub returns : goal.returns
+returns c =
+    cc

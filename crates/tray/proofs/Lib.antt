@@ -1,0 +1,5 @@
+pub mod Sums
+pub mod Front
+pub mod Within
+pub mod Judging
+pub mod Accepts

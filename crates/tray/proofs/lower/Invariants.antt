@@ -1,0 +1,16 @@
+-- `lower` meets its contract. The invariant: the counts of the rows below i are lowered.
+-- Assumes nothing.
+use Prim.Native.Nat.{◌≤◌, ◌-◌}
+use mathlib.Core.Path.{◌≡◌, refl, ap, ◌∙◌}
+use native.Mathlib.Omega.{arith}
+use lib.ListN.{length, get_or}
+use Rattle.tray.specs.Proposal.{taken_from}
+use Rattle.tray.proofs.Front.{front_by, front_long, each_turn, each_done}
+use borrow.Author.Rules.{rules}
+use Rattle.tray.proofs.lower.Given as goal
+
+abbrev pub invariant-loop-i : goal.invariant-loop-i
+invariant-loop-i l = (l.i ≤ length l.initial.counts) × (l.counts ≡ front_by l.i (λ k n. n - taken_from (length l.initial.counts) l.sittings l.p k) l.initial.counts)
+
+abbrev pub decreases-loop-i : goal.decreases-loop-i
+decreases-loop-i l = length l.initial.counts - l.i

@@ -1,0 +1,16 @@
+-- `taken_from` meets its contract. The invariant: the sum of the sittings below s, which is small.
+-- Assumes nothing.
+use Rattle.tray.proofs.Sums.{sum_turn, sum_done}
+use Rattle.tray.specs.Proposal.{given, taken_from}
+use Rattle.tray.specs.Counting.{sum_to}
+use native.Mathlib.Omega.{arith}
+use mathlib.Core.Path.{◌≡◌, refl, ◌∙◌}
+use Prim.Native.Nat.{◌*◌, ◌≤◌, ◌-◌}
+use borrow.Author.Rules.{rules}
+use Rattle.tray.proofs.taken_from.Given as goal
+
+abbrev pub invariant-loop-s : goal.invariant-loop-s
+invariant-loop-s l = (l.s ≤ l.sittings) × (l.sum ≤ l.s * 4294967295) × (l.sum ≡ sum_to l.s (λ k. given l.rows l.p k l.i))
+
+abbrev pub decreases-loop-s : goal.decreases-loop-s
+decreases-loop-s l = l.sittings - l.s

@@ -1,0 +1,16 @@
+-- `hear_part` meets its contract.
+use mathlib.Core.Path.{ap, ◌≡◌, refl}
+use Rattle.text.proofs.Parts.{part_is}
+use Rattle.stream.specs.Feeding.{Held}
+use lib.ListN.{length, length-drop}
+use native.Mathlib.Omega.{arith}
+use Prim.Native.Nat.{◌-◌, ◌≤◌}
+use borrow.Author.Rules.{rules}
+use Rattle.try_chops.proofs.served.hear_part.Given as goal
+
+-- `hear_part` meets its contract: what is kept has its bounds, and each call uses up a byte at least.
+abbrev pub invariant-loop-buf : goal.invariant-loop-buf
+invariant-loop-buf l = (length l.buf ≡ length l.initial.buf) × (length l.trace ≡ length l.initial.trace) × Held l.clerk × (l.at ≤ length l.initial.trace) × (l.used ≤ length l.part)
+
+abbrev pub decreases-loop-buf : goal.decreases-loop-buf
+decreases-loop-buf l = length l.part - l.used

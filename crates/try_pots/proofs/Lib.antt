@@ -1,0 +1,3 @@
+-- Laws for the program.
+pub mod Scanned
+pub mod Made

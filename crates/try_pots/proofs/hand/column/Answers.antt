@@ -1,0 +1,21 @@
+-- `column` meets its contract. The invariant: in front of the place the numbers are written, behind it they are still to come.
+-- Assumes nothing.
+use Rattle.try_pots.proofs.Made.{listed_turn, listed_done}
+use Rattle.try_pots.specs.MadeHands.{listed, number_for, column_of}
+use borrow.Author.Rules.{rules}
+use native.Mathlib.Omega.{arith}
+use lib.ListN.{length, take, length-set}
+use Prim.Native.Nat.{◌≤◌, ◌-◌}
+use mathlib.Core.List.{◌++◌}
+use mathlib.Core.Path.{◌≡◌, refl}
+use Rattle.try_pots.proofs.hand.column.Goals as goal
+
+pub loop-i-init : goal.loop-i-init
+unfolding column_of
+loop-i-init c = (omega arith, refl, refl)
+
+pub loop-i-preserved : goal.loop-i-preserved
+loop-i-preserved c = (omega arith, simp length-set c.loop-i.invariant.1, listed_turn _ 10 c.loop-i.i _ c.loop-i.a _ (omega arith) (omega arith) c.number_for.ensures c.loop-i.invariant.2)
+
+pub returns : goal.returns
+returns c = listed_done _ 10 c.loop-i.i c.loop-i.a _ (omega arith) (omega arith) c.loop-i.invariant.2

@@ -1,0 +1,16 @@
+-- `sum` meets its contract. The invariant: s is the sum of the numbers from place i on, each of 32 bits.
+-- Assumes nothing.
+use Prim.Native.Nat.{◌+◌, ◌*◌, ◌≤◌}
+use mathlib.Core.Path.{◌≡◌, sym, ◌∙◌}
+use native.Mathlib.Omega.{arith}
+use borrow.Author.Rules.{rules}
+use lib.ListN.{drop}
+use Rattle.laws.specs.Lists.{sum_of}
+use Rattle.laws.proofs.Places.{last_start, last_turn, last_done}
+use Rattle.try_pots.proofs.hand.sum.Given as goal
+
+abbrev pub invariant-loop-i : goal.invariant-loop-i
+invariant-loop-i l = (l.i ≤ 10) × (l.s ≡ sum_of (drop l.i l.xs)) × (l.s + 4294967295 * l.i ≤ 42949672950)
+
+abbrev pub decreases-loop-i : goal.decreases-loop-i
+decreases-loop-i l = l.i

@@ -1,0 +1,14 @@
+-- `show` meets its contract: what is seen between two blocks has its bounds.
+use mathlib.Core.Path.{◌≡◌, refl}
+use Prim.Native.Nat.{◌-◌, ◌≤◌}
+use lib.ListN.{length}
+use native.Mathlib.Omega.{arith}
+use borrow.Author.Rules.{rules}
+use Rattle.seen.specs.Seen.{Held}
+use Rattle.view.proofs.show.Given as goal
+
+abbrev pub invariant-loop-from : goal.invariant-loop-from
+invariant-loop-from l = (length l.buf ≡ length l.initial.buf) × (length l.out ≡ 2300) × Held l.seen × (l.from ≤ length l.part)
+
+abbrev pub decreases-loop-from : goal.decreases-loop-from
+decreases-loop-from l = length l.part - l.from

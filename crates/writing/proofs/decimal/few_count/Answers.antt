@@ -1,0 +1,11 @@
+-- `few_count` meets its contract: one digit below ten, two above.
+use mathlib.Core.Path.{refl}
+use native.Mathlib.Omega.{arith}
+use borrow.Author.Tests.{le-ltb, lt-ltb}
+use Rattle.writing.proofs.decimal.few_count.Goals as goal
+
+pub returns-then-n-lt10 : goal.returns-then-n-lt10
+returns-then-n-lt10 c = (rw (lt-ltb c.args.n 10 c.if-n-lt10.true) refl, omega arith)
+
+pub returns-else-n-lt10 : goal.returns-else-n-lt10
+returns-else-n-lt10 c = (rw (le-ltb c.args.n 10 c.if-n-lt10.false) refl, omega arith)
