@@ -53,21 +53,44 @@ class Function:
         if not parts or place is None:
             return place, parts
         head = norm(parts[0])
-        arm = self.arm.get(place)
-        if arm:
-            best = None
-            for field, step, path in arm[2]:
+        at = place
+        while at:
+            arm, best = self.arm.get(at), None
+            for field, step, path in (arm[2] if arm else []):
                 if norm(step) == head and [norm(x) for x in path] == [norm(x) for x in parts[1:1 + len(path)]]:
                     if best is None or len(path) > len(best[1]):
                         best = (field, path)
             if best:
-                return place, [arm[0], best[0]] + parts[1 + len(best[1]):]
+                return at, [arm[0], best[0]] + parts[1 + len(best[1]):]
+            if head == self.old_step.get(at) or head in ("args", "requires", "ranges", "auto", "type-inv"):
+                break
+            at = self.parent.get(at)
         if head == "args" and len(parts) > 1:
             return place, ["args", self.args.get(parts[1], parts[1])] + parts[2:]
+        # a place that only the older Rattle had on the way: the step is found further up
+        above = place
+        while above and head not in ("args", "requires", "ranges", "auto", "type-inv") and head != self.old_step.get(above):
+            above = self.parent.get(above)
+        if not above and re.search(r"\d$", head) and head not in self.old_step.values():
+            # older Rattle counted a step behind a variable of the same name
+            head, above = re.sub(r"\d+$", "", head), place
+            while above and head != self.old_step.get(above):
+                above = self.parent.get(above)
+        if above and head == self.old_step.get(above):
+            place = above
         if head == self.old_step.get(place) and self.step[place]:
             new = [self.step[place]] + parts[1:]
-            fields = self.clause.get(place)
-            if fields and len(new) > 1 and new[1] == "ensures":
+            return place, self.by_label(new, self.clause.get(place))
+        return place, parts
+
+    @staticmethod
+    def by_label(new, fields):
+        """A chain STEP.ensures.. of a call whose ensures have the names fields: by the name, and all at once nested to the right."""
+        if fields and len(new) > 1:
+            if new[1:] == ["ensures"]:
+                # all clauses at once, as a lemma takes them: nested to the right
+                return ["(" + ", (".join(f"\x00.{new[0]}.ensures.{f}" for f in fields[:-1]) + f", \x00.{new[0]}.ensures.{fields[-1]}" + ")" * (len(fields) - 1)]
+            if new[1] == "ensures":
                 k, rest = 0, new[2:]
                 while k < len(fields) - 1 and rest and rest[0] == "1":
                     k, rest = k + 1, rest[1:]
@@ -76,18 +99,20 @@ class Function:
                     new = [new[0], "ensures", fields[k]] + rest
                 elif k == len(fields) - 1:
                     new = [new[0], "ensures", fields[k]] + rest
-            return place, new
-        return place, parts
+        return new
 
     def body(self, text, place, context="c", goal=None):
         """The text of an answer, with what it cites of the context c under today's names. A whole context that is handed on is the record of
         its place: behind a goal `(goal.at.GOAL c).PLACE`, in a lemma over a place what the field `before` has."""
-        scope, bags = {context: place}, set()
+        scope, bags, steps = {context: place}, set(), {}
 
         def turn(m):
             head, parts = m[1], [p for p in m[2].split(".") if p]
             if head in bags and parts and parts[0] in self.args:
                 return ".".join([head, self.args[parts[0]]] + parts[1:])
+            if head in steps and parts:
+                new = self.by_label([head] + parts, steps[head])
+                return new[0].replace("\x00.", "") if new[0].startswith("(") else ".".join(new)
             if head not in scope:
                 return m[0]
             at, new = self.turned(scope[head], parts)
@@ -102,6 +127,12 @@ class Function:
                     return m[0]
                 self.cited.add(self.place_name.get(at, at))
                 return f"(goal.at.{goal} {context}).{self.place_name.get(at, at)}" if goal else m[0]
+            if new and new[0].startswith("("):
+                return new[0].replace("\x00", head)
+            if len(new) == 1 and bound and new[0] in self.step.values():
+                owner = next((p for p in self.step if self.step[p] == new[0] and self.clause.get(p)), None)
+                if owner:
+                    steps[bound[1]] = self.clause[owner]
             if new == ["args"] and bound:
                 bags.add(bound[1])
             return ".".join([head] + new)
@@ -217,11 +248,11 @@ def by_clause(names, text):
                 break
             k -= 1
         before = lines[:k].rstrip()
-        if before.endswith("=") or re.search(r"\bin$", before):
+        if before.endswith("=") or re.search(r"\sin$", before):
             fields = in_record(names, lines[k:])
             if fields:
                 return lines[:k] + "record { " + "; ".join(f"{n} = {e}" for n, e in fields) + " }"
-    m = re.search(r"(?:(?<=\bin)\s+|=\s+)((?:(?!\bin\b)[^=]|(?<=[^\s])=)*)$", lines)
+    m = re.search(r"(?:(?<=\sin)\s+|=\s+)((?:(?!\sin\s)[^=]|(?<=[^\s])=)*)$", lines)
     if m:
         chain = ["r" + ".1" * k + (".0" if k < len(names) - 1 else "") for k in range(len(names))]
         return lines[:m.start(1)] + "let r = " + m[1].strip() + " in record { " + "; ".join(f"{n} = {e}" for n, e in zip(names, chain)) + " }"

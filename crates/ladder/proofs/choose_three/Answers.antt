@@ -11,7 +11,7 @@ pub overflow_mul-result-then-n-lt13 : goal.overflow_mul-result-then-n-lt13
 overflow_mul-result-then-n-lt13 c = omega (arith, two_fits c.args.n c.if-n-lt13.true c.short_of.ensures c.short_of-then-n-lt13.ensures)
 
 pub returns-then-n-lt13 : goal.returns-then-n-lt13
-returns-then-n-lt13 c = three-in let r = c.args.n c.if-n-lt13.true c.short_of.ensures c.short_of-then-n-lt13.ensures in record { is = r.0; small = r.1 }
+returns-then-n-lt13 c = let r = three-in c.args.n c.if-n-lt13.true c.short_of.ensures c.short_of-then-n-lt13.ensures in record { is = r.0; small = r.1 }
 
 pub returns : goal.returns
 returns c = let r = choose_out c.args.n 3 c.if-n-lt13.false in record { is = r.0; small = r.1 }

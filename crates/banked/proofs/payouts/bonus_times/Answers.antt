@@ -9,7 +9,7 @@ use Rattle.banked.proofs.payouts.bonus_times.Goals as goal
 
 pub returns-then-k-lt9 : goal.returns-then-k-lt9
 unfolding bonus_times
-returns-then-k-lt9 c = (refl, bonus_most _ c.if1.true)
+returns-then-k-lt9 c = (refl, bonus_most _ c.if-k-lt9.true)
 
 pub returns-else-k-lt9 : goal.returns-else-k-lt9
 unfolding bonus_times

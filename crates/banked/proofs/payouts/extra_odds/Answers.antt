@@ -14,7 +14,7 @@ returns-then-both c = (rw (sym c.both.ensures ∙ c.if-both.true), omega arith)
 
 pub returns-then-k-lt9 : goal.returns-then-k-lt9
 unfolding extra_odds is_royal
-returns-then-k-lt9 c = (rw (sym c.both.ensures ∙ c.if1.false), extra_most _ c.if2.true)
+returns-then-k-lt9 c = (rw (sym c.both.ensures ∙ c.if-both.false), extra_most _ c.if-k-lt9.true)
 
 pub returns-else-k-lt9 : goal.returns-else-k-lt9
 unfolding extra_odds is_royal

@@ -13,5 +13,5 @@ returns c =
     let p = c.less-p in
     let q = c.less in
     five_are a.class 15 (ranks_in a.m) (ranks_in n.result) (ranks_in o.result) (ranks_in p.result) (ranks_in q.result) _ _ _ _ _ (ranks_drop a.m)
-    (c.top-a.ensures.is, n.ensures.0) (c.top-b.ensures.is, o.ensures.0) (c.top-c.ensures.is, p.ensures.0) (c.top-d.ensures.is, q.ensures.0)
+    (c.top-a.ensures.is, n.ensures.are) (c.top-b.ensures.is, o.ensures.are) (c.top-c.ensures.is, p.ensures.are) (c.top-d.ensures.is, q.ensures.are)
     c.top.ensures.is

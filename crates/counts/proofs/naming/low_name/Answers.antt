@@ -13,7 +13,7 @@ returns-then-t-gt0 c =
     let t = c.top-t in
     let p = c.top-p in
     let q = c.top-q in
-    low_three (shown a) _ t.result p.result q.result t.ensures.0 p.ensures.0 (q.ensures.0 ∙ ap highest c.less.ensures.are) c.if-t-gt0.true c.three_hand.ensures
+    low_three (shown a) _ t.result p.result q.result t.ensures.is p.ensures.is (q.ensures.is ∙ ap highest c.less.ensures.are) c.if-t-gt0.true c.three_hand.ensures
 
 pub returns-then-q-gt0 : goal.returns-then-q-gt0
 unfolding shown
@@ -22,7 +22,7 @@ returns-then-q-gt0 c =
     let t = c.top-t in
     let p = c.top-p in
     let q = c.top-q in
-    low-two-pair (shown a) _ t.result p.result q.result t.ensures.0 p.ensures.0 (q.ensures.0 ∙ ap highest c.less.ensures.are) c.if-t-gt0.false c.if-q-gt0.true c.two_pair_hand.ensures
+    low-two-pair (shown a) _ t.result p.result q.result t.ensures.is p.ensures.is (q.ensures.is ∙ ap highest c.less.ensures.are) c.if-t-gt0.false c.if-q-gt0.true c.two_pair_hand.ensures
 
 pub returns-then-p-gt0 : goal.returns-then-p-gt0
 unfolding shown
@@ -31,7 +31,7 @@ returns-then-p-gt0 c =
     let t = c.top-t in
     let p = c.top-p in
     let q = c.top-q in
-    low-pair (shown a) _ t.result p.result q.result t.ensures.0 p.ensures.0 (q.ensures.0 ∙ ap highest c.less.ensures.are) c.if-t-gt0.false c.if-q-gt0.false c.if-p-gt0.true c.pair_hand.ensures
+    low-pair (shown a) _ t.result p.result q.result t.ensures.is p.ensures.is (q.ensures.is ∙ ap highest c.less.ensures.are) c.if-t-gt0.false c.if-q-gt0.false c.if-p-gt0.true c.pair_hand.ensures
 
 pub returns : goal.returns
 unfolding shown
@@ -40,4 +40,4 @@ returns c =
     let t = c.top-t in
     let p = c.top-p in
     let q = c.top-q in
-    low-odd (shown a) _ t.result p.result q.result t.ensures.0 p.ensures.0 (q.ensures.0 ∙ ap highest c.less.ensures.are) c.if-t-gt0.false c.if-q-gt0.false c.if-p-gt0.false c.five_highest.ensures
+    low-odd (shown a) _ t.result p.result q.result t.ensures.is p.ensures.is (q.ensures.is ∙ ap highest c.less.ensures.are) c.if-t-gt0.false c.if-q-gt0.false c.if-p-gt0.false c.five_highest.ensures

@@ -16,9 +16,9 @@ returns c =
     let a = c.args in
     let m = c.less-m in
     let n = c.less in
-    let others : ranks_in m.result ≡ leaving a.t (ranks_in a.once) = m.ensures.0 in
+    let others : ranks_in m.result ≡ leaving a.t (ranks_in a.once) = m.ensures.are in
     let drops : Drops 15 (ranks_in m.result) = ranks_drop m.result in
     let x : c.top-a.result ≡ get_or (leaving a.t (ranks_in a.once)) 0 0 = c.top-a.ensures.is ∙ ap (λ (l : List ℕ). get_or l 0 0) others in
     let y : c.top.result ≡ get_or (leaving a.t (ranks_in a.once)) 1 0 =
-    second_is 15 (ranks_in m.result) drops (ranks_in n.result) _ _ (c.top-a.ensures.is, n.ensures.0) c.top.ensures.is ∙ ap (λ (l : List ℕ). get_or l 1 0) others in
+    second_is 15 (ranks_in m.result) drops (ranks_in n.result) _ _ (c.top-a.ensures.is, n.ensures.are) c.top.ensures.is ∙ ap (λ (l : List ℕ). get_or l 1 0) others in
     λ i. record { class = 5; r1 = a.t; r2 = a.t; r3 = a.t; r4 = x i; r5 = y i }
