@@ -47,4 +47,4 @@ overflow_add-result c = omega (arith, payout_count c.args.p)
 
 pub returns : goal.returns
 unfolding payout_bytes
-returns c = then (then (then c.write-number-line.ensures c.put-jackpot.ensures) c.put-rows.ensures) c.write_number_line.ensures
+returns c = then (then (then c.write_number_line-a.ensures c.put_jackpot.ensures) c.put_rows.ensures) c.write_number_line.ensures

@@ -12,20 +12,20 @@ pub returns-then-s-eq0 : goal.returns-then-s-eq0
 returns-then-s-eq0 c = rw (row_none c.args.r c.if-s-eq0.true) (record { count = refl; sheet = refl })
 
 pub write_number_line-at-requires : goal.write_number_line-at-requires
-write_number_line-at-requires c = let r = c.args.r in omega (arith, ap length (row_some r c.if1.false) ∙ two_count key_sitting r.sitting key_paid r.paid)
+write_number_line-at-requires c = let r = c.args.r in omega (arith, ap length (row_some r c.if-s-eq0.false) ∙ two_count key_sitting r.sitting key_paid r.paid)
 
 pub slice_bounds-write_number_line-count : goal.slice_bounds-write_number_line-count
-slice_bounds-write_number_line-count c = let r = c.args.r in omega (arith, ap length (row_some r c.if1.false) ∙ two_count key_sitting r.sitting key_paid r.paid)
+slice_bounds-write_number_line-count c = let r = c.args.r in omega (arith, ap length (row_some r c.if-s-eq0.false) ∙ two_count key_sitting r.sitting key_paid r.paid)
 
 pub slice_bounds-write_number_line-start : goal.slice_bounds-write_number_line-start
-slice_bounds-write_number_line-start c = let r = c.args.r in omega (arith, ap length (row_some r c.if1.false) ∙ two_count key_sitting r.sitting key_paid r.paid)
+slice_bounds-write_number_line-start c = let r = c.args.r in omega (arith, ap length (row_some r c.if-s-eq0.false) ∙ two_count key_sitting r.sitting key_paid r.paid)
 
 pub write_number_line-requires : goal.write_number_line-requires
-write_number_line-requires c = let r = c.args.r in omega (arith, ap length (row_some r c.if1.false) ∙ two_count key_sitting r.sitting key_paid r.paid)
+write_number_line-requires c = let r = c.args.r in omega (arith, ap length (row_some r c.if-s-eq0.false) ∙ two_count key_sitting r.sitting key_paid r.paid)
 
 pub overflow_add-result : goal.overflow_add-result
-overflow_add-result c = let r = c.args.r in omega (arith, ap length (row_some r c.if1.false) ∙ two_count key_sitting r.sitting key_paid r.paid)
+overflow_add-result c = let r = c.args.r in omega (arith, ap length (row_some r c.if-s-eq0.false) ∙ two_count key_sitting r.sitting key_paid r.paid)
 
 pub returns : goal.returns
 unfolding two_bytes
-returns c = same_bytes (row_some c.args.r c.if1.false) (then c.write-number-line.ensures c.write_number_line.ensures)
+returns c = same_bytes (row_some c.args.r c.if-s-eq0.false) (then c.write_number_line-at.ensures c.write_number_line.ensures)

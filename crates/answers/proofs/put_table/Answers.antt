@@ -54,4 +54,4 @@ overflow_add-result c =
 pub returns : goal.returns
 unfolding table_bytes
 returns c =
-    then (then c.put-state.ensures c.put-pots.ensures) c.write_number_line.ensures
+    then (then c.put_state-a.ensures c.put_pots.ensures) c.write_number_line.ensures

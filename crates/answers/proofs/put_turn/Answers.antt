@@ -23,4 +23,4 @@ overflow_add-result c = let s = c in omega (arith, two_count key_turn s.args.tur
 
 pub returns : goal.returns
 unfolding two_bytes
-returns c = then c.write-number-line.ensures c.write_number_line.ensures
+returns c = then c.write_number_line-at.ensures c.write_number_line.ensures

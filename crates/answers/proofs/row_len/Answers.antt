@@ -17,4 +17,4 @@ overflow_add-result c =
 
 pub returns : goal.returns
 returns c =
-    omega (arith, ap length (row_some c.args.r c.if1.false), two_count key_sitting c.args.r.sitting key_paid c.args.r.paid)
+    omega (arith, ap length (row_some c.args.r c.if-s-eq0.false), two_count key_sitting c.args.r.sitting key_paid c.args.r.paid)

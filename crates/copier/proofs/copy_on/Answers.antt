@@ -64,7 +64,7 @@ loop-buf-smaller c = let g = c.loop-buf in
 
 pub loop-buf-preserved : goal.loop-buf-preserved
 loop-buf-preserved c = let g = c.loop-buf in
-    let f = c.feed-f.ensures in
+    let f = (c.feed-f.ensures.fed, (c.feed-f.ensures.used, c.feed-f.ensures.held)) in
     let t = goes_when g.used (length c.args.part.now) (length g.copy - g.at) (length g.notes - g.said) c.goes_on.ensures c.loop-buf-test.true in
     on_turn g.invariant f.0 f.1.1.0 (on_moves g.invariant t.0 f.1.1.2).0 f.1.1.1 f.1.1.3 f.1.1.4 refl c.copy-1.given.0 refl c.notes-1.given.0 (search rules)
 

@@ -11,7 +11,7 @@ gather-g-requires c = let h = c.requires in
 
 pub returns-then-n-want : goal.returns-then-n-want
 returns-then-n-want c = let s = c in
-    let g = c.gather-g.ensures in
+    let g = (c.gather-g.ensures.got, (c.gather-g.ensures.kept, c.gather-g.ensures.room)) in
     let w = c.lines_of-want.ensures in record { fed = fed_kept s.args.opened s.args.s s.args.count s.args.m s.requires.0 s.args.buf.now s.args.part.now s.args.copy.now s.args.notes.now _ w.0 g.0 g.1.0 c.if-n-want.true; used = used_is s.args.opened s.args.s s.args.count s.args.m s.requires.0 s.args.buf.now s.args.part.now s.args.copy.now s.args.notes.now _ w.0 g.0 g.1.0; held = (held_with s.args.opened s.args.s s.args.count s.args.m s.requires.0 _ g.1.1.0 (omega (arith, w.0, c.if-n-want.true)), g.1.1.1, g.1.1.2, omega arith, omega arith) }
 
 pub whole-t-requires : goal.whole-t-requires
@@ -21,4 +21,4 @@ pub returns : goal.returns
 returns c = let s = c in
     let g = c.gather.ensures in
     let l = c.lines_of.ensures in
-    let w = c.whole-t.ensures in record { fed = fed_whole s.args.opened s.args.s s.args.count s.args.m s.requires.0 s.args.buf.now s.args.part.now s.args.copy.now s.args.notes.now _ l.0 g.0 g.1.0 c.if1.false w.0; used = used_is s.args.opened s.args.s s.args.count s.args.m s.requires.0 s.args.buf.now s.args.part.now s.args.copy.now s.args.notes.now _ l.0 g.0 g.1.0; held = (w.1.0, g.1.1.1, g.1.1.2, w.1.1, w.1.2) }
+    let w = (c.whole-t.ensures.gave, c.whole-t.ensures.held) in record { fed = fed_whole s.args.opened s.args.s s.args.count s.args.m s.requires.0 s.args.buf.now s.args.part.now s.args.copy.now s.args.notes.now _ l.0 g.0 g.1.0 c.if1.false w.0; used = used_is s.args.opened s.args.s s.args.count s.args.m s.requires.0 s.args.buf.now s.args.part.now s.args.copy.now s.args.notes.now _ l.0 g.0 g.1.0; held = (w.1.0, g.1.1.1, g.1.1.2, w.1.1, w.1.2) }

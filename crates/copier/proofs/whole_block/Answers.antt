@@ -7,4 +7,4 @@ pub returns : goal.returns
 returns c = let s = c in
     let k = c.copy_block-k in
     let n = c.write_note-noted in
-    record { gave = block_gave s.args.s s.args.count s.args.block.now s.args.copy.now s.args.notes.now s.requires.0 s.requires.1 c.next_number-n.ensures.0 k.ensures.0 k.ensures.1.0 n.ensures.0 c.behind-d.ensures.0; held = (c.behind-d.ensures.1, k.ensures.1.1, n.ensures.1) }
+    record { gave = block_gave s.args.s s.args.count s.args.block.now s.args.copy.now s.args.notes.now s.requires.0 s.requires.1 c.next_number-n.ensures.0 k.ensures.answer k.ensures.bytes n.ensures.bytes c.behind-d.ensures.0; held = (c.behind-d.ensures.1, k.ensures.within, n.ensures.within) }

@@ -19,13 +19,13 @@ pub slice_bounds-write_number_line-start : goal.slice_bounds-write_number_line-s
 slice_bounds-write_number_line-start c = omega (arith, c.requires.1, c.write_number_line-a.ensures.count, line_most pool_key c.args.p.pool.held)
 
 pub write_number_line-requires : goal.write_number_line-requires
-write_number_line-requires c = (omega (arith, c.requires.0.house), omega (arith, c.requires.1, c.write-number-line.ensures.count, line_most pool_key c.args.p.pool.held, line_most house_key c.args.p.house))
+write_number_line-requires c = (omega (arith, c.requires.0.house), omega (arith, c.requires.1, c.write_number_line-a.ensures.count, line_most pool_key c.args.p.pool.held, line_most house_key c.args.p.house))
 
 pub overflow_add-result : goal.overflow_add-result
-overflow_add-result c = omega (arith, c.requires.1, c.write-number-line.ensures.count, c.write_number_line.ensures.count, line_most pool_key c.args.p.pool.held, line_most house_key c.args.p.house)
+overflow_add-result c = omega (arith, c.requires.1, c.write_number_line-a.ensures.count, c.write_number_line.ensures.count, line_most pool_key c.args.p.pool.held, line_most house_key c.args.p.house)
 
 pub returns-then-only-eq0 : goal.returns-then-only-eq0
-returns-then-only-eq0 c = last_both c.args.only c.args.p c.if1.false c.if2.true (then c.write-number-line.ensures c.write_number_line.ensures)
+returns-then-only-eq0 c = last_both c.args.only c.args.p c.if-p.false c.if-only-eq0.true (then c.write_number_line-a.ensures c.write_number_line.ensures)
 
 pub returns : goal.returns
 returns c = last_one c.args.only c.args.p c.if-p.false c.if-only-eq0.false

@@ -25,7 +25,7 @@ pub loop-from-preserved : goal.loop-from-preserved
 loop-from-preserved c = let s = c in
     let g = c.loop-from in
     let o = c.serve_one-s in
-    (search rules, search rules, search rules, o.ensures.1.0, o.ensures.1.2, hears_on s.args.c s.args.buf.now s.args.part.now g.from g.copier g.buf o.result.copier _ o.result.from g.invariant.5 o.ensures.0)
+    (search rules, search rules, search rules, o.ensures.held.0, o.ensures.held.2, hears_on s.args.c s.args.buf.now s.args.part.now g.from g.copier g.buf o.result.copier _ o.result.from g.invariant.5 o.ensures.heard)
 
 pub shape_of-buf : goal.shape_of-buf
 shape_of-buf c = c.loop-from.invariant.0

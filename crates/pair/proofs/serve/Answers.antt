@@ -35,10 +35,10 @@ loop-from-preserved c =
     let o = c.serve_one-s in (
       search rules,
       search rules,
-      o.ensures.1.0,
-      o.ensures.1.1,
-      o.ensures.1.3,
-      hears_on s.args.only s.args.p s.args.f s.args.buf.now s.args.part.now g.from g.pair g.frame g.buf o.result.pair o.result.frame _ o.result.from g.invariant.5 o.ensures.0,
+      o.ensures.held.0,
+      o.ensures.held.1,
+      o.ensures.held.3,
+      hears_on s.args.only s.args.p s.args.f s.args.buf.now s.args.part.now g.from g.pair g.frame g.buf o.result.pair o.result.frame _ o.result.from g.invariant.5 o.ensures.heard,
     )
 
 pub shape_of-buf : goal.shape_of-buf

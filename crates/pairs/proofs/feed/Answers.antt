@@ -14,4 +14,4 @@ returns c =
     let s = c in
     let hear = c.hear-on in
     let h = hear.ensures in
-    let t = c.take_piece-s.ensures in record { fed = fed_one s.args.only s.args.p s.args.f s.args.buf.now s.args.part.now s.args.out.now hear.result _ h.0 t.0; held = (t.1.0, h.1.0, h.1.1, h.1.2, t.1.1) }
+    let t = (c.take_piece-s.ensures.gave, c.take_piece-s.ensures.good) in record { fed = fed_one s.args.only s.args.p s.args.f s.args.buf.now s.args.part.now s.args.out.now hear.result _ h.0 t.0; held = (t.1.0, h.1.0, h.1.1, h.1.2, t.1.1) }

@@ -6,7 +6,7 @@ use borrow.Author.Rules.{rules}
 use Rattle.renewal.proofs.step_held.Goals as goal
 
 pub returns-then-b-eq61 : goal.returns-then-b-eq61
-returns-then-b-eq61 c = let r = block_begins c.args.n c.args.b c.if1.true c.put-missing.ensures.0 c.put-missing.ensures.1 c.put_bytes-w.ensures in record { gave = r.0; held = r.1 }
+returns-then-b-eq61 c = let r = block_begins c.args.n c.args.b c.if-b-eq61.true c.put_missing-a.ensures.0 c.put_missing-a.ensures.1 c.put_bytes-w.ensures in record { gave = r.0; held = r.1 }
 
 pub bounds-out-1 : goal.bounds-out-1
 bounds-out-1 c = simp length-set (omega (arith, c.requires.1, most_is))

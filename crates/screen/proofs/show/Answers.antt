@@ -32,7 +32,7 @@ loop-from-preserved c =
     let s = c in
     let g = c.loop-from in
     let o = c.show_one-d in
-    (search rules, search rules, o.ensures.1.0, o.ensures.1.2, draws_on s.args.colour s.args.s s.args.buf.now s.args.part.now g.from g.screen g.buf o.result.screen _ o.result.from g.invariant.4 o.ensures.0)
+    (search rules, search rules, o.ensures.held.0, o.ensures.held.2, draws_on s.args.colour s.args.s s.args.buf.now s.args.part.now g.from g.screen g.buf o.result.screen _ o.result.from g.invariant.4 o.ensures.drawn)
 
 pub shape_of-buf : goal.shape_of-buf
 shape_of-buf c = c.loop-from.invariant.0

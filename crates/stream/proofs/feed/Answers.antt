@@ -21,10 +21,10 @@ returns-then-awaits_block c =
     let s = c in
     let f = c.feed_awaiting in
     let o = (awaits_is s.args.c.opened s.args.c.fill (sym c.awaits_block.ensures ∙ c.if-awaits_block.true)).0 in
-    let q = clerk_is s.args.c true c.if-c.false o in record { fed = fed_as q f.ensures.0; used = used_as s.args.buf.now s.args.part.now (length s.args.out.now) q f.ensures.1.0; held = f.ensures.1.1 }
+    let q = clerk_is s.args.c true c.if-c.false o in record { fed = fed_as q f.ensures.fed; used = used_as s.args.buf.now s.args.part.now (length s.args.out.now) q f.ensures.used; held = f.ensures.held }
 
 pub returns : goal.returns
 returns c =
     let s = c in
     let f = c.feed_kept in
-    let q = clerk_is s.args.c s.args.c.opened c.if-c.false refl in record { fed = fed_as q f.ensures.0; used = used_kept s.args.c s.args.buf.now s.args.part.now (length s.args.out.now) c.if-c.false c.awaits_block.ensures c.if-awaits_block.false f.ensures.1.0; held = f.ensures.1.1 }
+    let q = clerk_is s.args.c s.args.c.opened c.if-c.false refl in record { fed = fed_as q f.ensures.fed; used = used_kept s.args.c s.args.buf.now s.args.part.now (length s.args.out.now) c.if-c.false c.awaits_block.ensures c.if-awaits_block.false f.ensures.used; held = f.ensures.held }

@@ -18,7 +18,7 @@ returns-then-a-eq0 c =
     let a = c.in_place-a in
     let z = c.if-a-eq0.true in
     let k = c.feed_kept in
-    let n = none_written s.args.t s.args.m s.args.part.now s.args.out.now a.ensures.0 a.ensures.1.0 z in record { fed = fed_out n k.ensures.0; used = used_none s.args.t s.args.m s.args.part.now s.args.out.now a.ensures.0 s.args.buf.now z k.ensures.1.0; held = (k.ensures.1.1.0, k.ensures.1.1.1, k.ensures.1.1.2, omega (arith, k.ensures.1.1.3, ap length n)) }
+    let n = none_written s.args.t s.args.m s.args.part.now s.args.out.now a.ensures.ran a.ensures.bytes z in record { fed = fed_out n k.ensures.fed; used = used_none s.args.t s.args.m s.args.part.now s.args.out.now a.ensures.ran s.args.buf.now z k.ensures.used; held = (k.ensures.held.0, k.ensures.held.1, k.ensures.held.2, omega (arith, k.ensures.held.3, ap length n)) }
 
 pub returns : goal.returns
 returns c =
@@ -26,12 +26,12 @@ returns c =
     let a = c.in_place-a in
     let e = c.empty-z.ensures in
     let n = c.if-a-eq0.false in record {
-      fed = fed-placed s.args.t s.args.m s.args.part.now s.args.out.now a.ensures.0 a.ensures.1.0 s.args.buf.now s.requires.1 s.requires.2 n e.0;
-      used = used-placed s.args.t s.args.m s.args.part.now s.args.out.now a.ensures.0 a.ensures.1.0 s.args.buf.now s.requires.1 s.requires.2 n;
+      fed = fed-placed s.args.t s.args.m s.args.part.now s.args.out.now a.ensures.ran a.ensures.bytes s.args.buf.now s.requires.1 s.requires.2 n e.0;
+      used = used-placed s.args.t s.args.m s.args.part.now s.args.out.now a.ensures.ran a.ensures.bytes s.args.buf.now s.requires.1 s.requires.2 n;
       held = (
-        record { sound = a.ensures.1.1.0; room = e.1; lines = rw e.0 (omega arith); shut = λ q. absurd (true≢false (sym q)) },
-        a.ensures.1.1.1,
+        record { sound = a.ensures.sound.0; room = e.1; lines = rw e.0 (omega arith); shut = λ q. absurd (true≢false (sym q)) },
+        a.ensures.sound.1,
         λ h. omega (arith, n),
-        a.ensures.1.1.2,
+        a.ensures.sound.2,
       );
     }

@@ -17,12 +17,12 @@ returns-then-n-want c =
     let s = c in
     let g = c.gather-g in
     let w = c.lines_of-want.ensures in record {
-      fed = fed_kept s.args.opened s.args.t s.args.m s.args.buf.now s.args.part.now s.args.out.now _ c.lines_of-want.ensures.0 g.ensures.0 g.ensures.1.0 c.if-n-want.true;
-      used = used_is s.args.opened s.args.t s.args.m s.args.buf.now s.args.part.now s.args.out.now _ c.lines_of-want.ensures.0 g.ensures.0 g.ensures.1.0;
+      fed = fed_kept s.args.opened s.args.t s.args.m s.args.buf.now s.args.part.now s.args.out.now _ c.lines_of-want.ensures.0 g.ensures.got g.ensures.kept c.if-n-want.true;
+      used = used_is s.args.opened s.args.t s.args.m s.args.buf.now s.args.part.now s.args.out.now _ c.lines_of-want.ensures.0 g.ensures.got g.ensures.kept;
       held = (
-        record { sound = s.requires.0; room = g.ensures.1.1.0; lines = omega (arith, w.0, c.if-n-want.true); shut = λ q. absurd (true≢false (sym q)) },
-        g.ensures.1.1.1,
-        g.ensures.1.1.2,
+        record { sound = s.requires.0; room = g.ensures.room.0; lines = omega (arith, w.0, c.if-n-want.true); shut = λ q. absurd (true≢false (sym q)) },
+        g.ensures.room.1,
+        g.ensures.room.2,
         omega arith,
       );
     }
@@ -31,4 +31,4 @@ pub returns : goal.returns
 returns c =
     let s = c in
     let g = c.gather in
-    let w = c.whole-s in record { fed = fed_whole s.args.opened s.args.t s.args.m s.args.buf.now s.args.part.now s.args.out.now _ c.lines_of.ensures.0 g.ensures.0 g.ensures.1.0 s.requires.2 c.if1.false w.ensures.0; used = used_is s.args.opened s.args.t s.args.m s.args.buf.now s.args.part.now s.args.out.now _ c.lines_of.ensures.0 g.ensures.0 g.ensures.1.0; held = (w.ensures.1.0, g.ensures.1.1.1, g.ensures.1.1.2, w.ensures.1.1) }
+    let w = c.whole-s in record { fed = fed_whole s.args.opened s.args.t s.args.m s.args.buf.now s.args.part.now s.args.out.now _ c.lines_of.ensures.0 g.ensures.0 g.ensures.1.0 s.requires.2 c.if1.false w.ensures.gave; used = used_is s.args.opened s.args.t s.args.m s.args.buf.now s.args.part.now s.args.out.now _ c.lines_of.ensures.0 g.ensures.0 g.ensures.1.0; held = (w.ensures.held.0, g.ensures.1.1.1, g.ensures.1.1.2, w.ensures.held.1) }

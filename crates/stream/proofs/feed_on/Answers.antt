@@ -46,7 +46,7 @@ loop-buf-smaller c =
     let g = c.loop-buf in
     let f = c.feed-f in
     let t = goes_when g.used (length s.args.part.now) g.at (length g.out) c.goes_on.ensures c.loop-buf-test.true in
-    (on_moves g.invariant t.0 f.ensures.1.1.2).1
+    (on_moves g.invariant t.0 f.ensures.held.2).1
 
 pub loop-buf-preserved : goal.loop-buf-preserved
 loop-buf-preserved c =
@@ -54,7 +54,7 @@ loop-buf-preserved c =
     let g = c.loop-buf in
     let f = c.feed-f in
     let t = goes_when g.used (length s.args.part.now) g.at (length g.out) c.goes_on.ensures c.loop-buf-test.true in
-    on_turn g.invariant t.1 f.ensures.0 f.ensures.1.1.0 (on_moves g.invariant t.0 f.ensures.1.1.2).0 f.ensures.1.1.1 f.ensures.1.1.3 refl c.out-1.given.0 (search rules)
+    on_turn g.invariant t.1 f.ensures.fed f.ensures.held.0 (on_moves g.invariant t.0 f.ensures.held.2).0 f.ensures.held.1 f.ensures.held.3 refl c.out-1.given.0 (search rules)
 
 pub shape_of-buf : goal.shape_of-buf
 shape_of-buf c = c.loop-buf.invariant.size

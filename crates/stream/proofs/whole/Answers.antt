@@ -7,9 +7,9 @@ use Rattle.stream.proofs.whole.Goals as goal
 pub returns-then-opened : goal.returns-then-opened
 returns-then-opened c =
     let w = c.whole_block in
-    record { gave = gave_as (length c.args.out.now) c.args.block.now c.if-opened.true w.ensures.0; held = w.ensures.1 }
+    record { gave = gave_as (length c.args.out.now) c.args.block.now c.if-opened.true w.ensures.gave; held = w.ensures.held }
 
 pub returns : goal.returns
 returns c =
     let w = c.whole_sheet in
-    record { gave = gave_as (length c.args.out.now) c.args.block.now c.if-opened.false w.ensures.0; held = w.ensures.1 }
+    record { gave = gave_as (length c.args.out.now) c.args.block.now c.if-opened.false w.ensures.gave; held = w.ensures.held }

@@ -24,4 +24,4 @@ pub returns-then-ended : goal.returns-then-ended
 returns-then-ended c = let r = one_gave c.args.t c.args.block.now _ c.args.out.now (front_part c.args.block.now c.rest-left.ensures (sym c.ended.ensures ∙ c.if-ended.true)) c.in_place.ensures.ran c.in_place.ensures.bytes c.in_place.ensures.sound.0 c.told.ensures in record { gave = r.0; held = r.1 }
 
 pub returns : goal.returns
-returns c = let r = one_gave c.args.t c.args.block.now empty_lines c.args.out.now (open_alone c.args.block.now c.if1.false (sym c.ended.ensures ∙ c.if2.false)) c.in_place-2.ensures.ran c.in_place-2.ensures.bytes c.in_place-2.ensures.sound.0 c.told-2.ensures in record { gave = r.0; held = r.1 }
+returns c = let r = one_gave c.args.t c.args.block.now empty_lines c.args.out.now (open_alone c.args.block.now c.if-block-eq0.false (sym c.ended.ensures ∙ c.if-ended.false)) c.in_place-2.ensures.ran c.in_place-2.ensures.bytes c.in_place-2.ensures.sound.0 c.told-2.ensures in record { gave = r.0; held = r.1 }

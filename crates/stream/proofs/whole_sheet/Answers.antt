@@ -11,9 +11,9 @@ new_table-requires c = opened_is c.args.block.now _ (sym c.read_lone_sheet.ensur
 pub returns-in-Bad : goal.returns-in-Bad
 returns-in-Bad c =
     let s = c in
-    bad_gave s.args.t s.args.block.now s.args.out.now c.read_lone_sheet.ensures c.in-Bad.is c.refuse_sheet.ensures c.empty-z.ensures.0 s.requires
+    let r = bad_gave s.args.t s.args.block.now s.args.out.now c.read_lone_sheet.ensures c.in-Bad.is c.refuse_sheet.ensures c.empty-z.ensures.0 s.requires in record { gave = r.0; held = r.1 }
 
 pub returns-in-Read : goal.returns-in-Read
 returns-in-Read c =
     let s = c in
-    read_gave s.args.t s.args.block.now s.args.out.now c.read_lone_sheet.ensures c.in-Read.is c.new_table.ensures c.empty-z.ensures.0
+    let r = read_gave s.args.t s.args.block.now s.args.out.now c.read_lone_sheet.ensures c.in-Read.is c.new_table.ensures c.empty-z.ensures.0 in record { gave = r.0; held = r.1 }

@@ -10,10 +10,10 @@ use borrow.Author.Rules.{rules}
 use Rattle.blocks.proofs.kind.kind_place.Goals as goal
 
 pub returns-then-k-word : goal.returns-then-k-word
-returns-then-k-word c = let w = c.args.w.now in let k = c.loop.k in omega (arith, place_here kind_names w k (omega arith) (word_here w k (omega arith) c.requires.1 (c.if-k-word.true ∙ c.packed.ensures)))
+returns-then-k-word c = let w = c.args.w.now in let k = c.loop-k.k in omega (arith, place_here kind_names w k (omega arith) (word_here w k (omega arith) c.requires.1 (c.if-k-word.true ∙ c.packed-word.ensures)))
 
 pub loop-k-preserved : goal.loop-k-preserved
-loop-k-preserved c = let w = c.args.w.now in let k = c.loop.k in (omega arith, omega (arith, place_on kind_names w k (omega arith) (word_other w k (omega arith) (λ e. c.if-k-word.false (e ∙ sym c.packed.ensures)))))
+loop-k-preserved c = let w = c.args.w.now in let k = c.loop-k.k in (omega arith, omega (arith, place_on kind_names w k (omega arith) (word_other w k (omega arith) (λ e. c.if-k-word.false (e ∙ sym c.packed-word.ensures)))))
 
 pub returns : goal.returns
 returns c = omega (arith, place_end kind_names c.args.w.now c.loop-k.k (omega arith))

@@ -11,4 +11,4 @@ returns-then-out-lt8 c =
 
 pub returns : goal.returns
 returns c =
-    rw (le-leb 8 (length c.args.out.now) c.if1.false) c.put_bytes.ensures
+    rw (le-leb 8 (length c.args.out.now) c.if-out-lt8.false) c.put_bytes.ensures

@@ -5,4 +5,4 @@ use Rattle.figures.proofs.row.put_amount.Goals as goal
 
 pub returns : goal.returns
 unfolding amount_of
-returns c = (rw c.grouped.ensures at c.put_cell.ensures.0, c.put_cell.ensures.1)
+returns c = (rw c.grouped-g.ensures at c.put_cell.ensures.0, c.put_cell.ensures.1)

@@ -7,4 +7,4 @@ use Rattle.figures.proofs.row.put_cell.Goals as goal
 
 pub returns : goal.returns
 unfolding cell_of
-returns c = (next (next c.put.ensures c.put-lit.ensures.0) c.put.ensures, omega (arith, c.requires.0, c.requires.1, c.put.ensures.count, c.put-lit.ensures.1, c.put.ensures.count))
+returns c = (next (next c.put-a.ensures c.put_lit-b.ensures.0) c.put.ensures, omega (arith, c.requires.0, c.requires.1, c.put-a.ensures.count, c.put_lit-b.ensures.1, c.put.ensures.count))

@@ -5,4 +5,4 @@ use Rattle.figures.proofs.row.put_lamp_cell.Goals as goal
 
 pub returns : goal.returns
 unfolding lamp_cell
-returns c = (rw c.cells.ensures at c.put_cell.ensures.0, c.put_cell.ensures.1)
+returns c = (rw c.cells-g.ensures at c.put_cell.ensures.0, c.put_cell.ensures.1)

@@ -8,11 +8,11 @@ use borrow.Author.Rules.{rules}
 use Rattle.figures.proofs.row.put_words.Goals as goal
 
 pub put_lit-b-requires : goal.put_lit-b-requires
-put_lit-b-requires c = omega (arith, c.requires.1, c.put.ensures.count, (words_row_law c.args.code c.requires.0).0)
+put_lit-b-requires c = omega (arith, c.requires.1, c.put-a.ensures.count, (words_row_law c.args.code c.requires.0).0)
 
 pub put-requires : goal.put-requires
-put-requires c = omega (arith, c.requires.1, c.put.ensures.count, c.put-lit.ensures.1, (words_row_law c.args.code c.requires.0).0)
+put-requires c = omega (arith, c.requires.1, c.put-a.ensures.count, c.put_lit-b.ensures.1, (words_row_law c.args.code c.requires.0).0)
 
 pub returns : goal.returns
 unfolding words_row
-returns c = (rw (words_row_law c.args.code c.requires.0).1 at (next (next c.put.ensures c.put-lit.ensures.0) c.put.ensures), omega (arith, c.put.ensures.count, c.put-lit.ensures.1, c.put.ensures.count, (words_row_law c.args.code c.requires.0).0))
+returns c = (rw (words_row_law c.args.code c.requires.0).1 at (next (next c.put-a.ensures c.put_lit-b.ensures.0) c.put.ensures), omega (arith, c.put-a.ensures.count, c.put_lit-b.ensures.1, c.put.ensures.count, (words_row_law c.args.code c.requires.0).0))

@@ -4,7 +4,7 @@ use borrow.Author.Rules.{rules}
 use Rattle.logs.proofs.copy.copy_entry.Goals as goal
 
 pub returns-in-OutOfRange : goal.returns-in-OutOfRange
-returns-in-OutOfRange c = entry_none c.args.sheet c.args.n c.args.p c.args.buffer.now c.in-OutOfRange.is c.left_out.ensures
+returns-in-OutOfRange c = let r = entry_none c.args.sheet c.args.n c.args.p c.args.buffer.now c.in-OutOfRange.is c.left_out.ensures in record { answer = r.0; bytes = r.1 }
 
 pub returns-in-Read : goal.returns-in-Read
-returns-in-Read c = entry_put c.args.sheet c.args.n c.args.p c.args.buffer.now c.in-Read.is c.write_entry.ensures.answer c.write_entry.ensures.bytes c.told.ensures
+returns-in-Read c = let r = entry_put c.args.sheet c.args.n c.args.p c.args.buffer.now c.in-Read.is c.write_entry.ensures.answer c.write_entry.ensures.bytes c.told.ensures in record { answer = r.0; bytes = r.1 }

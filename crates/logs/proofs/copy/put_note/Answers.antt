@@ -35,4 +35,4 @@ overflow_add-result c = omega (arith, note_parts c.args.number c.args.code)
 
 pub returns : goal.returns
 unfolding note_text
-returns c = then (then c.put-bytes.ensures c.put-digits.ensures) c.write_number_line.ensures
+returns c = then (then c.put_bytes-a.ensures c.put_digits.ensures) c.write_number_line.ensures

@@ -59,4 +59,4 @@ overflow_add-result c = omega (arith, block_parts c.args.n c.args.x)
 
 pub returns : goal.returns
 unfolding block_text
-returns c = then (then (then (then c.write-number-line.ensures c.put-kind.ensures) c.write-number-line2.ensures) c.write-number-line3.ensures) c.write_number_line-3.ensures
+returns c = then (then (then (then c.write_number_line-a.ensures c.put_kind.ensures) c.write_number_line.ensures) c.write_number_line-2.ensures) c.write_number_line-3.ensures

@@ -17,11 +17,11 @@ pub slice_bounds-write_number_line-start : goal.slice_bounds-write_number_line-s
 slice_bounds-write_number_line-start c = omega (arith, c.requires.1, c.write_number_line-at.ensures.count, line_most key_worth c.args.r.worth)
 
 pub write_number_line-requires : goal.write_number_line-requires
-write_number_line-requires c = (c.requires.0.count, omega (arith, c.requires.1, c.write-number-line.ensures.count, line_most key_worth c.args.r.worth, line_most key_count c.args.r.count))
+write_number_line-requires c = (c.requires.0.count, omega (arith, c.requires.1, c.write_number_line-at.ensures.count, line_most key_worth c.args.r.worth, line_most key_count c.args.r.count))
 
 pub overflow_add-result : goal.overflow_add-result
-overflow_add-result c = omega (arith, c.write-number-line.ensures.count, c.write_number_line.ensures.count, line_most key_worth c.args.r.worth, line_most key_count c.args.r.count)
+overflow_add-result c = omega (arith, c.write_number_line-at.ensures.count, c.write_number_line.ensures.count, line_most key_worth c.args.r.worth, line_most key_count c.args.r.count)
 
 pub returns : goal.returns
 unfolding row_text
-returns c = (then c.write-number-line.ensures c.write_number_line.ensures, omega (arith, c.write-number-line.ensures.count, c.write_number_line.ensures.count, line_most key_worth c.args.r.worth, line_most key_count c.args.r.count))
+returns c = (then c.write_number_line-at.ensures c.write_number_line.ensures, omega (arith, c.write_number_line-at.ensures.count, c.write_number_line.ensures.count, line_most key_worth c.args.r.worth, line_most key_count c.args.r.count))

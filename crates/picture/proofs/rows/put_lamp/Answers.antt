@@ -8,7 +8,7 @@ use Rattle.picture.proofs.rows.put_lamp.Goals as goal
 
 pub returns-then-seat-eq0 : goal.returns-then-seat-eq0
 unfolding lamp_of
-returns-then-seat-eq0 c = (rw (eq-eqb _ _ c.if1.true) c.put_cell.ensures.0, omega (arith, c.put_cell.ensures.1))
+returns-then-seat-eq0 c = (rw (eq-eqb _ _ c.if-seat-eq0.true) c.put_cell.ensures.0, omega (arith, c.put_cell.ensures.1))
 
 pub returns : goal.returns
 unfolding lamp_of

@@ -15,4 +15,4 @@ pub write_number_line-requires : goal.write_number_line-requires
 write_number_line-requires c = (omega arith, omega (arith, c.requires, line_most key_code 1 (omega arith)))
 
 pub returns : goal.returns
-returns c = (rw (answer_bad c.args.block.now _ c.read-numbers.ensures.0 c.if1.false) c.write_number_line.ensures, omega (arith, c.write_number_line.ensures.count, line_most key_code 1 (omega arith)))
+returns c = (rw (answer_bad c.args.block.now _ c.read_numbers-s.ensures.0 c.if-s.false) c.write_number_line.ensures, omega (arith, c.write_number_line.ensures.count, line_most key_code 1 (omega arith)))

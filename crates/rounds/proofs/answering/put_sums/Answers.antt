@@ -9,8 +9,8 @@ pub put_two-a-requires : goal.put_two-a-requires
 put_two-a-requires c = (omega (arith, c.requires.0.staked), omega (arith, c.requires.0.back), omega arith, omega arith, omega (arith, c.requires.1))
 
 pub put_two-requires : goal.put_two-requires
-put_two-requires c = (omega (arith, c.requires.0.won), omega (arith, c.requires.0.lost), omega arith, omega arith, omega (arith, c.requires.1, c.put_two.ensures.1))
+put_two-requires c = (omega (arith, c.requires.0.won), omega (arith, c.requires.0.lost), omega arith, omega arith, omega (arith, c.requires.1, c.put_two-a.ensures.1))
 
 pub returns : goal.returns
 unfolding sums_bytes
-returns c = (then c.put_two.ensures.0 c.put_two.ensures.0, omega (arith, c.put_two.ensures.1, c.put_two.ensures.1))
+returns c = (then c.put_two-a.ensures.0 c.put_two.ensures.0, omega (arith, c.put_two-a.ensures.1, c.put_two.ensures.1))

@@ -6,8 +6,8 @@ use Rattle.rounds.proofs.parts.feed_kept.Goals as goal
 
 pub returns-then-n-lt16 : goal.returns-then-n-lt16
 returns-then-n-lt16 c = let g = c.gather-g in
-    let p = fed_kept g.result.fill _ g.ensures.0.0 c.args.out.now c.if-n-lt16.true in
-    record { left = g.ensures.0.1; kept = p.0; wrote = p.1; held = (record { room = g.ensures.1.0; lines = c.if-n-lt16.true }, g.ensures.1.1, g.ensures.1.2, omega arith) }
+    let p = fed_kept g.result.fill _ g.ensures.kept.0 c.args.out.now c.if-n-lt16.true in
+    record { left = g.ensures.kept.1; kept = p.0; wrote = p.1; held = (record { room = g.ensures.room.0; lines = c.if-n-lt16.true }, g.ensures.room.1, g.ensures.room.2, omega arith) }
 
 pub returns : goal.returns
 returns c = let g = c.gather in

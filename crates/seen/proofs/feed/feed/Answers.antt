@@ -12,17 +12,17 @@ returns-then-s c = let s = c in
 
 pub gather-g-requires : goal.gather-g-requires
 gather-g-requires c = let s = c in
-    let w = c.lines_of.ensures in
+    let w = c.lines_of-want.ensures in
     (s.requires.0.room, omega (arith, s.requires.0.lines, w.0), w.2, s.requires.1)
 
 pub returns-then-k-want : goal.returns-then-k-want
 returns-then-k-want c = let s = c in
-    let g = c.gather-g.ensures in
-    let w = c.lines_of.ensures in
+    let g = (c.gather-g.ensures.got, (c.gather-g.ensures.kept, c.gather-g.ensures.room)) in
+    let w = c.lines_of-want.ensures in
     let k = c.keeping.ensures in record {
       fed = (
-        fed_kept s.args.s s.args.buf.now s.args.part.now c.if1.false w.0 g.0 g.1.0 c.if-k-want.true k,
-        buffer-is s.args.s s.args.buf.now s.args.part.now c.if1.false w.0 g.0 g.1.0,
+        fed_kept s.args.s s.args.buf.now s.args.part.now c.if-s.false w.0 g.0 g.1.0 c.if-k-want.true k,
+        buffer-is s.args.s s.args.buf.now s.args.part.now c.if-s.false w.0 g.0 g.1.0,
       );
       held = (
         subst Held (sym k) (record { sound = s.requires.0.sound; room = g.1.1.0; lines = omega (arith, w.0, c.if-k-want.true) }),

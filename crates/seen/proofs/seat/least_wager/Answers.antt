@@ -10,8 +10,8 @@ use Rattle.seen.proofs.seat.least_wager.Goals as goal
 
 pub least_for-requires : goal.least_for-requires
 least_for-requires c = let t = c.args.t in
-    omega (arith, ap (λ (d : Chair). d.stack + d.dealt.total) c.chair-at.ensures, chips_at t.chairs t.play.turn, c.requires.payable.chips)
+    omega (arith, ap (λ (d : Chair). d.stack + d.dealt.total) c.chair_at-c.ensures, chips_at t.chairs t.play.turn, c.requires.payable.chips)
 
 pub returns : goal.returns
 unfolding least_wager
-returns c = rw c.chair-at.ensures at c.least_for.ensures
+returns c = rw c.chair_at-c.ensures at c.least_for.ensures

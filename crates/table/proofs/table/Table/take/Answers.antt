@@ -11,6 +11,6 @@ by_kind-done-requires c = let t = c.args.self in
 
 pub returns : goal.returns
 returns c = let t = c.args.self in
-    let q = rw (c.when2.ensures, c.when.ensures, c.sum.ensures, c.in-range.ensures) at c.or_else.ensures in
-    let next = rw c.chosen.ensures at c.with_taken-next.ensures in
-    take_kept t c.args.n c.args.e c.meant.result c.or_else.result c.by_kind.result _ q c.meant.ensures c.by_kind.ensures c.or_else.ensures next refl c.requires
+    let q = rw (c.when-2.ensures, c.when.ensures, c.sum.ensures, c.in_range-ok.ensures) at c.or_else-early.ensures in
+    let next = rw c.chosen-count.ensures at c.with_taken-next.ensures in
+    take_kept t c.args.n c.args.e c.meant.result c.or_else-early.result c.by_kind-done.result _ q c.meant.ensures c.by_kind-done.ensures c.or_else.ensures next refl c.requires
