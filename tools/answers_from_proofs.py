@@ -48,6 +48,17 @@ class Function:
 
     # what a chain of fields from a place says now
     def turned(self, place, parts):
+        start = place
+        place, new = self.turned_at(place, parts)
+        left = [p for p in parts if p != "before"]
+        if new == left and left and left[0] not in ("args", "requires", "ranges") and "before" in parts:
+            # older Rattle had more places on the way: the step is looked for from the start
+            again = self.turned_at(start, left)
+            if again[1] != left:
+                return again
+        return place, new
+
+    def turned_at(self, place, parts):
         while parts and parts[0] == "before" and place:
             place, parts = self.parent.get(place), parts[1:]
         if not parts or place is None:

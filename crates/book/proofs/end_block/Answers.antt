@@ -9,10 +9,10 @@ pub take_lines-k-requires : goal.take_lines-k-requires
 take_lines-k-requires c = c.requires.0.book
 
 pub shape_of-log : goal.shape_of-log
-shape_of-log c = c.log.given
+shape_of-log c = c.log-1.given
 
 pub shape_of-index : goal.shape_of-index
-shape_of-index c = c.index.given
+shape_of-index c = c.index-1.given
 
 pub returns : goal.returns
-returns c = c.take-lines.ensures.0.book
+returns c = c.take_lines-k.ensures.0.book

@@ -15,37 +15,37 @@ pub loop-from-init : goal.loop-from-init
 loop-from-init c = (refl, refl, refl, sym c.buffer-out.ensures, c.requires.0, omega arith, omega arith)
 
 pub slice_bounds-take_one-count : goal.slice_bounds-take_one-count
-slice_bounds-take_one-count c = c.loop.invariant.5
+slice_bounds-take_one-count c = c.loop-from.invariant.5
 
 pub slice_bounds-take_one-start : goal.slice_bounds-take_one-start
-slice_bounds-take_one-start c = c.loop.invariant.5
+slice_bounds-take_one-start c = c.loop-from.invariant.5
 
 pub slice_bounds-take_one-end : goal.slice_bounds-take_one-end
 slice_bounds-take_one-end c = le_refl _
 
 pub take_one-k-requires : goal.take_one-k-requires
-take_one-k-requires c = (c.loop.invariant.4, subst (λ (n : ℕ). kept_most ≤ n) (sym c.loop.invariant.0) c.requires.1, some_left c.args.part.now c.loop-test.true)
+take_one-k-requires c = (c.loop-from.invariant.4, subst (λ (n : ℕ). kept_most ≤ n) (sym c.loop-from.invariant.0) c.requires.1, some_left c.args.part.now c.loop-from-test.true)
 
 pub overflow_add-at : goal.overflow_add-at
-overflow_add-at c = omega (arith, c.flush-w.ensures.within.1, c.take_one-k.ensures.3, mid_most c.flush-w.result.at (16384 - c.flush-w.result.at) c.loop.out)
+overflow_add-at c = omega (arith, c.flush-w.ensures.within.1, c.take_one-k.ensures.3, mid_most c.flush-w.result.at (16384 - c.flush-w.result.at) c.loop-from.out)
 
 pub next_place-from-requires : goal.next_place-from-requires
-next_place-from-requires c = (c.take_one-k.ensures.1, used_within c.args.part.now c.loop-test.true c.take_one-k.ensures.2)
+next_place-from-requires c = (c.take_one-k.ensures.1, used_within c.args.part.now c.loop-from-test.true c.take_one-k.ensures.2)
 
 pub loop-from-smaller : goal.loop-from-smaller
 loop-from-smaller c = nearer c.next_place-from.ensures.0 c.next_place-from.ensures.1
 
 pub loop-from-preserved : goal.loop-from-preserved
-loop-from-preserved c = (c.buf-1.given ∙ c.loop.invariant.0, c.log-1.given ∙ c.loop.invariant.1, c.index-1.given ∙ c.loop.invariant.2, same_len_mid c.flush-w.result.at (16384 - c.flush-w.result.at) c.loop.out c.take_one-k.new.1.1.1.1.1.0 c.out-1.given ∙ c.loop.invariant.3, c.take_one-k.ensures.0, c.next_place-from.ensures.1, at_within c.loop.out c.flush-w.ensures.within.1 c.take_one-k.ensures.3)
+loop-from-preserved c = (c.buf-1.given ∙ c.loop-from.invariant.0, c.log-1.given ∙ c.loop-from.invariant.1, c.index-1.given ∙ c.loop-from.invariant.2, same_len_mid c.flush-w.result.at (16384 - c.flush-w.result.at) c.loop-from.out c.take_one-k.new.1.1.1.1.1.0 c.out-1.given ∙ c.loop-from.invariant.3, c.take_one-k.ensures.0, c.next_place-from.ensures.1, at_within c.loop-from.out c.flush-w.ensures.within.1 c.take_one-k.ensures.3)
 
 pub shape_of-buf : goal.shape_of-buf
-shape_of-buf c = c.loop.invariant.0
+shape_of-buf c = c.loop-from.invariant.0
 
 pub shape_of-log : goal.shape_of-log
-shape_of-log c = c.loop.invariant.1
+shape_of-log c = c.loop-from.invariant.1
 
 pub shape_of-index : goal.shape_of-index
-shape_of-index c = c.loop.invariant.2
+shape_of-index c = c.loop-from.invariant.2
 
 pub returns : goal.returns
-returns c = record { book = c.loop.invariant.4.book; room = c.loop.invariant.4.room; lines = c.loop.invariant.4.lines }
+returns c = record { book = c.loop-from.invariant.4.book; room = c.loop-from.invariant.4.room; lines = c.loop-from.invariant.4.lines }

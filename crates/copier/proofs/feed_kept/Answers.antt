@@ -19,6 +19,6 @@ whole-t-requires c = let h = c.requires in search rules
 
 pub returns : goal.returns
 returns c = let s = c in
-    let g = c.gather.ensures in
-    let l = c.lines_of.ensures in
-    let w = (c.whole-t.ensures.gave, c.whole-t.ensures.held) in record { fed = fed_whole s.args.opened s.args.s s.args.count s.args.m s.requires.0 s.args.buf.now s.args.part.now s.args.copy.now s.args.notes.now _ l.0 g.0 g.1.0 c.if1.false w.0; used = used_is s.args.opened s.args.s s.args.count s.args.m s.requires.0 s.args.buf.now s.args.part.now s.args.copy.now s.args.notes.now _ l.0 g.0 g.1.0; held = (w.1.0, g.1.1.1, g.1.1.2, w.1.1, w.1.2) }
+    let g = (c.gather-g.ensures.got, (c.gather-g.ensures.kept, c.gather-g.ensures.room)) in
+    let l = c.lines_of-want.ensures in
+    let w = (c.whole-t.ensures.gave, c.whole-t.ensures.held) in record { fed = fed_whole s.args.opened s.args.s s.args.count s.args.m s.requires.0 s.args.buf.now s.args.part.now s.args.copy.now s.args.notes.now _ l.0 g.0 g.1.0 c.if-n-want.false w.0; used = used_is s.args.opened s.args.s s.args.count s.args.m s.requires.0 s.args.buf.now s.args.part.now s.args.copy.now s.args.notes.now _ l.0 g.0 g.1.0; held = (w.1.0, g.1.1.1, g.1.1.2, w.1.1, w.1.2) }

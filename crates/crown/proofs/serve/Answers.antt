@@ -23,4 +23,4 @@ pub loop-from-preserved : goal.loop-from-preserved
 loop-from-preserved c = (search rules, search rules, c.serve_one-s.ensures.0, c.serve_one-s.ensures.2, omega (arith, c.serve_one-s.ensures.3, c.loop-from.invariant.1))
 
 pub returns : goal.returns
-returns c = c.loop.invariant.2
+returns c = c.loop-from.invariant.2

@@ -14,7 +14,7 @@ pub slice_bounds-table_of-count : goal.slice_bounds-table_of-count
 slice_bounds-table_of-count c = let h = c.requires in let g = (c.gather-g.ensures.got, (c.gather-g.ensures.kept, c.gather-g.ensures.room)) in from_within c.args.f c.args.buf.now c.args.part.now h.0 h.1 g.0 g.1.0 g.1.1.0
 
 pub slice_bounds-table_of-start : goal.slice_bounds-table_of-start
-slice_bounds-table_of-start c = let h = c.requires in let g = c.gather.ensures in from_within c.args.f c.args.buf.now c.args.part.now h.0 h.1 g.0 g.1.0 g.1.1.0
+slice_bounds-table_of-start c = let h = c.requires in let g = (c.gather-g.ensures.got, (c.gather-g.ensures.kept, c.gather-g.ensures.room)) in from_within c.args.f c.args.buf.now c.args.part.now h.0 h.1 g.0 g.1.0 g.1.1.0
 
 pub returns : goal.returns
-returns c = let h = c.requires in let g = c.gather.ensures in let r = heard_whole c.args.f c.args.buf.now c.args.part.now h.0 h.1 g.0 g.1.0 g.1.1.0 c.table_of-t.ensures c.line_next-x.ensures c.kept_fill.ensures c.if1.false in record { heard = r.0; kept = g.1.0; held = (r.1, g.1.1.1, g.1.1.2, g.1.1.0.most) }
+returns c = let h = c.requires in let g = (c.gather-g.ensures.got, (c.gather-g.ensures.kept, c.gather-g.ensures.room)) in let r = heard_whole c.args.f c.args.buf.now c.args.part.now h.0 h.1 g.0 g.1.0 g.1.1.0 c.table_of-t.ensures c.line_next-x.ensures c.kept_fill.ensures c.if-k-n.false in record { heard = r.0; kept = g.1.0; held = (r.1, g.1.1.1, g.1.1.2, g.1.1.0.most) }

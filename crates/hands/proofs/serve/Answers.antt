@@ -16,4 +16,4 @@ pub loop-i-preserved : goal.loop-i-preserved
 loop-i-preserved c = (search rules, search rules, omega (arith, c.serve_byte-s.ensures.0, c.loop-i.invariant.0), omega (arith, c.serve_byte-s.ensures.1, c.loop-i.invariant.1), omega arith)
 
 pub returns : goal.returns
-returns c = c.loop.invariant.2
+returns c = c.loop-i.invariant.2

@@ -5,4 +5,4 @@ use borrow.Author.Rules.{rules}
 use Rattle.pair.proofs.last.Goals as goal
 
 pub slice_bounds-write_all-end : goal.slice_bounds-write_all-end
-slice_bounds-write_all-end c = omega (arith, inside c.last-lines.ensures (search rules))
+slice_bounds-write_all-end c = omega (arith, inside c.last_lines-n.ensures (search rules))

@@ -7,5 +7,5 @@ use Rattle.pair.proofs.serve_one.Goals as goal
 pub returns : goal.returns
 returns c =
     let s = c in
-    let f = c.feed-on in
-    let a = c.ahead.ensures in record { heard = hears_one s.args.part.now s.args.from f.result f.ensures.0 a.0; held = (f.ensures.1.0.0, f.ensures.1.0.1, goes_further s.args.part.now s.args.from a.0 s.requires.4 (λ h. f.ensures.1.1.1 h s.requires.5), a.1) }
+    let f = c.feed_on-d in
+    let a = c.ahead-next.ensures in record { heard = hears_one s.args.part.now s.args.from f.result f.ensures.fed a.0; held = (f.ensures.held.0, f.ensures.held.1, goes_further s.args.part.now s.args.from a.0 s.requires.4 (λ h. f.ensures.far.1 h s.requires.5), a.1) }

@@ -21,4 +21,4 @@ pub loop-from-preserved : goal.loop-from-preserved
 loop-from-preserved c = (search rules, search rules, search rules, c.take_one-g.ensures.0, c.take_one-g.ensures.1, c.take_one-g.ensures.2, c.take_one-g.ensures.4, c.take_one-g.ensures.5)
 
 pub returns : goal.returns
-returns c = (c.loop.invariant.3, c.loop.invariant.4, c.loop.invariant.5)
+returns c = (c.loop-from.invariant.3, c.loop-from.invariant.4, c.loop-from.invariant.5)

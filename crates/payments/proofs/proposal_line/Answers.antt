@@ -26,4 +26,4 @@ pub returns : goal.returns
 unfolding proposal_line
 returns c = let e = c.check_out-a.ensures.teller in
     let a = does_as (ap (λ (u : Teller). answers_line true u c.args.l c.args.gives.now) e) c.answers_line-b.ensures in
-    rw (ne_eqb c.args.l.kind 6 c.if1.false) (record { teller = a.teller; lent = a.lent; wrote = then c.check_out-a.ensures.wrote a.wrote; most = omega (arith, c.check_out-a.ensures.most, a.most) })
+    rw (ne_eqb c.args.l.kind 6 c.if-l-eq-GIVE.false) (record { teller = a.teller; lent = a.lent; wrote = then c.check_out-a.ensures.wrote a.wrote; most = omega (arith, c.check_out-a.ensures.most, a.most) })

@@ -35,4 +35,4 @@ tray_answer-requires c = omega (arith, c.requires.3)
 pub returns : goal.returns
 unfolding heard_line tray_answer
 returns c = let d = c.tray_answer.ensures in
-    record { does = rw (ne_eqb c.args.s.due 4 c.if1.false, ne_eqb c.args.s.due 3 c.if2.false, ne_eqb c.args.s.due 5 c.if3.false) (record { teller = d.teller; lent = d.lent; wrote = d.wrote; most = omega (arith, d.most) }); sound = subst Sound (sym d.teller) (sound-tray c.args.s c.requires.0 c.args.l c.requires.1) }
+    record { does = rw (ne_eqb c.args.s.due 4 c.if-s-eq-PROPOSAL_DUE.false, ne_eqb c.args.s.due 3 c.if-s-eq-ANSWERS_DUE.false, ne_eqb c.args.s.due 5 c.if-s-eq-FAULT.false) (record { teller = d.teller; lent = d.lent; wrote = d.wrote; most = omega (arith, d.most) }); sound = subst Sound (sym d.teller) (sound-tray c.args.s c.requires.0 c.args.l c.requires.1) }

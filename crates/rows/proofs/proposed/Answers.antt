@@ -10,10 +10,10 @@ pub returns-then-n-gt-ROWS : goal.returns-then-n-gt-ROWS
 returns-then-n-gt-ROWS c = proposed_many c.args.c c.args.n c.args.paid.now c.args.list.now c.if-n-gt-ROWS.true
 
 pub slice_bounds-propose-end : goal.slice_bounds-propose-end
-slice_bounds-propose-end c = let w : length c.args.c.worths ≡ 16 = search rules in omega (arith, w, c.if1.false)
+slice_bounds-propose-end c = let w : length c.args.c.worths ≡ 16 = search rules in omega (arith, w, c.if-n-gt-ROWS.false)
 
 pub slice_bounds-propose-end-2 : goal.slice_bounds-propose-end-2
-slice_bounds-propose-end-2 c = let w : length c.before.args.c.counts ≡ 16 = search rules in omega (arith, w, c.if1.false)
+slice_bounds-propose-end-2 c = let w : length c.before.args.c.counts ≡ 16 = search rules in omega (arith, w, c.if-n-gt-ROWS.false)
 
 pub returns : goal.returns
-returns c = proposed_few c.before.args.c c.before.args.n c.before.args.paid.now c.before.args.list.now _ c.propose.result c.if1.false c.propose.ensures.code c.propose.ensures.list
+returns c = proposed_few c.before.args.c c.before.args.n c.before.args.paid.now c.before.args.list.now _ c.propose.result c.if-n-gt-ROWS.false c.propose.ensures.code c.propose.ensures.list

@@ -10,10 +10,10 @@ pub returns-then-n-gt-ROWS : goal.returns-then-n-gt-ROWS
 returns-then-n-gt-ROWS c = settled_many c.args.c c.args.n c.args.paid.now c.args.proposal.now c.if-n-gt-ROWS.true
 
 pub slice_bounds-accept-end : goal.slice_bounds-accept-end
-slice_bounds-accept-end c = let w : length c.args.c.worths ≡ 16 = search rules in omega (arith, w, c.if1.false)
+slice_bounds-accept-end c = let w : length c.args.c.worths ≡ 16 = search rules in omega (arith, w, c.if-n-gt-ROWS.false)
 
 pub slice_bounds-counts-end : goal.slice_bounds-counts-end
-slice_bounds-counts-end c = let w : length c.args.c.counts ≡ 16 = search rules in omega (arith, w, c.if1.false)
+slice_bounds-counts-end c = let w : length c.args.c.counts ≡ 16 = search rules in omega (arith, w, c.if-n-gt-ROWS.false)
 
 pub returns : goal.returns
-returns c = settled_few c.args.c c.args.n c.args.paid.now c.args.proposal.now c.accept-code.result _ c.if1.false c.accept-code.ensures.code c.accept-code.ensures.rows
+returns c = settled_few c.args.c c.args.n c.args.paid.now c.args.proposal.now c.accept-code.result _ c.if-n-gt-ROWS.false c.accept-code.ensures.code c.accept-code.ensures.rows

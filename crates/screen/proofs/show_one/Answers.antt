@@ -6,5 +6,5 @@ use Rattle.screen.proofs.show_one.Goals as goal
 pub returns : goal.returns
 returns c =
     let s = c in
-    let f = c.draw-on in
-    let a = c.ahead.ensures in record { drawn = draws_one s.args.part.now s.args.from f.result f.ensures.0 a.0; held = (f.ensures.1.0.0, draws_moves s.args.part.now s.args.from a.0 s.requires.2 (λ h. f.ensures.1.1.1 h s.requires.3), a.1) }
+    let f = c.draw_on-d in
+    let a = c.ahead-next.ensures in record { drawn = draws_one s.args.part.now s.args.from f.result f.ensures.drawn a.0; held = (f.ensures.held.0, draws_moves s.args.part.now s.args.from a.0 s.requires.2 (λ h. f.ensures.far.1 h s.requires.3), a.1) }

@@ -30,5 +30,5 @@ returns-then-n-want c =
 pub returns : goal.returns
 returns c =
     let s = c in
-    let g = c.gather in
-    let w = c.whole-s in record { fed = fed_whole s.args.opened s.args.t s.args.m s.args.buf.now s.args.part.now s.args.out.now _ c.lines_of.ensures.0 g.ensures.0 g.ensures.1.0 s.requires.2 c.if1.false w.ensures.gave; used = used_is s.args.opened s.args.t s.args.m s.args.buf.now s.args.part.now s.args.out.now _ c.lines_of.ensures.0 g.ensures.0 g.ensures.1.0; held = (w.ensures.held.0, g.ensures.1.1.1, g.ensures.1.1.2, w.ensures.held.1) }
+    let g = c.gather-g in
+    let w = c.whole-s in record { fed = fed_whole s.args.opened s.args.t s.args.m s.args.buf.now s.args.part.now s.args.out.now _ c.lines_of-want.ensures.0 g.ensures.got g.ensures.kept s.requires.2 c.if-n-want.false w.ensures.gave; used = used_is s.args.opened s.args.t s.args.m s.args.buf.now s.args.part.now s.args.out.now _ c.lines_of-want.ensures.0 g.ensures.got g.ensures.kept; held = (w.ensures.held.0, g.ensures.room.1, g.ensures.room.2, w.ensures.held.1) }

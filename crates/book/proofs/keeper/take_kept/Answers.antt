@@ -15,7 +15,7 @@ pub take_lines-requires : goal.take_lines-requires
 take_lines-requires c = c.requires.0.book
 
 pub shape_of-buf : goal.shape_of-buf
-shape_of-buf c = c.buf.given
+shape_of-buf c = c.buf-1.given
 
 pub shape_of-log : goal.shape_of-log
 shape_of-log c = c.log-1.given
@@ -27,4 +27,4 @@ pub shape_of-out : goal.shape_of-out
 shape_of-out c = c.out-1.given
 
 pub returns : goal.returns
-returns c = (c.take_lines.ensures.0, subst (λ (n : ℕ). 0 < n) (sym c.take_lines.ensures.1) (c.gather.ensures.1.1.2 c.requires.2), subst (λ (n : ℕ). n ≤ length c.args.part.now) (sym c.take_lines.ensures.1) c.gather.ensures.1.1.1, c.take_lines.ensures.2)
+returns c = (c.take_lines.ensures.0, subst (λ (n : ℕ). 0 < n) (sym c.take_lines.ensures.1) (c.gather-g.ensures.room.2 c.requires.2), subst (λ (n : ℕ). n ≤ length c.args.part.now) (sym c.take_lines.ensures.1) c.gather-g.ensures.room.1, c.take_lines.ensures.2)

@@ -23,12 +23,12 @@ returns-then-either c = let e : either (faulty c.args.s.listed) (ltb 160 c.args.
     record { teller = c.refuse.ensures.0 ∙ l.0; lent = refl; wrote = wrote_as l.1 c.refuse.ensures.1; most = c.refuse.ensures.2 }
 
 pub slice_bounds-accept_from-end : goal.slice_bounds-accept_from-end
-slice_bounds-accept_from-end c = let e : either (faulty c.args.s.listed) (ltb 160 c.args.s.given) ≡ false = sym (c.either.ensures ∙ rw c.faulty.ensures refl) ∙ c.if1.false in
+slice_bounds-accept_from-end c = let e : either (faulty c.args.s.listed) (ltb 160 c.args.s.given) ≡ false = sym (c.either.ensures ∙ rw c.faulty.ensures refl) ∙ c.if-either.false in
     let n : length c.args.s.listed.paid ≡ 10 = length_unmapped ℕ c.args.s.listed.paid 10 c.well-formed.0.1.1.1.1.1.0.1.1.1.1.1.1.0.1.0.1 in
     omega (arith, n, few_listed c.args.s (either_false (faulty c.args.s.listed) (ltb 160 c.args.s.given) e).0)
 
 pub slice_bounds-accept_from-end-2 : goal.slice_bounds-accept_from-end-2
-slice_bounds-accept_from-end-2 c = let e : either (faulty c.args.s.listed) (ltb 160 c.args.s.given) ≡ false = sym (c.either.ensures ∙ rw c.faulty.ensures refl) ∙ c.if1.false in
+slice_bounds-accept_from-end-2 c = let e : either (faulty c.args.s.listed) (ltb 160 c.args.s.given) ≡ false = sym (c.either.ensures ∙ rw c.faulty.ensures refl) ∙ c.if-either.false in
     omega (arith, c.requires.1, ltb-false 160 c.args.s.given (either_false (faulty c.args.s.listed) (ltb 160 c.args.s.given) e).1)
 
 pub accept_from-v-requires : goal.accept_from-v-requires
@@ -39,6 +39,6 @@ put_code-requires c = (subst (λ (n : ℕ). n < 10 ^ 9) (sym c.accept_from-v.ens
 
 pub returns : goal.returns
 unfolding checked
-returns c = let e : either (faulty c.args.s.listed) (ltb 160 c.args.s.given) ≡ false = sym (c.either.ensures ∙ rw c.faulty.ensures refl) ∙ c.if1.false in
+returns c = let e : either (faulty c.args.s.listed) (ltb 160 c.args.s.given) ≡ false = sym (c.either.ensures ∙ rw c.faulty.ensures refl) ∙ c.if-either.false in
     let l = checked-good c.args.s c.args.gives.now c.accept_from-v.result.code c.accept_from-v.result.rows e c.accept_from-v.ensures.0 c.accept_from-v.ensures.1 in
     record { teller = c.anew-teller.ensures ∙ l.0; lent = refl; wrote = wrote_as l.1 c.put_code.ensures.0; most = c.put_code.ensures.1 }

@@ -10,7 +10,7 @@ returns-then-n-lt16 c = let g = c.gather-g in
     record { left = g.ensures.kept.1; kept = p.0; wrote = p.1; held = (record { room = g.ensures.room.0; lines = c.if-n-lt16.true }, g.ensures.room.1, g.ensures.room.2, omega arith) }
 
 pub returns : goal.returns
-returns c = let g = c.gather in
+returns c = let g = c.gather-g in
     let z = c.empty-z.ensures in
-    let p = fed_whole g.result.fill _ g.ensures.0.0 c.empty-z.result _ c.if1.false z.1 z.2 z.3 c.answer-written.ensures.0 in
-    record { left = g.ensures.0.1; kept = p.0; wrote = p.1; held = (z.0, g.ensures.1.1, g.ensures.1.2, c.answer-written.ensures.1) }
+    let p = fed_whole g.result.fill _ g.ensures.kept.0 c.empty-z.result _ c.if-n-lt16.false z.1 z.2 z.3 c.answer-written.ensures.0 in
+    record { left = g.ensures.kept.1; kept = p.0; wrote = p.1; held = (z.0, g.ensures.room.1, g.ensures.room.2, c.answer-written.ensures.1) }

@@ -33,11 +33,11 @@ returns-then-k-want c = let s = c in
 
 pub returns : goal.returns
 returns c = let s = c in
-    let g = c.gather.ensures in
+    let g = (c.gather-g.ensures.got, (c.gather-g.ensures.kept, c.gather-g.ensures.room)) in
     let w = c.lines_of-want.ensures in
     let k = c.after_lines.ensures in record {
       fed = (
-        fed_whole s.args.s s.args.buf.now s.args.part.now c.if-s.false w.0 g.0 g.1.0 c.if2.false k.0,
+        fed_whole s.args.s s.args.buf.now s.args.part.now c.if-s.false w.0 g.0 g.1.0 c.if-k-want.false k.0,
         buffer-is s.args.s s.args.buf.now s.args.part.now c.if-s.false w.0 g.0 g.1.0,
       );
       held = (k.1, g.1.1.1, g.1.1.2);

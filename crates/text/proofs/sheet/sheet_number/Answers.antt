@@ -7,4 +7,4 @@ pub slice_bounds-read_key_number-end : goal.slice_bounds-read_key_number-end
 slice_bounds-read_key_number-end c = (row c.args.k c.requires).0
 
 pub returns : goal.returns
-returns c = number_said c.args.k c.args.log.now c.requires c.after-lines.ensures c.read_key_number.ensures
+returns c = number_said c.args.k c.args.log.now c.requires c.after_lines.ensures c.read_key_number.ensures

@@ -20,13 +20,13 @@ pub loop-i-preserved : goal.loop-i-preserved
 loop-i-preserved c = let i = c.loop-i.invariant in (search rules, search rules, c.hear_one-r.ensures.0, omega (arith, c.greater-most.ensures, i.3, i.1, c.hear_one-r.ensures.3))
 
 pub slice_bounds-close-count : goal.slice_bounds-close-count
-slice_bounds-close-count c = let i = c.loop.invariant in omega (arith, c.requires.1, i.1)
+slice_bounds-close-count c = let i = c.loop-i.invariant in omega (arith, c.requires.1, i.1)
 
 pub slice_bounds-close-start : goal.slice_bounds-close-start
-slice_bounds-close-start c = let i = c.loop.invariant in omega (arith, c.requires.1, i.1)
+slice_bounds-close-start c = let i = c.loop-i.invariant in omega (arith, c.requires.1, i.1)
 
 pub slice_bounds-close-end : goal.slice_bounds-close-end
-slice_bounds-close-end c = let i = c.loop.invariant in omega (arith, c.requires.1, i.1)
+slice_bounds-close-end c = let i = c.loop-i.invariant in omega (arith, c.requires.1, i.1)
 
 pub close-c-requires : goal.close-c-requires
-close-c-requires c = let i = c.loop.invariant in (i.2, omega (arith, c.requires.0, i.0))
+close-c-requires c = let i = c.loop-i.invariant in (i.2, omega (arith, c.requires.0, i.0))

@@ -14,10 +14,10 @@ overflow_sub-k c = omega (arith, count_most c.args.n, c.digit_count-k.ensures)
 pub put_digits-requires : goal.put_digits-requires
 put_digits-requires c =
     let s = c in
-    (s.requires.0, omega (arith, count_most s.args.n, c.digit-count.ensures, c.put_bytes-a.ensures.count, s.requires.1))
+    (s.requires.0, omega (arith, count_most s.args.n, c.digit_count-k.ensures, c.put_bytes-a.ensures.count, s.requires.1))
 
 pub returns : goal.returns
 unfolding nine_digits
 returns c =
-    let k = c.digit-count in
+    let k = c.digit_count-k in
     then (zeros_wrote {k = k.result} k.ensures c.put_bytes-a.ensures) c.put_digits.ensures
