@@ -17,7 +17,7 @@ HEAD = re.compile(r"(?:(?:abbrev|pub|unfoldable)\s+)*(\S+)")
 
 
 def norm(word):
-    return word.replace("_", "-").lower()
+    return re.sub(r"-lem$", "", word.replace("_", "-").lower())
 
 
 class Function:
@@ -284,6 +284,42 @@ def loop_vars(fn, key, heads):
     return new, table
 
 
+def by_path(said, table):
+    """An invariant's text with its parameters by their paths, but for the names of fields and what a λ or a binder before → binds."""
+    out, at, depth, bound = [], 0, 0, []
+    for m in re.finditer(rf"λ ((?:[^{SEP}.]+|\([^()]*\))(?: (?:[^{SEP}.]+|\([^()]*\)))*)\.|\(([^{SEP}.]+(?: [^{SEP}.]+)*) : |[(){{}}]|{CHAIN.pattern}", said):
+        word = m[0]
+        if word.startswith("λ"):
+            names = re.findall(rf"\(([^:()]*?) :|([^{SEP}.]+)", m[1])
+            bound.append((depth, {n for pair in names for part in pair for n in part.split()}))
+            continue
+        if m[2]:
+            depth += 1
+            # a binder's names hold behind its closing parenthesis, to the end of what it stands in
+            if re.match(r"[^()]*(?:\([^()]*\)[^()]*)*\) →", said[m.end():]):
+                bound.append((depth - 1, set(m[2].split())))
+                continue
+            out.append(said[at:m.start()])
+            names = " ".join(table.get(n, n) if not any(n in b for _, b in bound) else n for n in m[2].split())
+            out.append(f"({names} : ")
+            at = m.end()
+            continue
+        if word in "({":
+            depth += 1
+            continue
+        if word in ")}":
+            depth -= 1
+            bound = [b for b in bound if b[0] <= depth]
+            continue
+        head = re.match(CHAIN, word)
+        if head and head[1] in table and not any(head[1] in b for _, b in bound) and not re.match(r" = ", said[m.end():m.end() + 3]):
+            out.append(said[at:m.start()])
+            out.append(table[head[1]] + head[2])
+            at = m.end()
+    out.append(said[at:])
+    return "".join(out)
+
+
 def main(argv):
     names_file, crate, *only = argv
     every = json.load(open(names_file))
@@ -323,8 +359,15 @@ def main(argv):
                 if old not in fn.goal and old.startswith("slice-bounds-"):
                     old = "part-" + old[len("slice-bounds-"):]
                 if old not in fn.goal and old.startswith("slice-aggregate-"):
-                    # that a part is a slice: nobody asks for it any more
-                    continue
+                    # that a part is a slice: mostly found by itself, and else a bound of the part
+                    if code.rstrip().endswith("search rules"):
+                        continue
+                    part = re.fullmatch(r"slice-aggregate-(.*?)(-\d+)?", old)
+                    named = {norm(s): s for names in every[key]["places"] for s in (re.sub(r"\d+$", "", names[2][0]),)}
+                    fn.goal[old] = f"slice_bounds-{named.get(part[1], part[1])}-end{part[2] or ''}"
+                    behind = re.search(r"tie\.Need-(\S+)", rest[rest.index(code) + len(code):])
+                    fn.at[old] = fn.at.get(re.sub(r"^(overflow|nonzero)-", "", norm(behind[1])) if behind else "", None) or list(fn.parent)[-1]
+                    fn.settled.discard(fn.goal[old])
                 if old not in fn.goal:
                     print("no goal:", f, m[1])
                     continue
@@ -339,6 +382,9 @@ def main(argv):
                 said = clauses_of(crate, f)
                 if said and new.startswith("returns") and " search rules" not in later[-14:]:
                     later = by_clause(said, later)
+                # the test of `!x` says what x is, with no lemma
+                later = re.sub(r"\(not-(?:true|false) _ ([^\s()]+\.(?:true|false))\)", r"\1", later)
+                later = re.sub(r"(?<![^\s(])not-(?:true|false) _ ([^\s()]+\.(?:true|false))", r"\1", later)
                 answers.append((new, comments, f"pub {new} : goal.{new}\n{later}"))
             elif m and (m[1].startswith("invariant") or m[1].startswith("decreases") or m[1].startswith("measure")):
                 kind, _, loop = m[1].partition("-")
@@ -351,7 +397,7 @@ def main(argv):
                 else:
                     label, table, var = m[1], {h: f"l.{h}" for h in heads}, "l"
                 said = code[clause.end():] if clause else ""
-                said = CHAIN.sub(lambda k: table[k[1]] + k[2] if k[1] in table else k[0], said)
+                said = by_path(said, table)
                 unfolding = re.search(r"(?m)^unfolding .*$", code)
                 invariants.append((label, comments, f"abbrev pub {label} : goal.{label}\n" + (unfolding[0] + "\n" if unfolding else "") + f"{label} {var} ={said}"))
             elif "tie.close" in code:

@@ -66,14 +66,14 @@ module _ (p : Chair → Bool) where
     count-some (c ∷ cs) (suc (suc k)) e = omega (arith, count-some cs (suc k) e)
 
     -- where one is counted at most, two that are counted are the same seat
-    pub count-two : (cs : List Chair) (x y : ℕ) → p (chair_at cs x) ≡ true → p (chair_at cs y) ≡ true → count_of p cs ≤ 1 → x ≡ y
-    count-two cs zero y e f o = absurd (true≢false (sym e ∙ none))
-    count-two [] (suc k) y e f o = absurd (true≢false (sym e ∙ none))
-    count-two (c ∷ cs) (suc k) zero e f o = absurd (true≢false (sym f ∙ none))
-    count-two (c ∷ cs) (suc zero) (suc zero) e f o = refl
-    count-two (c ∷ cs) (suc zero) (suc (suc j)) e f o = absurd (omega (arith, ap one e, count-some cs (suc j) f))
-    count-two (c ∷ cs) (suc (suc k)) (suc zero) e f o = absurd (omega (arith, ap one f, count-some cs (suc k) e))
-    count-two (c ∷ cs) (suc (suc k)) (suc (suc j)) e f o = ap suc (count-two cs (suc k) (suc j) e f (omega arith))
+    pub count_two : (cs : List Chair) (x y : ℕ) → p (chair_at cs x) ≡ true → p (chair_at cs y) ≡ true → count_of p cs ≤ 1 → x ≡ y
+    count_two cs zero y e f o = absurd (true≢false (sym e ∙ none))
+    count_two [] (suc k) y e f o = absurd (true≢false (sym e ∙ none))
+    count_two (c ∷ cs) (suc k) zero e f o = absurd (true≢false (sym f ∙ none))
+    count_two (c ∷ cs) (suc zero) (suc zero) e f o = refl
+    count_two (c ∷ cs) (suc zero) (suc (suc j)) e f o = absurd (omega (arith, ap one e, count-some cs (suc j) f))
+    count_two (c ∷ cs) (suc (suc k)) (suc zero) e f o = absurd (omega (arith, ap one f, count-some cs (suc k) e))
+    count_two (c ∷ cs) (suc (suc k)) (suc (suc j)) e f o = ap suc (count_two cs (suc k) (suc j) e f (omega arith))
 
   -- where no seat but x is counted, one is at most
   pub count_one : (cs : List Chair) (x : ℕ) → ((y : ℕ) → (y ≡ x → ⊥) → p (chair_at cs y) ≡ false) → count_of p cs ≤ 1

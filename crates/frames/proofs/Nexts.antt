@@ -228,11 +228,11 @@ module _ (f : Frame) (buf part : List ℕ) (h : Held f) (size : kept_most ≤ le
         ∙ ap (λ (i : ℕ). line_next f.due i table) (ap (λ (x : Fill). x.lines) fill_is)
         ∙ ap (line_next f.due g.kept.lines) (t.0 ∙ ap table_of line_is)
 
-    pub heard-whole : f.fill.lines < got.fill.lines
+    pub heard_whole : f.fill.lines < got.fill.lines
         → (record { frame = record { due = next.due; fill = fill }; used = got.used; what = next.what; of = f.due; count = got.fill.count } ≡ heard_as f g)
         × Held (record { due = next.due; fill = fill })
     unfolding heard_as
-    heard-whole l =
+    heard_whole l =
         let y : ltb f.fill.lines g.kept.lines ≡ true = lt-ltb f.fill.lines g.kept.lines (omega (arith, l, ap (λ (x : Fill). x.lines) fill_is)) in
         let last : Next = last_line f.due g.kept from in (
           ap (λ (x : Fill). record { frame = record { due = next.due; fill = x }; used = got.used; what = next.what; of = f.due; count = got.fill.count }) m

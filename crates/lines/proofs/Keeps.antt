@@ -188,8 +188,8 @@ module _ {want : ℕ} {g : Gathered} {part buf₀ : List ℕ} {m : Fill} {buf : 
         same-progress p q = cc
 
     -- it is not
-    pub going-turn : r.lines < want → r.count ≤ length buf → Going want g part buf₀ r new (i + 1)
-    going-turn w c =
+    pub going_turn : r.lines < want → r.count ≤ length buf → Going want g part buf₀ r new (i + 1)
+    going_turn w c =
         let f : gather_of want (kept_in m buf) (drop i part) ≡ further (gather_of want next (drop (i + 1) part)) =
         gather_on want (kept_in m buf) part i h (omega (arith, ap (λ (x : Fill). x.lines) e)) in
         record {

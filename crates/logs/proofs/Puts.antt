@@ -67,16 +67,16 @@ going_start s vs old e h =
 module _ {vs old now : List ℕ} {k at : ℕ} (g : Going vs old now k at) where
   module _ (n : length vs ≡ sheet_lines) (h : k < sheet_lines) where
     -- there is room for the next line behind what was written
-    pub going-room : at + length (line_at vs k) ≤ length now
-    going-room =
+    pub going_room : at + length (line_at vs k) ≤ length now
+    going_room =
         omega (arith, g.wrote.count, g.room, g.same, ap length g.all, length-append g.bs (lines_from vs k), ap length (from_on vs k n h), length-append (line_at vs k) (lines_from vs (k + 1)))
 
-    pub going-part : length (line_at vs k) ≤ length (mid_of at (length now - at) now)
-    going-part = omega (arith, ap length (part_is at now), length-drop at now, going-room)
+    pub going_part : length (line_at vs k) ≤ length (mid_of at (length now - at) now)
+    going_part = omega (arith, ap length (part_is at now), length-drop at now, going_room)
 
-    pub going-turn : {mid after : List ℕ} {r : ℕ} → Wrote (line_at vs k) (mid_of at (length now - at) now) mid r
+    pub going_turn : {mid after : List ℕ} {r : ℕ} → Wrote (line_at vs k) (mid_of at (length now - at) now) mid r
         → after ≡ put_mid at (length now - at) now mid → length after ≡ length old → Going vs old after (k + 1) (at + r)
-    going-turn {mid} {after} {r} w p q = record {
+    going_turn {mid} {after} {r} w p q = record {
       bs = g.bs ++ line_at vs k;
       wrote = rw p (then g.wrote w);
       all = append_assoc g.bs (line_at vs k) (lines_from vs (k + 1)) ∙ ap (λ (l : List ℕ). g.bs ++ l) (sym (from_on vs k n h)) ∙ g.all;

@@ -144,8 +144,8 @@ module _ (only : ℕ) (p : Pair) (due : ℕ) (lines sheet : List ℕ) (g : Good 
           bytes = shown_bytes only due (bytes_at x p.pool lines);
         }
 
-    pub block-gave : Gave (answered only p due lines) out new (record { shut = p.shut; tables = ts; pool = a.pool; house = house }) w
-    block-gave =
+    pub block_gave : Gave (answered only p due lines) out new (record { shut = p.shut; tables = ts; pool = a.pool; house = house }) w
+    block_gave =
         subst (λ (x : Table). Gave (ours x) out new (record { shut = p.shut; tables = ts; pool = a.pool; house = house }) w) t_is (record {
           pair =
               ap (λ (l : List Table). record { shut = p.shut; tables = l; pool = a.pool; house = house }) (c ∙ ap (λ (z : Bool). with_table p.tables z a.table) b)

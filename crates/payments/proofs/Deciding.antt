@@ -112,6 +112,6 @@ module _ (s : Teller) where
     unfolding paid_out
     out-refused e n = rw (e, ne_eqb (proposing s) 0 n) refl
 
-    pub out-paid : faulty s.listed ≡ false → proposing s ≡ accepted → paid_out s gives ≡ payment s gives
+    pub out_paid : faulty s.listed ≡ false → proposing s ≡ accepted → paid_out s gives ≡ payment s gives
     unfolding paid_out
-    out-paid e w = rw (e, eq-eqb (proposing s) 0 w) refl
+    out_paid e w = rw (e, eq-eqb (proposing s) 0 w) refl

@@ -85,16 +85,16 @@ module _ (s : Seen) (buf part : List ℕ) where
     unfolding fed_of
     fed-is h = h ∙ pick_false s.shut passed_over (gathered_to s g) open-yet
 
-    pub fed-kept : {k : Seen} → got.fill.lines < want → k ≡ kept_on s got.fill → fed_with k got.used false ≡ fed_of s buf part
-    fed-kept h e =
+    pub fed_kept : {k : Seen} → got.fill.lines < want → k ≡ kept_on s got.fill → fed_with k got.used false ≡ fed_of s buf part
+    fed_kept h e =
         fed-is
         (ap (λ (x : Seen). fed_with x got.used false) e
         ∙ ap (λ (x : Progress). fed_with (kept_on s x.fill) x.used false) got-is
         ∙ pick_true more goes_on has_ended (lt-ltb g.kept.lines (lines_of s.opened) (omega (arith, h, wanted, ap (λ (x : Progress). x.fill.lines) got-is))))
 
-    pub fed-whole : {k : Seen} → want ≤ got.fill.lines → k ≡ after_lines s (take (got.fill.count - 0) (drop 0 buf2))
+    pub fed_whole : {k : Seen} → want ≤ got.fill.lines → k ≡ after_lines s (take (got.fill.count - 0) (drop 0 buf2))
         → fed_with k got.used true ≡ fed_of s buf part
-    fed-whole h e =
+    fed_whole h e =
         let i : got.fill.count - 0 ≡ length g.kept.bytes = omega (arith, ap (λ (x : Progress). x.fill.count) got-is) in
         let bytes : take (got.fill.count - 0) (drop 0 buf2) ≡ g.kept.bytes =
         ap (λ (n : ℕ). take n buf2) i ∙ ap (take (length g.kept.bytes)) buf-is ∙ take-append_seam g.kept.bytes (drop (length g.kept.bytes) buf) in

@@ -94,8 +94,8 @@ module _ (t : Table) (s : ℕ) (h : Standing t) (r : is_seat t.sheet s ≡ true)
     unfolding posted_to
     seats-are = subst (λ (l : List Chair). Seats t.sheet.seats l) (sym chairs-are) (blinds_seated t s h.seated (seat_within t.sheet s r))
 
-    pub opened-is : {turn : ℕ} → turn ≡ turn_by ds t.sheet.seats t.sheet.big next → open_by t s ds turn ≡ opened_to t s
+    pub opened_is : {turn : ℕ} → turn ≡ turn_by ds t.sheet.seats t.sheet.big next → open_by t s ds turn ≡ opened_to t s
     unfolding opened_to posted_to
-    opened-is turn_same =
+    opened_is turn_same =
         let f = turn_same ∙ ap₂ (λ (l : List Chair) (k : ℕ). turn_by l t.sheet.seats t.sheet.big k) chairs-are next-is ∙ turn_is (with_hand (blinds_posted t s) s) (next_dealt_in t s) in
         ap₂ (λ (l : List Chair) (k : ℕ). open_by t s l k) chairs-are f

@@ -13,7 +13,7 @@ returns-in-Known c =
 
 pub returns-in-NotSeven : goal.returns-in-NotSeven
 unfolding reading_bytes
-returns-in-NotSeven c = record { wrote = refused_bytes _ _ NotSeven _ c.in-NotSeven.is refl c.code_of_lem.ensures c.put_number.ensures.wrote; room = omega (arith, c.put_number.ensures.room) }
+returns-in-NotSeven c = record { wrote = refused_bytes _ _ NotSeven _ c.in-NotSeven.is refl c.code_of.ensures c.put_number.ensures.wrote; room = omega (arith, c.put_number.ensures.room) }
 
 pub returns-in-NoCard : goal.returns-in-NoCard
 unfolding reading_bytes

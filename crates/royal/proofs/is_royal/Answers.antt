@@ -10,7 +10,7 @@ use borrow.Author.Rules.{rules}
 use Rattle.royal.proofs.is_royal.Goals as goal
 
 pub returns-then-not-one_suit : goal.returns-then-not-one_suit
-returns-then-not-one_suit c = sym (suits_differ _ (sym c.one_suit.ensures ∙ not-true _ c.if-not-one_suit.true))
+returns-then-not-one_suit c = sym (suits_differ _ (sym c.one_suit.ensures ∙ c.if-not-one_suit.true))
 
 pub returns : goal.returns
 unfolding is_royal

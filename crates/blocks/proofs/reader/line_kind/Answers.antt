@@ -7,4 +7,4 @@ use borrow.Author.Rules.{rules}
 use Rattle.blocks.proofs.reader.line_kind.Goals as goal
 
 pub returns : goal.returns
-returns c = c.kind_of.ensures ∙ ap (λ (x : List ℕ). kind_of x) c.value_of_lem.ensures
+returns c = c.kind_of.ensures ∙ ap (λ (x : List ℕ). kind_of x) c.value_of.ensures

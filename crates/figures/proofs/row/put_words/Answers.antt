@@ -7,6 +7,9 @@ use native.Mathlib.Omega.{arith}
 use borrow.Author.Rules.{rules}
 use Rattle.figures.proofs.row.put_words.Goals as goal
 
+pub slice_bounds-put_lit-end-2 : goal.slice_bounds-put_lit-end-2
+slice_bounds-put_lit-end-2 c = sym (words_row_law c.args.code c.requires.0).0
+
 pub put_lit-b-requires : goal.put_lit-b-requires
 put_lit-b-requires c = omega (arith, c.requires.1, c.put-a.ensures.count, (words_row_law c.args.code c.requires.0).0)
 

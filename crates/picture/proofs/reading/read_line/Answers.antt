@@ -14,10 +14,10 @@ unfolding answer_line
 loop-k-init c = (omega arith, refl)
 
 pub returns-then-kind-lt-KINDS : goal.returns-then-kind-lt-KINDS
-returns-then-kind-lt-KINDS c = let z : (line_at c.loop-k.k c.args.line.now).kind < line_kinds = omega (arith, ap (λ (x : Line). x.kind) c.line_at_lem.ensures.0, c.if-kind-lt-KINDS.true) in (c.line_at_lem.ensures.0 ∙ sym (found_here c.loop-k.k c.args.line.now (omega arith) z) ∙ c.loop-k.invariant.1, c.line_at_lem.ensures.1)
+returns-then-kind-lt-KINDS c = let z : (line_at c.loop-k.k c.args.line.now).kind < line_kinds = omega (arith, ap (λ (x : Line). x.kind) c.line_at-l.ensures.0, c.if-kind-lt-KINDS.true) in (c.line_at-l.ensures.0 ∙ sym (found_here c.loop-k.k c.args.line.now (omega arith) z) ∙ c.loop-k.invariant.1, c.line_at-l.ensures.1)
 
 pub loop-k-preserved : goal.loop-k-preserved
-loop-k-preserved c = let z : line_kinds ≤ (line_at c.loop-k.k c.args.line.now).kind = omega (arith, ap (λ (x : Line). x.kind) c.line_at_lem.ensures.0, c.if-kind-lt-KINDS.false) in (omega arith, sym (found_on c.loop-k.k c.args.line.now (omega arith) z) ∙ c.loop-k.invariant.1)
+loop-k-preserved c = let z : line_kinds ≤ (line_at c.loop-k.k c.args.line.now).kind = omega (arith, ap (λ (x : Line). x.kind) c.line_at-l.ensures.0, c.if-kind-lt-KINDS.false) in (omega arith, sym (found_on c.loop-k.k c.args.line.now (omega arith) z) ∙ c.loop-k.invariant.1)
 
 pub returns : goal.returns
 returns c = (sym (found_none c.loop-k.k c.args.line.now (omega arith)) ∙ c.loop-k.invariant.1, answering_none)

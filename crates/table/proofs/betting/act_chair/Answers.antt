@@ -1,4 +1,5 @@
 -- `act_chair` meets its contract.
+use borrow.Enum.Refused.{opened}
 use Rattle.table.proofs.Acts.{no_act, no_acted}
 use borrow.Author.Rules.{rules}
 use Rattle.table.proofs.betting.act_chair.Goals as goal
@@ -16,4 +17,4 @@ pub returns-in-Wager : goal.returns-in-Wager
 returns-in-Wager c = rw c.in-Wager.is c.paying-in-Wager.ensures
 
 pub returns-in_default : goal.returns-in_default
-returns-in_default c = no_acted c.args.t c.args.c c.args.e (no_act c.args.e c.in_default.in_default-own.keys5)
+returns-in_default c = no_acted c.args.t c.args.c c.args.e (no_act c.args.e (opened c.in_default.in_default-own.keys5))

@@ -1,4 +1,5 @@
 -- `act_code` meets its contract.
+use borrow.Enum.Refused.{opened}
 use Rattle.table.proofs.Acts.{no_act}
 use mathlib.Core.Path.{sym, ◌∙◌}
 use mathlib.Core.Bool.{true≢false}
@@ -30,4 +31,4 @@ pub returns-in-Wager : goal.returns-in-Wager
 returns-in-Wager c = rw c.in-Wager.is c.wager_code.ensures
 
 pub returns-in_default : goal.returns-in_default
-returns-in_default c = absurd (true≢false (sym c.requires.1 ∙ no_act c.args.e c.in_default.in_default-own.keys5))
+returns-in_default c = absurd (true≢false (sym c.requires.1 ∙ no_act c.args.e (opened c.in_default.in_default-own.keys5)))
