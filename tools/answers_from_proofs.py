@@ -26,8 +26,10 @@ class Function:
         self.clause, self.arm = {}, {}
         clauses = names.get("clauses") or []
         arms = names.get("arms") or []
-        for k, (place, above, step, _callee, _rest) in enumerate(names["places"]):
+        self.callee, self.params = {}, names.get("params") or {}
+        for k, (place, above, step, callee, _rest) in enumerate(names["places"]):
             key = norm(place)
+            self.callee[key] = callee
             self.parent[key] = norm(above) if above else None
             self.old_step[key], self.step[key] = norm(step[0]), step[1]
             self.clause[key] = clauses[k]["fields"] if k < len(clauses) and clauses[k] else None
@@ -60,7 +62,8 @@ class Function:
 
     def turned_at(self, place, parts):
         while parts and parts[0] == "before" and place:
-            place, parts = self.parent.get(place), parts[1:]
+            # older Rattle had more places on the way: above the first there is none
+            place, parts = self.parent.get(place) or place, parts[1:]
         if not parts or place is None:
             return place, parts
         head = norm(parts[0])
@@ -91,6 +94,13 @@ class Function:
             place = above
         if head == self.old_step.get(place) and self.step[place]:
             new = [self.step[place]] + parts[1:]
+            if len(new) > 2 and new[1] == "new" and self.params.get(self.callee.get(place)):
+                k, rest, names = 0, new[2:], self.params[self.callee[place]]
+                while rest and rest[0] == "1" and k < len(names) - 1:
+                    k, rest = k + 1, rest[1:]
+                if rest and rest[0] == "0":
+                    rest = rest[1:]
+                    new = [new[0], "new", names[k]] + rest
             return place, self.by_label(new, self.clause.get(place))
         return place, parts
 

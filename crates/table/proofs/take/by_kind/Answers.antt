@@ -1,5 +1,4 @@
 -- `by_kind` meets its contract: each arm does, and the last one is that of the four acts.
-use borrow.Enum.Refused.{opened}
 use Rattle.table.proofs.Acts.{acts}
 use Rattle.table.proofs.Arms.{refused_by}
 use native.Mathlib.Omega.{arith}
@@ -27,7 +26,7 @@ pub dead-requires : goal.dead-requires
 dead-requires c = (c.requires.0, rw c.in-Dead.is at c.requires.1)
 
 pub act-requires : goal.act-requires
-act-requires c = (c.requires.0, c.requires.1, acts c.args.e (opened c.in_default.in_default-own.keys9))
+act-requires c = (c.requires.0, c.requires.1, acts c.args.e c.in_default.in_default-own.keys9)
 
 pub returns-in-Sit : goal.returns-in-Sit
 returns-in-Sit c = rw c.in-Sit.is c.sit.ensures
