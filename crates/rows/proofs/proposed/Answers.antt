@@ -13,7 +13,7 @@ pub slice_bounds-propose-end : goal.slice_bounds-propose-end
 slice_bounds-propose-end c = let w : length c.args.c.worths ≡ 16 = search rules in omega (arith, w, c.if-n-gt-ROWS.false)
 
 pub slice_bounds-propose-end-2 : goal.slice_bounds-propose-end-2
-slice_bounds-propose-end-2 c = let w : length c.before.args.c.counts ≡ 16 = search rules in omega (arith, w, c.if-n-gt-ROWS.false)
+slice_bounds-propose-end-2 c = let w : length c.args.c.counts ≡ 16 = search rules in omega (arith, w, c.if-n-gt-ROWS.false)
 
 pub returns : goal.returns
-returns c = proposed_few c.before.args.c c.before.args.n c.before.args.paid.now c.before.args.list.now _ c.propose.result c.if-n-gt-ROWS.false c.propose.ensures.code c.propose.ensures.list
+returns c = proposed_few c.args.c c.args.n c.args.paid.now c.args.list.now _ c.propose.result c.if-n-gt-ROWS.false c.propose.ensures.code c.propose.ensures.list

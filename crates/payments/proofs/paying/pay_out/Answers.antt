@@ -43,24 +43,24 @@ returns-then-code-ne0 c = let e = sym c.faulty.ensures ∙ c.if-faulty.false in
     does_as a (record { teller = c.refuse-then-code-ne0.ensures.0; lent = q; wrote = c.refuse-then-code-ne0.ensures.1; most = omega (arith, c.refuse-then-code-ne0.ensures.2) })
 
 pub slice_bounds-pay_proposed-end : goal.slice_bounds-pay_proposed-end
-slice_bounds-pay_proposed-end c = let f = few_listed c.before.args.s (sym c.faulty.ensures ∙ c.if-faulty.false) in omega (arith, c.before.requires.1, mul-le-mul f c.before.requires.0.few)
+slice_bounds-pay_proposed-end c = let f = few_listed c.args.s (sym c.faulty.ensures ∙ c.if-faulty.false) in omega (arith, c.requires.1, mul-le-mul f c.requires.0.few)
 
 pub pay_proposed-requires : goal.pay_proposed-requires
-pay_proposed-requires c = let f = few_listed c.before.args.s (sym c.faulty.ensures ∙ c.if-faulty.false) in
-    let n : length c.before.args.s.listed.paid ≡ 10 = length_unmapped ℕ c.before.args.s.listed.paid 10 c.before.well-formed.0.1.1.1.1.1.0.1.1.1.1.1.1.0.1.0.1 in
-    let r : length c.before.args.s.tray.row ≡ 16 = length_mapped (R.the_field).into c.before.args.s.tray.row 16 c.before.well-formed.0.1.1.1.1.0.1.1.1.1.1.0.1.0.1 in
-    let m : long c.before.args.s ≤ length c.before.args.gives.now = omega (arith, c.before.requires.1, mul-le-mul f c.before.requires.0.few) in
-    let k = code_is c.before.args.s c.before.args.gives.now c.propose_from-code.result m c.propose_from-code.ensures.0 in
+pay_proposed-requires c = let f = few_listed c.args.s (sym c.faulty.ensures ∙ c.if-faulty.false) in
+    let n : length c.args.s.listed.paid ≡ 10 = length_unmapped ℕ c.args.s.listed.paid 10 c.well-formed.0.1.1.1.1.1.0.1.1.1.1.1.1.0.1.0.1 in
+    let r : length c.args.s.tray.row ≡ 16 = length_mapped (R.the_field).into c.args.s.tray.row 16 c.well-formed.0.1.1.1.1.0.1.1.1.1.1.0.1.0.1 in
+    let m : long c.args.s ≤ length c.args.gives.now = omega (arith, c.requires.1, mul-le-mul f c.requires.0.few) in
+    let k = code_is c.args.s c.args.gives.now c.propose_from-code.result m c.propose_from-code.ensures.0 in
     let z = c.if-code-ne0.false in
-    let q = list-is c.before.args.s c.before.args.gives.now c.propose_from-code.result _ c.propose_from-code.ensures.1 in
-    (c.before.requires.0, f, sym k ∙ z, ap (mid_of 0 (long c.before.args.s - 0)) (q ∙ rw z (list_written c.before.args.s c.before.args.gives.now)) ∙ list-front c.before.args.s c.before.args.gives.now (proposed-long c.before.args.s c.before.requires.0 f n r), c.before.requires.2)
+    let q = list-is c.args.s c.args.gives.now c.propose_from-code.result _ c.propose_from-code.ensures.1 in
+    (c.requires.0, f, sym k ∙ z, ap (mid_of 0 (long c.args.s - 0)) (q ∙ rw z (list_written c.args.s c.args.gives.now)) ∙ list-front c.args.s c.args.gives.now (proposed-long c.args.s c.requires.0 f n r), c.requires.2)
 
 pub returns : goal.returns
 unfolding payment
 returns c = let e = sym c.faulty.ensures ∙ c.if-faulty.false in
-    let f = few_listed c.before.args.s e in
-    let m : long c.before.args.s ≤ length c.before.args.gives.now = omega (arith, c.before.requires.1, mul-le-mul f c.before.requires.0.few) in
-    let k = code_is c.before.args.s c.before.args.gives.now c.propose_from-code.result m c.propose_from-code.ensures.0 in
+    let f = few_listed c.args.s e in
+    let m : long c.args.s ≤ length c.args.gives.now = omega (arith, c.requires.1, mul-le-mul f c.requires.0.few) in
+    let k = code_is c.args.s c.args.gives.now c.propose_from-code.result m c.propose_from-code.ensures.0 in
     let z = c.if-code-ne0.false in
-    let q = list-is c.before.args.s c.before.args.gives.now c.propose_from-code.result _ c.propose_from-code.ensures.1 in
-    does_as (sym (out_paid c.before.args.s c.before.args.gives.now e (sym k ∙ z))) (record { teller = c.pay_proposed.ensures.0; lent = q ∙ rw z (list_written c.before.args.s c.before.args.gives.now); wrote = c.pay_proposed.ensures.1; most = c.pay_proposed.ensures.2 })
+    let q = list-is c.args.s c.args.gives.now c.propose_from-code.result _ c.propose_from-code.ensures.1 in
+    does_as (sym (out_paid c.args.s c.args.gives.now e (sym k ∙ z))) (record { teller = c.pay_proposed.ensures.0; lent = q ∙ rw z (list_written c.args.s c.args.gives.now); wrote = c.pay_proposed.ensures.1; most = c.pay_proposed.ensures.2 })
