@@ -79,6 +79,8 @@ class Function:
             if head == self.old_step.get(at) or head in ("args", "requires", "ranges", "auto", "type-inv"):
                 break
             at = self.parent.get(at)
+        if parts[0] == "well-formed":
+            return place, ["well_formed"] + parts[1:]
         if head == "args" and len(parts) > 1:
             return place, ["args", self.args.get(parts[1], parts[1])] + parts[2:]
         # a place that only the older Rattle had on the way: the step is found further up
@@ -125,12 +127,19 @@ class Function:
     def body(self, text, place, context="c", goal=None):
         """The text of an answer, with what it cites of the context c under today's names. A whole context that is handed on is the record of
         its place: behind a goal `(goal.at.GOAL c).PLACE`, in a lemma over a place what the field `before` has."""
-        scope, bags, steps = {context: place}, set(), {}
+        scope, bags, steps, said = {context: place}, set(), {}, {}
 
         def turn(m):
             head, parts = m[1], [p for p in m[2].split(".") if p]
             if head in bags and parts and parts[0] in self.args:
                 return ".".join([head, self.args[parts[0]]] + parts[1:])
+            if head in said:
+                # all that a call ensures, under a name of its own
+                if text[max(0, m.start() - 4):m.start()] == "let ":
+                    return m[0]
+                new = self.by_label([head, "ensures"] + parts, said[head])
+                new = new[0].replace("\x00.", "") if new[0].startswith("(") else ".".join(new)
+                return new.replace(f"{head}.ensures", head)
             if head in steps and parts:
                 new = self.by_label([head] + parts, steps[head])
                 return new[0].replace("\x00.", "") if new[0].startswith("(") else ".".join(new)
@@ -149,6 +158,10 @@ class Function:
                 self.cited.add(self.place_name.get(at, at))
                 return f"(goal.at.{goal} {context}).{self.place_name.get(at, at)}" if goal else m[0]
             if new and new[0].startswith("("):
+                fields = re.findall(r"ensures\.(\w+)", new[0])
+                if bound and re.match(r"\s+in\b", text[m.end():m.end() + 8]):
+                    said[bound[1]] = fields
+                    return re.search(r"\x00\.(.*?\.ensures)\.", new[0])[0][:-1].replace("\x00", head)
                 return new[0].replace("\x00", head)
             if len(new) == 1 and bound and new[0] in self.step.values():
                 owner = next((p for p in self.step if self.step[p] == new[0] and self.clause.get(p)), None)

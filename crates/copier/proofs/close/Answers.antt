@@ -12,8 +12,8 @@ returns-then-e-eq0 c = let s = c in let r = close_none s.args.c s.args.buf.now s
 
 pub returns-then-c-2 : goal.returns-then-c-2
 returns-then-c-2 c = let s = c in
-    let w = (c.whole_block-t.ensures.gave, c.whole_block-t.ensures.held) in
-    let r = close_block s.args.c s.args.buf.now s.args.copy.now s.args.notes.now (omega (arith, s.requires.0.room.most, s.requires.1)) c.if-c.false c.if-c-2.true c.if-e-eq0.false w.0 w.1.1 w.1.2 in record { copied = r.0; said = r.1.0; within = r.1.1 }
+    let w = c.whole_block-t.ensures in
+    let r = close_block s.args.c s.args.buf.now s.args.copy.now s.args.notes.now (omega (arith, s.requires.0.room.most, s.requires.1)) c.if-c.false c.if-c-2.true c.if-e-eq0.false w.gave w.held.1 w.held.2 in record { copied = r.0; said = r.1.0; within = r.1.1 }
 
 pub returns : goal.returns
 returns c = let s = c in let r = close_bad s.args.c s.args.buf.now s.args.copy.now s.args.notes.now c.if-c.false c.if-c-2.false c.note_bad.ensures s.requires.3 in record { copied = r.0; said = r.1.0; within = r.1.1 }

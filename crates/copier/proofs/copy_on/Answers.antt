@@ -49,13 +49,13 @@ feed-f-requires c = let g = c.loop-buf in
     (g.invariant.held, omega (arith, c.requires.1, g.invariant.size), search rules, search rules)
 
 pub overflow_add-used : goal.overflow_add-used
-overflow_add-used c = omega (arith, c.well-formed, on_used c.loop-buf.invariant c.feed-f.ensures.held.1)
+overflow_add-used c = omega (arith, c.well_formed, on_used c.loop-buf.invariant c.feed-f.ensures.held.1)
 
 pub overflow_add-at : goal.overflow_add-at
-overflow_add-at c = omega (arith, c.well-formed, c.loop-buf.invariant.same, on_room c.loop-buf.invariant c.feed-f.ensures.held.3)
+overflow_add-at c = omega (arith, c.well_formed, c.loop-buf.invariant.same, on_room c.loop-buf.invariant c.feed-f.ensures.held.3)
 
 pub overflow_add-said : goal.overflow_add-said
-overflow_add-said c = omega (arith, c.well-formed, c.loop-buf.invariant.even, on_notes c.loop-buf.invariant c.feed-f.ensures.held.4)
+overflow_add-said c = omega (arith, c.well_formed, c.loop-buf.invariant.even, on_notes c.loop-buf.invariant c.feed-f.ensures.held.4)
 
 pub loop-buf-smaller : goal.loop-buf-smaller
 loop-buf-smaller c = let g = c.loop-buf in
@@ -64,9 +64,9 @@ loop-buf-smaller c = let g = c.loop-buf in
 
 pub loop-buf-preserved : goal.loop-buf-preserved
 loop-buf-preserved c = let g = c.loop-buf in
-    let f = (c.feed-f.ensures.fed, (c.feed-f.ensures.used, c.feed-f.ensures.held)) in
+    let f = c.feed-f.ensures in
     let t = goes_when g.used (length c.args.part.now) (length g.copy - g.at) (length g.notes - g.said) c.goes_on.ensures c.loop-buf-test.true in
-    on_turn g.invariant f.0 f.1.1.0 (on_moves g.invariant t.0 f.1.1.2).0 f.1.1.1 f.1.1.3 f.1.1.4 refl c.copy-1.given.0 refl c.notes-1.given.0 (search rules)
+    on_turn g.invariant f.fed f.held.0 (on_moves g.invariant t.0 f.held.2).0 f.held.1 f.held.3 f.held.4 refl c.copy-1.given.0 refl c.notes-1.given.0 (search rules)
 
 pub shape_of-buf : goal.shape_of-buf
 shape_of-buf c = c.loop-buf.invariant.size

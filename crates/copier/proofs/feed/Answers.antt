@@ -12,6 +12,6 @@ feed_kept-requires c = let s = c in (held_as s.args.c c.if-c.false s.requires.0,
 
 pub returns : goal.returns
 returns c = let s = c in
-    let f = (c.feed_kept.ensures.fed, (c.feed_kept.ensures.used, c.feed_kept.ensures.held)) in
+    let f = c.feed_kept.ensures in
     let q = copier_is s.args.c c.if-c.false in
-    record { fed = fed_as q f.0; used = used_as s.args.buf.now s.args.part.now q f.1.0; held = f.1.1 }
+    record { fed = fed_as q f.fed; used = used_as s.args.buf.now s.args.part.now q f.used; held = f.held }

@@ -11,14 +11,14 @@ gather-g-requires c = let h = c.requires in
 
 pub returns-then-n-want : goal.returns-then-n-want
 returns-then-n-want c = let s = c in
-    let g = (c.gather-g.ensures.got, (c.gather-g.ensures.kept, c.gather-g.ensures.room)) in
-    let w = c.lines_of-want.ensures in record { fed = fed_kept s.args.opened s.args.s s.args.count s.args.m s.requires.0 s.args.buf.now s.args.part.now s.args.copy.now s.args.notes.now _ w.0 g.0 g.1.0 c.if-n-want.true; used = used_is s.args.opened s.args.s s.args.count s.args.m s.requires.0 s.args.buf.now s.args.part.now s.args.copy.now s.args.notes.now _ w.0 g.0 g.1.0; held = (held_with s.args.opened s.args.s s.args.count s.args.m s.requires.0 _ g.1.1.0 (omega (arith, w.0, c.if-n-want.true)), g.1.1.1, g.1.1.2, omega arith, omega arith) }
+    let g = c.gather-g.ensures in
+    let w = c.lines_of-want.ensures in record { fed = fed_kept s.args.opened s.args.s s.args.count s.args.m s.requires.0 s.args.buf.now s.args.part.now s.args.copy.now s.args.notes.now _ w.0 g.got g.kept c.if-n-want.true; used = used_is s.args.opened s.args.s s.args.count s.args.m s.requires.0 s.args.buf.now s.args.part.now s.args.copy.now s.args.notes.now _ w.0 g.got g.kept; held = (held_with s.args.opened s.args.s s.args.count s.args.m s.requires.0 _ g.room.0 (omega (arith, w.0, c.if-n-want.true)), g.room.1, g.room.2, omega arith, omega arith) }
 
 pub whole-t-requires : goal.whole-t-requires
 whole-t-requires c = let h = c.requires in search rules
 
 pub returns : goal.returns
 returns c = let s = c in
-    let g = (c.gather-g.ensures.got, (c.gather-g.ensures.kept, c.gather-g.ensures.room)) in
+    let g = c.gather-g.ensures in
     let l = c.lines_of-want.ensures in
-    let w = (c.whole-t.ensures.gave, c.whole-t.ensures.held) in record { fed = fed_whole s.args.opened s.args.s s.args.count s.args.m s.requires.0 s.args.buf.now s.args.part.now s.args.copy.now s.args.notes.now _ l.0 g.0 g.1.0 c.if-n-want.false w.0; used = used_is s.args.opened s.args.s s.args.count s.args.m s.requires.0 s.args.buf.now s.args.part.now s.args.copy.now s.args.notes.now _ l.0 g.0 g.1.0; held = (w.1.0, g.1.1.1, g.1.1.2, w.1.1, w.1.2) }
+    let w = c.whole-t.ensures in record { fed = fed_whole s.args.opened s.args.s s.args.count s.args.m s.requires.0 s.args.buf.now s.args.part.now s.args.copy.now s.args.notes.now _ l.0 g.got g.kept c.if-n-want.false w.gave; used = used_is s.args.opened s.args.s s.args.count s.args.m s.requires.0 s.args.buf.now s.args.part.now s.args.copy.now s.args.notes.now _ l.0 g.got g.kept; held = (w.held.0, g.room.1, g.room.2, w.held.1, w.held.2) }

@@ -4,7 +4,7 @@ use borrow.Author.Rules.{rules}
 use Rattle.copier.proofs.whole.Goals as goal
 
 pub returns-then-opened : goal.returns-then-opened
-returns-then-opened c = let w = (c.whole_block.ensures.gave, c.whole_block.ensures.held) in record { gave = gave_as c.args.s c.args.count c.args.block.now c.if-opened.true w.0; held = w.1 }
+returns-then-opened c = let w = c.whole_block.ensures in record { gave = gave_as c.args.s c.args.count c.args.block.now c.if-opened.true w.gave; held = w.held }
 
 pub returns : goal.returns
-returns c = let w = (c.whole_sheet.ensures.gave, c.whole_sheet.ensures.held) in record { gave = gave_as c.args.s c.args.count c.args.block.now c.if-opened.false w.0; held = w.1 }
+returns c = let w = c.whole_sheet.ensures in record { gave = gave_as c.args.s c.args.count c.args.block.now c.if-opened.false w.gave; held = w.held }

@@ -11,5 +11,5 @@ returns-in-Bad c = let s = c in
 
 pub returns-in-Read : goal.returns-in-Read
 returns-in-Read c = let s = c in
-    let k = (c.copy_sheet-k.ensures.answer, (c.copy_sheet-k.ensures.bytes, c.copy_sheet-k.ensures.within)) in
-    record { gave = read_gave s.args.block.now s.args.copy.now s.args.notes.now c.read_sheet.ensures c.in-Read.is s.requires.0 k.0 k.1.0 c.behind-d.ensures.0; held = (c.behind-d.ensures.1, k.1.1, omega arith) }
+    let k = c.copy_sheet-k.ensures in
+    record { gave = read_gave s.args.block.now s.args.copy.now s.args.notes.now c.read_sheet.ensures c.in-Read.is s.requires.0 k.answer k.bytes c.behind-d.ensures.0; held = (c.behind-d.ensures.1, k.within, omega arith) }

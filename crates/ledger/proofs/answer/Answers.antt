@@ -17,7 +17,7 @@ enter-requires c = let s = c in (s.requires.0, subst (λ (k : Block). number_of_
 pub returns : goal.returns
 returns c =
     let s = c in
-    let e = (c.enter.ensures.answer, (c.enter.ensures.log, (c.enter.ensures.index, (c.enter.ensures.sheet, c.enter.ensures.held)))) in
+    let e = c.enter.ensures in
     let r = answer_entry s.args.b s.args.shared s.args.lines.now s.args.log.now s.args.index.now s.args.sheet.now
-    c.is_right.ensures c.if-is_right.false s.requires.1 e.0 e.1.0 e.1.1.0 e.1.1.1.0 in
-    record { answer = r.0; log = r.1.0; index = r.1.1.0; sheet = r.1.1.1; held = e.1.1.1.1 }
+    c.is_right.ensures c.if-is_right.false s.requires.1 e.answer e.log e.index e.sheet in
+    record { answer = r.0; log = r.1.0; index = r.1.1.0; sheet = r.1.1.1; held = e.held }

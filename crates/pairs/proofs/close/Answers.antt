@@ -4,4 +4,4 @@ use borrow.Author.Rules.{rules}
 use Rattle.pairs.proofs.close.Goals as goal
 
 pub returns : goal.returns
-returns c = let t = (c.take_piece.ensures.gave, c.take_piece.ensures.good) in record { gave = end_gave c.args.only c.args.p c.args.f.due _ _ c.at_end.ensures t.0; good = t.1 }
+returns c = let t = c.take_piece.ensures in record { gave = end_gave c.args.only c.args.p c.args.f.due _ _ c.at_end.ensures t.gave; good = t.good }

@@ -6,12 +6,12 @@ use Rattle.pairs.proofs.feed.Goals as goal
 pub take_piece-s-requires : goal.take_piece-s-requires
 take_piece-s-requires c =
     let s = c.requires in
-    let h = (c.hear_on-h.ensures.heard, c.hear_on-h.ensures.held) in
-    (s.0, h.1.4, s.2, s.4)
+    let h = c.hear_on-h.ensures in
+    (s.0, h.held.4, s.2, s.4)
 
 pub returns : goal.returns
 returns c =
     let s = c in
     let hear = c.hear_on-h in
     let h = (hear.ensures.heard, hear.ensures.held) in
-    let t = (c.take_piece-s.ensures.gave, c.take_piece-s.ensures.good) in record { fed = fed_one s.args.only s.args.p s.args.f s.args.buf.now s.args.part.now s.args.out.now hear.result _ h.0 t.0; held = (t.1.0, h.1.0, h.1.1, h.1.2, t.1.1) }
+    let t = c.take_piece-s.ensures in record { fed = fed_one s.args.only s.args.p s.args.f s.args.buf.now s.args.part.now s.args.out.now hear.result _ h.0 t.gave; held = (t.good.0, h.1.0, h.1.1, h.1.2, t.good.1) }

@@ -35,16 +35,16 @@ pub feed-d-requires : goal.feed-d-requires
 feed-d-requires c = let g = c.loop-buf in let t = goes_when g.used (length c.args.part.now) (length g.out - g.at) c.goes_on.ensures c.loop-buf-test.true in (g.invariant.0.good, g.invariant.0.held, g.invariant.1, omega (arith, c.requires.3, g.invariant.0.size), search rules)
 
 pub overflow_add-used : goal.overflow_add-used
-overflow_add-used c = omega (arith, c.well-formed, on_used c.loop-buf.invariant.0 c.feed-d.ensures.held.2)
+overflow_add-used c = omega (arith, c.well_formed, on_used c.loop-buf.invariant.0 c.feed-d.ensures.held.2)
 
 pub overflow_add-at : goal.overflow_add-at
-overflow_add-at c = omega (arith, c.well-formed, c.loop-buf.invariant.0.same, on_room c.loop-buf.invariant.0 c.feed-d.ensures.held.4)
+overflow_add-at c = omega (arith, c.well_formed, c.loop-buf.invariant.0.same, on_room c.loop-buf.invariant.0 c.feed-d.ensures.held.4)
 
 pub loop-buf-smaller : goal.loop-buf-smaller
 loop-buf-smaller c = let g = c.loop-buf in let t = goes_when g.used (length c.args.part.now) (length g.out - g.at) c.goes_on.ensures c.loop-buf-test.true in (on_moves g.invariant.0 t.0 c.feed-d.ensures.held.3).1
 
 pub loop-buf-preserved : goal.loop-buf-preserved
-loop-buf-preserved c = let g = c.loop-buf in let f = (c.feed-d.ensures.fed, c.feed-d.ensures.held) in let t = goes_when g.used (length c.args.part.now) (length g.out - g.at) c.goes_on.ensures c.loop-buf-test.true in (on_turn g.invariant.0 f.0 f.1.0 f.1.1 (on_moves g.invariant.0 t.0 f.1.3).0 f.1.2 f.1.4 refl c.out-1.given.0 (search rules), g.invariant.1)
+loop-buf-preserved c = let g = c.loop-buf in let f = c.feed-d.ensures in let t = goes_when g.used (length c.args.part.now) (length g.out - g.at) c.goes_on.ensures c.loop-buf-test.true in (on_turn g.invariant.0 f.fed f.held.0 f.held.1 (on_moves g.invariant.0 t.0 f.held.3).0 f.held.2 f.held.4 refl c.out-1.given.0 (search rules), g.invariant.1)
 
 pub shape_of-buf : goal.shape_of-buf
 shape_of-buf c = c.loop-buf.invariant.0.size

@@ -23,7 +23,7 @@ pub hear-k-requires : goal.hear-k-requires
 hear-k-requires c = (c.loop-from.invariant.0.held, omega (arith, c.loop-from.invariant.0.size, c.loop-from.invariant.1))
 
 pub overflow_add-next : goal.overflow_add-next
-overflow_add-next c = omega (arith, c.well-formed, turn_used _ _ _ _ _ c.loop-from.invariant.0 c.hear-k.ensures.held.1)
+overflow_add-next c = omega (arith, c.well_formed, turn_used _ _ _ _ _ c.loop-from.invariant.0 c.hear-k.ensures.held.1)
 
 pub loop-from-smaller : goal.loop-from-smaller
 loop-from-smaller c = let t = goes_on_when c.loop-from.h.what c.loop-from.h.used (length c.args.part.now) c.both.ensures c.loop-from-test.true in turn_less _ _ _ _ _ c.loop-from.invariant.0 t.1 c.hear-k.ensures.held.2

@@ -9,4 +9,4 @@ pub returns-then-p : goal.returns-then-p
 returns-then-p c = record { gave = shut_gave c.args.only c.args.p (piece_of c.args.what c.args.due c.args.lines.now) c.args.out.now c.if-p.true; good = (c.requires.0, omega arith) }
 
 pub returns : goal.returns
-returns c = let w = (c.piece.ensures.gave, c.piece.ensures.good) in record { gave = w.0; good = (w.1, within (search rules) w.0.wrote) }
+returns c = let w = c.piece.ensures in record { gave = w.gave; good = (w.good, within (search rules) w.gave.wrote) }

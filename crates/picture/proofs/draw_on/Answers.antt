@@ -19,7 +19,7 @@ pub step-d-requires : goal.step-d-requires
 step-d-requires c = let g = c.loop-buf.invariant in (g.held, omega (arith, c.requires.1, g.size), (draw_goes g c.goes_on.ensures c.loop-buf-test.true).1)
 
 pub overflow_add-used : goal.overflow_add-used
-overflow_add-used c = omega (arith, c.well-formed, (draw_goes c.loop-buf.invariant c.goes_on.ensures c.loop-buf-test.true).0)
+overflow_add-used c = omega (arith, c.well_formed, (draw_goes c.loop-buf.invariant c.goes_on.ensures c.loop-buf-test.true).0)
 
 pub loop-buf-smaller : goal.loop-buf-smaller
 loop-buf-smaller c = omega (arith, (draw_goes c.loop-buf.invariant c.goes_on.ensures c.loop-buf-test.true).0)

@@ -30,10 +30,10 @@ pub step-d-requires : goal.step-d-requires
 step-d-requires c = let g = c.loop-out in let t = renew_goes c.loop-out.invariant c.goes_on.ensures c.loop-out-test.true in (g.invariant.held, omega (arith, t.1, ap length (part_is g.at g.out), length-drop g.at g.out))
 
 pub overflow_add-at : goal.overflow_add-at
-overflow_add-at c = omega (arith, c.well-formed, c.loop-out.invariant.same, (renew_goes c.loop-out.invariant c.goes_on.ensures c.loop-out-test.true).1, c.step-d.ensures.held.1)
+overflow_add-at c = omega (arith, c.well_formed, c.loop-out.invariant.same, (renew_goes c.loop-out.invariant c.goes_on.ensures c.loop-out-test.true).1, c.step-d.ensures.held.1)
 
 pub overflow_add-used : goal.overflow_add-used
-overflow_add-used c = omega (arith, c.well-formed, (renew_goes c.loop-out.invariant c.goes_on.ensures c.loop-out-test.true).0)
+overflow_add-used c = omega (arith, c.well_formed, (renew_goes c.loop-out.invariant c.goes_on.ensures c.loop-out-test.true).0)
 
 pub loop-out-smaller : goal.loop-out-smaller
 loop-out-smaller c = omega (arith, (renew_goes c.loop-out.invariant c.goes_on.ensures c.loop-out-test.true).0)

@@ -35,10 +35,10 @@ pub feed-f-requires : goal.feed-f-requires
 feed-f-requires c = let g = c.loop-buf.invariant in (g.held, omega (arith, c.requires.1, g.size))
 
 pub overflow_add-used : goal.overflow_add-used
-overflow_add-used c = let s = c in omega (arith, s.well-formed, on_used c.loop-buf.invariant c.feed-f.ensures.held.1)
+overflow_add-used c = let s = c in omega (arith, s.well_formed, on_used c.loop-buf.invariant c.feed-f.ensures.held.1)
 
 pub overflow_add-at : goal.overflow_add-at
-overflow_add-at c = let s = c in omega (arith, s.well-formed, c.loop-buf.invariant.same, on_room c.loop-buf.invariant c.feed-f.ensures.held.3)
+overflow_add-at c = let s = c in omega (arith, s.well_formed, c.loop-buf.invariant.same, on_room c.loop-buf.invariant c.feed-f.ensures.held.3)
 
 pub loop-buf-smaller : goal.loop-buf-smaller
 loop-buf-smaller c =

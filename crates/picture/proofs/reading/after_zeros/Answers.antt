@@ -13,7 +13,7 @@ pub loop-i-init : goal.loop-i-init
 loop-i-init c = (omega arith, refl)
 
 pub overflow_add-i : goal.overflow_add-i
-overflow_add-i c = omega (arith, c.well-formed, leads_within c.args.part.now c.loop-i.i c.zero_at.ensures c.loop-i-test.true)
+overflow_add-i c = omega (arith, c.well_formed, leads_within c.args.part.now c.loop-i.i c.zero_at.ensures c.loop-i-test.true)
 
 pub loop-i-smaller : goal.loop-i-smaller
 loop-i-smaller c = omega (arith, leads_within c.args.part.now c.loop-i.i c.zero_at.ensures c.loop-i-test.true)

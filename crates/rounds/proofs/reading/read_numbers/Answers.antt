@@ -21,8 +21,8 @@ read_line-l-requires c = (c.loop-k.invariant.2, c.loop-k-test.true)
 pub loop-k-preserved : goal.loop-k-preserved
 loop-k-preserved c = let b = c.args.block.now in
     let i = c.loop-k.invariant in
-    let n = (c.read_line-l.ensures.is, c.read_line-l.ensures.next) in
-    (omega arith, search rules, n.1.1, good_turn c.loop-k.k (drop c.loop-k.at b) _ c.loop-k-test.true n.1.0 c.loop-k.good i.3 n.0.0 c.both-good.ensures, value_turn c.loop-k.k (drop c.loop-k.at b) _ c.loop-k-test.true n.1.0 c.loop-k.numbers (omega (arith, i.1, c.loop-k-test.true)) i.4 n.0.1, used_turn c.loop-k.k (drop c.loop-k.at b) _ c.loop-k-test.true n.1.0 i.5)
+    let n = c.read_line-l.ensures in
+    (omega arith, search rules, n.next.1, good_turn c.loop-k.k (drop c.loop-k.at b) _ c.loop-k-test.true n.next.0 c.loop-k.good i.3 n.is.0 c.both-good.ensures, value_turn c.loop-k.k (drop c.loop-k.at b) _ c.loop-k-test.true n.next.0 c.loop-k.numbers (omega (arith, i.1, c.loop-k-test.true)) i.4 n.is.1, used_turn c.loop-k.k (drop c.loop-k.at b) _ c.loop-k-test.true n.next.0 i.5)
 
 pub returns : goal.returns
 returns c = let i = c.loop-k.invariant in

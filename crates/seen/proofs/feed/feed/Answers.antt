@@ -17,28 +17,28 @@ gather-g-requires c = let s = c in
 
 pub returns-then-k-want : goal.returns-then-k-want
 returns-then-k-want c = let s = c in
-    let g = (c.gather-g.ensures.got, (c.gather-g.ensures.kept, c.gather-g.ensures.room)) in
+    let g = c.gather-g.ensures in
     let w = c.lines_of-want.ensures in
     let k = c.keeping.ensures in record {
       fed = (
-        fed_kept s.args.s s.args.buf.now s.args.part.now c.if-s.false w.0 g.0 g.1.0 c.if-k-want.true k,
-        buffer-is s.args.s s.args.buf.now s.args.part.now c.if-s.false w.0 g.0 g.1.0,
+        fed_kept s.args.s s.args.buf.now s.args.part.now c.if-s.false w.0 g.got g.kept c.if-k-want.true k,
+        buffer-is s.args.s s.args.buf.now s.args.part.now c.if-s.false w.0 g.got g.kept,
       );
       held = (
-        subst Held (sym k) (record { sound = s.requires.0.sound; room = g.1.1.0; lines = omega (arith, w.0, c.if-k-want.true) }),
-        g.1.1.1,
-        g.1.1.2,
+        subst Held (sym k) (record { sound = s.requires.0.sound; room = g.room.0; lines = omega (arith, w.0, c.if-k-want.true) }),
+        g.room.1,
+        g.room.2,
       );
     }
 
 pub returns : goal.returns
 returns c = let s = c in
-    let g = (c.gather-g.ensures.got, (c.gather-g.ensures.kept, c.gather-g.ensures.room)) in
+    let g = c.gather-g.ensures in
     let w = c.lines_of-want.ensures in
     let k = c.after_lines.ensures in record {
       fed = (
-        fed_whole s.args.s s.args.buf.now s.args.part.now c.if-s.false w.0 g.0 g.1.0 c.if-k-want.false k.0,
-        buffer-is s.args.s s.args.buf.now s.args.part.now c.if-s.false w.0 g.0 g.1.0,
+        fed_whole s.args.s s.args.buf.now s.args.part.now c.if-s.false w.0 g.got g.kept c.if-k-want.false k.0,
+        buffer-is s.args.s s.args.buf.now s.args.part.now c.if-s.false w.0 g.got g.kept,
       );
-      held = (k.1, g.1.1.1, g.1.1.2);
+      held = (k.1, g.room.1, g.room.2);
     }

@@ -61,7 +61,7 @@ pub put_answer-at-requires : goal.put_answer-at-requires
 put_answer-at-requires c = (c.shown_with-shown.ensures.1, go-fits c.loop-left.invariant c.read_front-f.ensures c.loop-left-test.true c.plan-p.ensures c.take-k.ensures.0 c.or_else-code.ensures c.shown_with-shown.ensures.0 c.has_room.ensures c.if-not-has_room.false)
 
 pub overflow_add-at : goal.overflow_add-at
-overflow_add-at c = omega (arith, c.well-formed, go-room c.loop-left.invariant c.read_front-f.ensures c.loop-left-test.true c.plan-p.ensures c.take-k.ensures.0 c.or_else-code.ensures c.shown_with-shown.ensures.0 c.has_room.ensures c.if-not-has_room.false c.put_answer-at.ensures)
+overflow_add-at c = omega (arith, c.well_formed, go-room c.loop-left.invariant c.read_front-f.ensures c.loop-left-test.true c.plan-p.ensures c.take-k.ensures.0 c.or_else-code.ensures c.shown_with-shown.ensures.0 c.has_room.ensures c.if-not-has_room.false c.put_answer-at.ensures)
 
 pub front_rest-next-requires : goal.front_rest-next-requires
 front_rest-next-requires c = ap (λ (x : Front). x.used) c.read_front-f.ensures
