@@ -406,8 +406,9 @@ def main(argv):
                 if said and new.startswith("returns") and " search rules" not in later[-14:]:
                     later = by_clause(said, later)
                 # the test of `!x` says what x is, with no lemma
-                later = re.sub(r"\(not-(?:true|false) _ ([^\s()]+\.(?:true|false))\)", r"\1", later)
-                later = re.sub(r"(?<![^\s(])not-(?:true|false) _ ([^\s()]+\.(?:true|false))", r"\1", later)
+                if not os.environ.get("KEEPNOT"):
+                    later = re.sub(r"\(not-(?:true|false) _ ([^\s()]+\.(?:true|false))\)", r"\1", later)
+                    later = re.sub(r"(?<![^\s(])not-(?:true|false) _ ([^\s()]+\.(?:true|false))", r"\1", later)
                 answers.append((new, comments, f"pub {new} : goal.{new}\n{later}"))
             elif m and (m[1].startswith("invariant") or m[1].startswith("decreases") or m[1].startswith("measure")):
                 kind, _, loop = m[1].partition("-")

@@ -14,5 +14,5 @@ pub returns : goal.returns
 returns c =
     let s = c in
     let a = read_answered s.args.table s.args.log.now s.args.sheet.now c.read_block.ensures in
-    let w = (c.answer_block.ensures.answer, (c.answer_block.ensures.bytes, c.answer_block.ensures.sound)) in
-    record { answer = w.0 ∙ a.0; bytes = w.1.0 ∙ ap (λ (x : List ℕ). sheet_after x s.args.sheet.now) a.1; sound = w.1.1 }
+    let w = c.answer_block.ensures in
+    record { answer = w.answer ∙ a.0; bytes = w.bytes ∙ ap (λ (x : List ℕ). sheet_after x s.args.sheet.now) a.1; sound = w.sound }

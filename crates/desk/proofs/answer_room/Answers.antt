@@ -7,7 +7,7 @@ use Rattle.desk.proofs.answer_room.Goals as goal
 pub returns-then-not-j : goal.returns-then-not-j
 returns-then-not-j c =
     let a = c.args in
-    none_said a.t a.log.now c.judge-j.ensures.0 c.if-not-j.true
+    none_said a.t a.log.now c.judge-j.ensures.0 (not-true _ c.if-not-j.true)
 
 pub shown_of-requires : goal.shown_of-requires
 shown_of-requires c =
@@ -18,5 +18,5 @@ shown_of-requires c =
 pub returns : goal.returns
 returns c =
     let a = c.args in
-    some_said a.t a.log.now c.judge-j.ensures.0 c.if-not-j.false
+    some_said a.t a.log.now c.judge-j.ensures.0 (not-false _ c.if-not-j.false)
     c.shown_of.ensures.0 c.answer_len.ensures

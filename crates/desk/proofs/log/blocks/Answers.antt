@@ -29,7 +29,7 @@ answer-a-requires c =
 
 pub overflow_add-at : goal.overflow_add-at
 overflow_add-at c =
-    omega (arith, c.well-formed, going_room c.loop-left.invariant c.answer-a.ensures.answer, c.loop-left.invariant.same)
+    omega (arith, c.well_formed, going_room c.loop-left.invariant c.answer-a.ensures.answer, c.loop-left.invariant.same)
 
 pub rest-next-requires : goal.rest-next-requires
 rest-next-requires c =
