@@ -10,6 +10,7 @@ use native.Mathlib.Omega.{arith}
 use mathlib.Core.Path.{refl, ap, ◌∙◌}
 use mathlib.Core.Logic.{⊎_elim, inl, inr}
 use borrow.Author.Rules.{rules}
+use Rattle.stream.proofs.place.in_place.Goals.{then-room-lt-LONGEST_SHARED, else-room-lt-LONGEST_SHARED}
 use Rattle.stream.proofs.place.in_place.Goals as goal
 
 pub loop-left-init : goal.loop-left-init
@@ -22,7 +23,7 @@ pub shape_of-out-then-not-f : goal.shape_of-out-then-not-f
 shape_of-out-then-not-f c = c.loop-left.invariant.run.same
 
 pub returns-then-not-f : goal.returns-then-not-f
-returns-then-not-f c = let r = go-open c.loop-left.invariant c.read_front-f.ensures c.if-not-f.true c.ran_to.ensures in record { ran = r.0; bytes = r.1.0; sound = r.1.1 }
+returns-then-not-f c = let r = go-open c.loop-left.invariant c.read_front-f.ensures (not-true _ c.if-not-f.true) c.ran_to.ensures in record { ran = r.0; bytes = r.1.0; sound = r.1.1 }
 
 pub overflow_sub-room : goal.overflow_sub-room
 overflow_sub-room c = let g = c.loop-left.invariant.run in omega (arith, g.within, g.same)
@@ -46,7 +47,7 @@ pub shape_of-out-then-not-has_room : goal.shape_of-out-then-not-has_room
 shape_of-out-then-not-has_room c = c.loop-left.invariant.run.same
 
 pub returns-then-not-has_room : goal.returns-then-not-has_room
-returns-then-not-has_room c = let r = go-full c.loop-left.invariant c.read_front-f.ensures c.loop-left-test.true c.plan-p.ensures c.take-k.ensures.0 c.or_else-code.ensures c.shown_with-shown.ensures.0 c.has_room.ensures c.if-not-has_room.true (⊎_elim (λ w. inl w.1) (λ w. inr w.0.left) c.if-room-lt-LONGEST_SHARED.branch) c.ran_to-then-not-has_room.ensures in record { ran = r.0; bytes = r.1.0; sound = r.1.1 }
+returns-then-not-has_room c = let r = go-full c.loop-left.invariant c.read_front-f.ensures c.loop-left-test.true c.plan-p.ensures c.take-k.ensures.0 c.or_else-code.ensures c.shown_with-shown.ensures.0 c.has_room.ensures c.if-not-has_room.true (elim c.if-room-lt-LONGEST_SHARED.branch [ then-room-lt-LONGEST_SHARED w ↦ inl w.old-is | else-room-lt-LONGEST_SHARED w ↦ inr w.if-room-lt-LONGEST_SHARED.false ]) c.ran_to-then-not-has_room.ensures in record { ran = r.0; bytes = r.1.0; sound = r.1.1 }
 
 pub slice_bounds-put_answer-count : goal.slice_bounds-put_answer-count
 slice_bounds-put_answer-count c = let g = c.loop-left.invariant.run in omega (arith, g.within, g.same)
@@ -70,7 +71,7 @@ pub loop-left-smaller : goal.loop-left-smaller
 loop-left-smaller c = run-less c.loop-left.invariant.run c.read_front-f.ensures (whole_part c.front_rest-next.result.now ∙ c.front_rest-next.ensures) c.loop-left-test.true
 
 pub loop-left-preserved : goal.loop-left-preserved
-loop-left-preserved c = go-turn c.loop-left.invariant c.read_front-f.ensures c.loop-left-test.true c.plan-p.ensures c.take-k.ensures.0 c.or_else-code.ensures c.shown_with-shown.ensures.0 c.has_room.ensures c.if-not-has_room.false c.put_answer-at.ensures refl c.if-not-f.false c.take-k.ensures.1 c.stands_after-after.ensures (whole_part c.front_rest-next.result.now ∙ c.front_rest-next.ensures)
+loop-left-preserved c = go-turn c.loop-left.invariant c.read_front-f.ensures c.loop-left-test.true c.plan-p.ensures c.take-k.ensures.0 c.or_else-code.ensures c.shown_with-shown.ensures.0 c.has_room.ensures c.if-not-has_room.false c.put_answer-at.ensures refl (not-false _ c.if-not-f.false) c.take-k.ensures.1 c.stands_after-after.ensures (whole_part c.front_rest-next.result.now ∙ c.front_rest-next.ensures)
 
 pub ran_to-requires-2 : goal.ran_to-requires-2
 ran_to-requires-2 c = c.loop-left.invariant.run.inside
