@@ -2,6 +2,4 @@ pub mod Fits
 pub mod Reading
 pub mod Settling
 pub mod Slots
-pub mod Adding
-pub mod Lending
 pub mod Paid
