@@ -1,7 +1,6 @@
 -- `added` meets its contract.
 use borrow.Author.Tests.{lt-ltb, le-ltb}
 use Rattle.accounts.specs.Sums.{added_to}
-use borrow.Author.Rules.{rules}
 use Rattle.accounts.proofs.added.Goals as goal
 
 pub returns-then-x-gt4000000000000000000 : goal.returns-then-x-gt4000000000000000000

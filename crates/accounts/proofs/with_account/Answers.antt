@@ -1,5 +1,4 @@
 -- `with_account` meets its contract.
-use borrow.Author.Rules.{rules}
 use Rattle.accounts.proofs.with_account.Goals as goal
 
 pub returns : goal.returns

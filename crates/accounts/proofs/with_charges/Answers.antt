@@ -1,5 +1,4 @@
 -- `with_charges` meets its contract.
-use borrow.Author.Rules.{rules}
 use Rattle.accounts.proofs.with_charges.Goals as goal
 
 pub returns : goal.returns

@@ -1,6 +1,5 @@
 -- `with_code` meets its contract.
 use Rattle.accounts.specs.Sums.{counted}
-use borrow.Author.Rules.{rules}
 use Rattle.accounts.proofs.with_code.Goals as goal
 
 pub returns : goal.returns

@@ -1,6 +1,5 @@
 -- `ended` meets its contract.
 use Rattle.amends.proofs.Judging.{ended_is}
-use borrow.Author.Rules.{rules}
 use Rattle.amends.proofs.ended.Goals as goal
 
 pub returns : goal.returns

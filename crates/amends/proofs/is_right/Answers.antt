@@ -1,6 +1,5 @@
 -- `is_right` meets its contract.
 use Rattle.amends.proofs.Judging.{right_yes, right_no}
-use borrow.Author.Rules.{rules}
 use Rattle.amends.proofs.is_right.Goals as goal
 
 pub returns-in-Value : goal.returns-in-Value

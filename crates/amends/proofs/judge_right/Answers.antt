@@ -1,6 +1,5 @@
 -- `judge_right` meets its contract.
 use Rattle.amends.proofs.Judging.{code_is, judged_no, judged_yes, judged_small, refused_right}
-use borrow.Author.Rules.{rules}
 use Rattle.amends.proofs.judge_right.Goals as goal
 
 pub returns-then-code-ne-TAKEN : goal.returns-then-code-ne-TAKEN

@@ -1,6 +1,5 @@
 -- `outside` meets its contract.
 use Rattle.amends.proofs.Judging.{outside_value}
-use borrow.Author.Rules.{rules}
 use Rattle.amends.proofs.outside.Goals as goal
 
 pub returns-in-Value : goal.returns-in-Value

@@ -1,6 +1,5 @@
 -- `parsed_in` meets its contract.
 use Rattle.amends.proofs.Judging.{parsed_raw}
-use borrow.Author.Rules.{rules}
 use Rattle.amends.proofs.parsed_in.Goals as goal
 
 pub returns-in-Raw : goal.returns-in-Raw

@@ -1,6 +1,5 @@
 -- `read_right` meets its contract.
 use Rattle.amends.proofs.Judging.{right_five, right_small}
-use borrow.Author.Rules.{rules}
 use Rattle.amends.proofs.read_right.Goals as goal
 
 pub returns : goal.returns

@@ -1,6 +1,5 @@
 -- `replayed` meets its contract.
 use Rattle.amends.proofs.Judging.{refused_right, replayed_none, replayed_read}
-use borrow.Author.Rules.{rules}
 use Rattle.amends.proofs.replayed.Goals as goal
 
 pub returns-in-OutOfRange : goal.returns-in-OutOfRange

@@ -1,5 +1,4 @@
 -- `right_code` meets its contract.
-use borrow.Author.Rules.{rules}
 use Rattle.amends.proofs.right_code.Goals as goal
 
 pub returns : goal.returns

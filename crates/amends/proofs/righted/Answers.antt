@@ -1,6 +1,5 @@
 -- `righted` meets its contract.
 use Rattle.amends.proofs.Judging.{righted_yes, righted_no, refused_right}
-use borrow.Author.Rules.{rules}
 use Rattle.amends.proofs.righted.Goals as goal
 
 pub returns-then-p : goal.returns-then-p

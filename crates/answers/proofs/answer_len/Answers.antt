@@ -3,7 +3,6 @@ use mathlib.Core.Path.{ap}
 use lib.ListN.{length}
 use Rattle.answers.proofs.Blocks.{table_most, settled_count, answer_plain}
 use native.Mathlib.Omega.{arith}
-use borrow.Author.Rules.{rules}
 use Rattle.answers.proofs.answer_len.Goals as goal
 
 pub overflow_add-result : goal.overflow_add-result

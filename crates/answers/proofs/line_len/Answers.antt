@@ -2,7 +2,6 @@
 use Rattle.text.proofs.Lines.{line_count}
 use Rattle.text.proofs.Numbers.{count_most}
 use native.Mathlib.Omega.{arith}
-use borrow.Author.Rules.{rules}
 use Rattle.answers.proofs.line_len.Goals as goal
 
 pub overflow_add-result : goal.overflow_add-result

@@ -2,7 +2,6 @@
 use native.Mathlib.Omega.{arith}
 use Rattle.answers.proofs.Blocks.{line_most, payout_count}
 use Rattle.answers.specs.Answer.{key_fee, key_unclaimed}
-use borrow.Author.Rules.{rules}
 use Rattle.answers.proofs.payout_len.Goals as goal
 
 pub overflow_add-result : goal.overflow_add-result

@@ -1,14 +1,8 @@
 -- `pots_len` meets its contract.
-use mathlib.Core.Path.{◌≡◌, refl, ap}
-use mathlib.Core.List.{List}
+use mathlib.Core.Path.{◌≡◌}
 use Prim.Native.Nat.{◌-◌, ◌≤◌}
-use lib.ListN.{length, take, get_or, length-append}
-use lib.Seq.{take_all, length-take-le, get_or-take}
-use Rattle.pots.specs.declared.Pot.{Pot}
+use lib.ListN.{length, take}
 use Rattle.answers.specs.Answer.{joined, pot_bytes}
-use Rattle.answers.proofs.Blocks.{joined_more, joined_most, pot_most}
-use borrow.Author.Rules.{rules}
-use native.Mathlib.Omega.{arith}
 use Rattle.answers.proofs.pots_len.Given as goal
 
 abbrev pub invariant-loop-i : goal.invariant-loop-i

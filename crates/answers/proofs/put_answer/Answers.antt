@@ -2,7 +2,6 @@
 use Rattle.answers.proofs.Blocks.{answer_first, settled_count, answer_plain, answer_settled}
 use Rattle.writing.proofs.Sheets.{then}
 use native.Mathlib.Omega.{arith}
-use borrow.Author.Rules.{rules}
 use Rattle.answers.proofs.put_answer.Goals as goal
 
 pub put_table-at-requires : goal.put_table-at-requires

@@ -3,7 +3,6 @@ use native.Mathlib.Omega.{arith}
 use Rattle.writing.proofs.Sheets.{then}
 use Rattle.answers.proofs.Blocks.{two_count}
 use Rattle.answers.specs.Answer.{two_bytes, key_n, key_code}
-use borrow.Author.Rules.{rules}
 use Rattle.answers.proofs.put_code.Goals as goal
 
 pub write_number_line-at-requires : goal.write_number_line-at-requires

@@ -3,7 +3,6 @@ use native.Mathlib.Omega.{arith}
 use Rattle.answers.proofs.Blocks.{jackpot_shared, jackpot_lone}
 use lib.ListN.{length}
 use mathlib.Core.Path.{refl, ap}
-use borrow.Author.Rules.{rules}
 use Rattle.answers.proofs.put_jackpot.Goals as goal
 
 pub write_nine_line-requires : goal.write_nine_line-requires

@@ -3,7 +3,6 @@ use native.Mathlib.Omega.{arith}
 use Rattle.writing.proofs.Sheets.{then}
 use Rattle.answers.proofs.Blocks.{payout_count}
 use Rattle.answers.specs.Answer.{payout_bytes}
-use borrow.Author.Rules.{rules}
 use Rattle.answers.proofs.put_payout.Goals as goal
 
 pub write_number_line-a-requires : goal.write_number_line-a-requires

@@ -7,7 +7,6 @@ use lib.Seq.{take_all, get_or-take, length-take-le}
 use Rattle.pots.specs.declared.Pot.{Pot}
 use Rattle.answers.specs.Answer.{joined, pot_bytes}
 use Rattle.answers.proofs.Blocks.{joined_more, joined_room}
-use Rattle.writing.specs.AnswerSheet.{Wrote}
 use Rattle.writing.proofs.Sheets.{then}
 use borrow.Author.Rules.{rules}
 use native.Mathlib.Omega.{arith}

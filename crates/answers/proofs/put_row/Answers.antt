@@ -5,7 +5,6 @@ use Rattle.answers.proofs.Blocks.{row_none, row_some, two_count}
 use Rattle.answers.specs.Answer.{two_bytes, key_sitting, key_paid}
 use lib.ListN.{length}
 use mathlib.Core.Path.{refl, ap, ◌∙◌}
-use borrow.Author.Rules.{rules}
 use Rattle.answers.proofs.put_row.Goals as goal
 
 pub returns-then-s-eq0 : goal.returns-then-s-eq0

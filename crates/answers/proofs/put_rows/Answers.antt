@@ -1,12 +1,11 @@
 -- `put_rows` meets its contract.
 use mathlib.Core.Path.{◌≡◌, refl}
-use Prim.Native.Nat.{◌-◌, ◌≤◌}
-use lib.ListN.{length, take}
+use Prim.Native.Nat.{◌-◌}
+use lib.ListN.{length}
 use lib.Seq.{take_all}
 use Rattle.answers.specs.declared.PaidRow.{PaidRow}
-use Rattle.answers.specs.Answer.{joined, row_bytes}
+use Rattle.answers.specs.Answer.{row_bytes}
 use Rattle.answers.proofs.Blocks.{joined_more, joined_room}
-use Rattle.writing.specs.AnswerSheet.{Wrote}
 use Rattle.writing.proofs.Sheets.{then}
 use borrow.Author.Rules.{rules}
 use native.Mathlib.Omega.{arith}

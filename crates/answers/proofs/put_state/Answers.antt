@@ -3,7 +3,6 @@ use native.Mathlib.Omega.{arith}
 use Rattle.writing.proofs.Sheets.{then}
 use Rattle.answers.proofs.Blocks.{state_count, two_count}
 use Rattle.answers.specs.Answer.{state_bytes, key_n, key_code, key_turn, key_mark}
-use borrow.Author.Rules.{rules}
 use Rattle.answers.proofs.put_state.Goals as goal
 
 pub put_code-at-requires : goal.put_code-at-requires

@@ -3,7 +3,6 @@ use Rattle.answers.specs.Answer.{table_bytes}
 use Rattle.answers.proofs.Blocks.{table_count}
 use Rattle.writing.proofs.Sheets.{then}
 use native.Mathlib.Omega.{arith}
-use borrow.Author.Rules.{rules}
 use Rattle.answers.proofs.put_table.Goals as goal
 
 pub put_state-a-requires : goal.put_state-a-requires

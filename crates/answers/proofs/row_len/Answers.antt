@@ -4,7 +4,6 @@ use lib.ListN.{length}
 use Rattle.answers.specs.Answer.{key_sitting, key_paid}
 use Rattle.answers.proofs.Blocks.{row_none, row_some, line_most, two_count}
 use native.Mathlib.Omega.{arith}
-use borrow.Author.Rules.{rules}
 use Rattle.answers.proofs.row_len.Goals as goal
 
 pub returns-then-s-eq0 : goal.returns-then-s-eq0

@@ -1,7 +1,7 @@
 -- `rows_len` meets its contract.
 use mathlib.Core.Path.{◌≡◌, refl, ap}
 use mathlib.Core.List.{List}
-use Prim.Native.Nat.{◌-◌, ◌≤◌}
+use Prim.Native.Nat.{◌-◌}
 use lib.ListN.{length, take, get_or, length-append}
 use lib.Seq.{take_all, length-take-le}
 use Rattle.answers.specs.declared.PaidRow.{PaidRow}

@@ -2,7 +2,6 @@
 use Rattle.answers.specs.Answer.{key_n, key_code, key_turn, key_mark}
 use Rattle.answers.proofs.Blocks.{line_most, state_count}
 use native.Mathlib.Omega.{arith}
-use borrow.Author.Rules.{rules}
 use Rattle.answers.proofs.state_len.Goals as goal
 
 pub overflow_add-result : goal.overflow_add-result

@@ -2,7 +2,6 @@
 use Rattle.answers.specs.Answer.{key_back}
 use Rattle.answers.proofs.Blocks.{line_most, state_most, table_count, pots_most}
 use native.Mathlib.Omega.{arith}
-use borrow.Author.Rules.{rules}
 use Rattle.answers.proofs.table_len.Goals as goal
 
 pub overflow_add-result : goal.overflow_add-result

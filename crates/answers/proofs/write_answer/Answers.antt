@@ -1,10 +1,9 @@
 -- `answers::write_answer` meets its contract: where there is no room nothing is written, else the whole block.
 -- Assumes nothing.
 use mathlib.Core.Path.{sym, ◌∙◌}
-use borrow.Author.Tests.{not-true, not-false, leb-true, leb-false}
+use borrow.Author.Tests.{leb-true, leb-false}
 use Rattle.answers.specs.Answer.{answer_bytes}
 use Rattle.writing.proofs.Sheets.{no_room, with_room}
-use borrow.Author.Rules.{rules}
 use Rattle.answers.proofs.write_answer.Goals as goal
 
 pub returns-then-not-has_room : goal.returns-then-not-has_room

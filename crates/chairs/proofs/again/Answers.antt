@@ -1,5 +1,4 @@
 -- `again` meets its contract.
-use borrow.Author.Rules.{rules}
 use Rattle.chairs.proofs.again.Goals as goal
 
 pub returns : goal.returns

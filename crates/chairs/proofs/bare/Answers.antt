@@ -1,5 +1,4 @@
 -- `bare` meets its contract.
-use borrow.Author.Rules.{rules}
 use Rattle.chairs.proofs.bare.Goals as goal
 
 pub returns-then-c : goal.returns-then-c

@@ -1,5 +1,4 @@
 -- `dealt_in` meets its contract.
-use borrow.Author.Rules.{rules}
 use Rattle.chairs.proofs.dealt_in.Goals as goal
 
 pub returns : goal.returns

@@ -1,9 +1,8 @@
 -- The invariant: the card is among the first n exactly if it is among those of them that are not looked at yet.
-use borrow.Author.Rules.{rules}
-use Prim.Native.Nat.{◌-◌, ◌≤◌}
-use mathlib.Core.Path.{◌≡◌, sym, ap, ◌∙◌}
+use Prim.Native.Nat.{◌-◌}
+use mathlib.Core.Path.{sym, ap, ◌∙◌}
 use native.Mathlib.Omega.{arith}
-use lib.ListN.{length, drop, take, length-take, drop_of_length-le}
+use lib.ListN.{take, length-take, drop_of_length-le}
 use lib.Seq.{get_or-take}
 use Rattle.chairs.specs.Chairs.{has_card}
 use Rattle.chairs.proofs.Laws.{has_step}

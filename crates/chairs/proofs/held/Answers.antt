@@ -1,5 +1,4 @@
 -- `held` meets its contract.
-use borrow.Author.Rules.{rules}
 use Rattle.chairs.proofs.held.Goals as goal
 
 pub returns : goal.returns

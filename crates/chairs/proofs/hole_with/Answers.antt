@@ -1,5 +1,4 @@
 -- `hole_with` meets its contract: the first pair, and the second.
-use borrow.Author.Rules.{rules}
 use borrow.Author.Tests.{eq-eqb, ne_eqb}
 use Rattle.chairs.proofs.hole_with.Goals as goal
 

@@ -1,5 +1,4 @@
 -- `live_with_chips` meets its contract.
-use borrow.Author.Rules.{rules}
 use Rattle.chairs.proofs.live_with_chips.Goals as goal
 
 pub returns-then-c : goal.returns-then-c

@@ -1,6 +1,5 @@
 -- `owes` meets its contract.
 use mathlib.Core.Path.{sym, ◌∙◌}
-use borrow.Author.Rules.{rules}
 use Rattle.chairs.proofs.owes.Goals as goal
 
 pub returns-then-c : goal.returns-then-c

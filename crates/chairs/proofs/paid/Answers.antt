@@ -1,5 +1,4 @@
 -- `paid` meets its contract.
-use borrow.Author.Rules.{rules}
 use Rattle.chairs.proofs.paid.Goals as goal
 
 pub returns : goal.returns

@@ -1,6 +1,6 @@
 -- `best_among` meets its contract.
-use Prim.Native.Nat.{◌≤◌, ◌-◌, ◌+◌, ◌/◌}
-use mathlib.Core.Path.{◌≡◌, sym, ap, ◌∙◌}
+use Prim.Native.Nat.{◌-◌, ◌+◌, ◌/◌}
+use mathlib.Core.Path.{sym, ap, ◌∙◌}
 use Rattle.columns.specs.Columns.{best_among}
 use lib.ListN.{drop}
 use Rattle.columns.proofs.Turns.{best_turn, best_done}

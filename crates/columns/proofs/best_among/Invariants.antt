@@ -1,10 +1,8 @@
 -- `best_among` meets its contract.
-use Prim.Native.Nat.{◌≤◌, ◌-◌, ◌+◌, ◌/◌}
-use mathlib.Core.Path.{◌≡◌, sym, ap, ◌∙◌}
+use Prim.Native.Nat.{◌≤◌, ◌-◌}
+use mathlib.Core.Path.{◌≡◌}
 use Rattle.columns.specs.Columns.{best_among}
 use lib.ListN.{drop}
-use Rattle.columns.proofs.Turns.{best_turn, best_done}
-use borrow.Author.Rules.{rules}
 use Rattle.columns.proofs.best_among.Given as goal
 
 abbrev pub invariant-loop-i : goal.invariant-loop-i

@@ -1,6 +1,5 @@
 -- `height` meets its contract.
 use Rattle.columns.specs.Columns.{drawn_of}
-use borrow.Author.Rules.{rules}
 use Rattle.columns.proofs.height.Goals as goal
 
 pub returns : goal.returns

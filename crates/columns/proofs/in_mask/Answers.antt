@@ -1,10 +1,9 @@
 -- `in_mask` meets its contract.
-use Prim.Native.Nat.{◌≤◌, ◌-◌, ◌+◌, ◌/◌}
+use Prim.Native.Nat.{◌-◌, ◌+◌, ◌/◌}
 use mathlib.Core.Path.{◌≡◌, sym, ap, ◌∙◌}
 use native.Mathlib.Omega.{arith}
 use Rattle.columns.specs.Columns.{in_mask}
 use Rattle.columns.proofs.Turns.{mask_turn, mask_done}
-use borrow.Author.Rules.{rules}
 use Rattle.columns.proofs.in_mask.Goals as goal
 
 pub loop-i-init : goal.loop-i-init

@@ -1,10 +1,7 @@
 -- `in_mask` meets its contract.
-use Prim.Native.Nat.{◌≤◌, ◌-◌, ◌+◌, ◌/◌}
-use mathlib.Core.Path.{◌≡◌, sym, ap, ◌∙◌}
-use native.Mathlib.Omega.{arith}
+use Prim.Native.Nat.{◌≤◌, ◌-◌}
+use mathlib.Core.Path.{◌≡◌}
 use Rattle.columns.specs.Columns.{in_mask}
-use Rattle.columns.proofs.Turns.{mask_turn, mask_done}
-use borrow.Author.Rules.{rules}
 use Rattle.columns.proofs.in_mask.Given as goal
 
 abbrev pub invariant-loop-i : goal.invariant-loop-i

@@ -1,6 +1,6 @@
 -- `least_among` meets its contract.
-use Prim.Native.Nat.{◌≤◌, ◌-◌, ◌+◌, ◌/◌}
-use mathlib.Core.Path.{◌≡◌, sym, ap, ◌∙◌}
+use Prim.Native.Nat.{◌-◌, ◌+◌, ◌/◌}
+use mathlib.Core.Path.{sym, ap, ◌∙◌}
 use Rattle.columns.specs.Columns.{least_among}
 use lib.ListN.{drop}
 use Rattle.columns.proofs.Turns.{least_turn, least_done}

@@ -1,6 +1,5 @@
 -- `least_if` meets its contract.
 use borrow.Author.Tests.{eq-eqb, ne_eqb}
-use borrow.Author.Rules.{rules}
 use Rattle.columns.proofs.least_if.Goals as goal
 
 pub returns-then-mask-eq1 : goal.returns-then-mask-eq1

@@ -1,7 +1,6 @@
 -- `reach` meets its contract.
 use mathlib.Core.Path.{◌∙◌, ap}
 use Rattle.columns.specs.Columns.{reach_of, least_among}
-use borrow.Author.Rules.{rules}
 use Rattle.columns.proofs.reach.Goals as goal
 
 pub returns : goal.returns

@@ -2,7 +2,6 @@
 use mathlib.Core.Path.{◌∙◌, ap₂}
 use Prim.Native.Nat.{◌-◌}
 use Rattle.columns.specs.Columns.{slab_of}
-use borrow.Author.Rules.{rules}
 use Rattle.columns.proofs.slab.Goals as goal
 
 pub returns : goal.returns

@@ -1,6 +1,5 @@
 -- `wins` meets its contract.
 use Rattle.columns.specs.Columns.{wins_of}
-use borrow.Author.Rules.{rules}
 use Rattle.columns.proofs.wins.Goals as goal
 
 pub returns : goal.returns

@@ -1,7 +1,6 @@
 -- `behind` meets its contract.
 use Rattle.copier.proofs.Steps.{made}
 use Rattle.copier.specs.Onward.{Open}
-use borrow.Author.Rules.{rules}
 use Rattle.copier.proofs.behind.Goals as goal
 
 pub returns : goal.returns

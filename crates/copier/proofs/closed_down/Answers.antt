@@ -1,7 +1,6 @@
 -- `closed_down` meets its contract.
 use Rattle.copier.proofs.Steps.{made}
 use Rattle.copier.specs.Onward.{Shut}
-use borrow.Author.Rules.{rules}
 use Rattle.copier.proofs.closed_down.Goals as goal
 
 pub returns : goal.returns

@@ -1,5 +1,5 @@
 -- `copy_on` meets its contract: at each turn what was written, and what is heard so far, is said by `Feeding`.
-use Rattle.copier.proofs.On.{Feeding, on_start, goes_when, on_used, on_room, on_notes, on_moves, on_turn, on_done}
+use Rattle.copier.proofs.On.{on_start, goes_when, on_used, on_room, on_notes, on_moves, on_turn, on_done}
 use borrow.Author.Rules.{rules}
 use lib.ListN.{length}
 use native.Mathlib.Omega.{arith}

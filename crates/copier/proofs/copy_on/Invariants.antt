@@ -1,10 +1,7 @@
 -- `copy_on` meets its contract: at each turn what was written, and what is heard so far, is said by `Feeding`.
-use Rattle.copier.proofs.On.{Feeding, on_start, goes_when, on_used, on_room, on_notes, on_moves, on_turn, on_done}
-use borrow.Author.Rules.{rules}
+use Rattle.copier.proofs.On.{Feeding}
 use lib.ListN.{length}
-use native.Mathlib.Omega.{arith}
 use Prim.Native.Nat.{◌-◌}
-use mathlib.Core.Path.{refl}
 use Rattle.copier.proofs.copy_on.Given as goal
 
 abbrev pub invariant-loop-buf : goal.invariant-loop-buf

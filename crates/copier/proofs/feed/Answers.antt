@@ -1,7 +1,6 @@
 -- `feed` meets its contract: behind a bad sheet, or by way of the buffer.
 use Rattle.copier.proofs.Feeds.{fed_shut, used_shut, copier_is, held_as, fed_as, used_as}
 use native.Mathlib.Omega.{arith}
-use borrow.Author.Rules.{rules}
 use Rattle.copier.proofs.feed.Goals as goal
 
 pub returns-then-c : goal.returns-then-c

@@ -2,7 +2,6 @@
 use Rattle.laws.specs.Tests.{both}
 use lib.Dec.{ltb}
 use mathlib.Core.Path.{ap, ◌∙◌}
-use borrow.Author.Rules.{rules}
 use Rattle.copier.proofs.goes_on.Goals as goal
 
 pub returns : goal.returns

@@ -1,7 +1,6 @@
 -- `start` meets its contract.
 use Rattle.copier.proofs.Steps.{made}
 use Rattle.copier.specs.Onward.{Unread}
-use borrow.Author.Rules.{rules}
 use Rattle.copier.proofs.start.Goals as goal
 
 pub returns : goal.returns

@@ -1,6 +1,5 @@
 -- `whole` meets its contract: a block, or the sheet.
 use Rattle.copier.proofs.Steps.{gave_as}
-use borrow.Author.Rules.{rules}
 use Rattle.copier.proofs.whole.Goals as goal
 
 pub returns-then-opened : goal.returns-then-opened

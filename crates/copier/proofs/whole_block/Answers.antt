@@ -1,6 +1,5 @@
 -- `whole_block` meets its contract: a copy has room, since it is no longer than its block.
 use Rattle.copier.proofs.Steps.{block_gave}
-use borrow.Author.Rules.{rules}
 use Rattle.copier.proofs.whole_block.Goals as goal
 
 pub returns : goal.returns

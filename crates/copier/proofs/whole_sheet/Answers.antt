@@ -1,7 +1,6 @@
 -- `whole_sheet` meets its contract: the sheet is bad, or is copied.
 use Rattle.copier.proofs.Steps.{bad_gave, read_gave}
 use native.Mathlib.Omega.{arith}
-use borrow.Author.Rules.{rules}
 use Rattle.copier.proofs.whole_sheet.Goals as goal
 
 pub returns-in-Bad : goal.returns-in-Bad

@@ -1,7 +1,6 @@
 -- A number above 51 is refused, then one that comes twice.
 use mathlib.Core.Path.{sym, ◌∙◌}
 use Rattle.counts.proofs.Agree.{reads_high, reads_twice, reads_hand}
-use borrow.Author.Rules.{rules}
 use Rattle.counts.proofs.counted.Goals as goal
 
 pub returns-then-any_above : goal.returns-then-any_above

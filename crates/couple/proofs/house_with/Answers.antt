@@ -1,7 +1,6 @@
 -- `house_with` meets its contract.
 use mathlib.Core.Path.{refl}
 use Rattle.couple.proofs.Tables.{house_is}
-use borrow.Author.Rules.{rules}
 use Rattle.couple.proofs.house_with.Goals as goal
 
 pub returns : goal.returns

@@ -3,7 +3,6 @@ use native.Mathlib.Omega.{arith}
 use Rattle.couple.specs.Couple.{pool_key, house_key}
 use Rattle.writing.proofs.Sheets.{then}
 use Rattle.couple.proofs.Tables.{line_most, last_both, last_shut, last_one}
-use borrow.Author.Rules.{rules}
 use Rattle.couple.proofs.last_lines.Goals as goal
 
 pub returns-then-p : goal.returns-then-p

@@ -2,7 +2,6 @@
 use Rattle.pool.specs.declared.PoolOpened as opens
 use mathlib.Core.Path.{ap, sym, ◌∙◌}
 use Rattle.couple.proofs.Tables.{opened_held, pool_gave, pool_over, pool_bad}
-use borrow.Author.Rules.{rules}
 use Rattle.couple.proofs.open_line.Goals as goal
 
 pub with_pool-requires : goal.with_pool-requires

@@ -2,7 +2,6 @@
 use Rattle.text.proofs.SheetLaws.{sheet_is}
 use mathlib.Core.Path.{refl, sym, ◌∙◌}
 use Rattle.couple.proofs.Tables.{sheet_bad, sheet_gave}
-use borrow.Author.Rules.{rules}
 use Rattle.couple.proofs.open_sheet.Goals as goal
 
 pub with_sheet-requires : goal.with_sheet-requires

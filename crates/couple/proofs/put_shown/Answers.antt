@@ -3,7 +3,6 @@ use native.Mathlib.Omega.{arith}
 use Rattle.frames.specs.Frames.{table_key}
 use Rattle.writing.proofs.Sheets.{then}
 use Rattle.couple.proofs.Tables.{line_most, shown_both, shown_one, shown_none}
-use borrow.Author.Rules.{rules}
 use Rattle.couple.proofs.put_shown.Goals as goal
 
 pub write_number_line-a-requires : goal.write_number_line-a-requires

@@ -1,6 +1,5 @@
 -- `with_sheet` meets its contract.
 use Rattle.couple.proofs.Tables.{sheet_with}
-use borrow.Author.Rules.{rules}
 use Rattle.couple.proofs.with_sheet.Goals as goal
 
 pub returns : goal.returns

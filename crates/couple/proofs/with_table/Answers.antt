@@ -1,6 +1,5 @@
 -- `with_table` meets its contract.
 use Rattle.couple.proofs.Tables.{with_second, with_first}
-use borrow.Author.Rules.{rules}
 use Rattle.couple.proofs.with_table.Goals as goal
 
 pub returns-then-second : goal.returns-then-second

@@ -1,7 +1,6 @@
 -- `best_at` meets its contract.
 use mathlib.Core.Path.{sym, ◌∙◌}
 use Rattle.dealings.specs.Dealings.{best_at}
-use borrow.Author.Rules.{rules}
 use Rattle.dealings.proofs.best_at.Goals as goal
 
 pub returns-then-looked_at : goal.returns-then-looked_at

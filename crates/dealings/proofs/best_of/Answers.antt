@@ -1,7 +1,6 @@
 -- `best_of` meets its contract.
 use borrow.Author.Tests.{eq-eqb, ne_eqb}
 use Rattle.dealings.specs.Dealings.{best_with}
-use borrow.Author.Rules.{rules}
 use Rattle.dealings.proofs.best_of.Goals as goal
 
 pub returns-then-game-eq4 : goal.returns-then-game-eq4

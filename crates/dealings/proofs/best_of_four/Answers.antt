@@ -1,6 +1,5 @@
 -- `best_of_four` meets its contract.
 use Rattle.dealings.specs.Dealings.{best_of_four}
-use borrow.Author.Rules.{rules}
 use Rattle.dealings.proofs.best_of_four.Goals as goal
 
 pub returns : goal.returns

@@ -1,6 +1,5 @@
 -- `best_of_two` meets its contract.
 use Rattle.dealings.proofs.Laws.{two_made}
-use borrow.Author.Rules.{rules}
 use Rattle.dealings.proofs.best_of_two.Goals as goal
 
 pub returns : goal.returns

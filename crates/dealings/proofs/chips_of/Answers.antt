@@ -1,6 +1,5 @@
 -- `chips_of` meets its contract.
 use Rattle.dealings.proofs.Laws.{chips_made}
-use borrow.Author.Rules.{rules}
 use Rattle.dealings.proofs.chips_of.Goals as goal
 
 pub returns : goal.returns

@@ -1,7 +1,7 @@
 -- `dealt_in` meets its contract: what was counted with what stands behind the place is all.
 use mathlib.Core.Path.{◌≡◌, ap}
-use Prim.Native.Nat.{◌+◌, ◌-◌, ◌≤◌}
-use lib.ListN.{length, drop, drop_of_length-le}
+use Prim.Native.Nat.{◌-◌}
+use lib.ListN.{length, drop_of_length-le}
 use native.Mathlib.Omega.{arith}
 use lib.Dec.{ltb}
 use Rattle.laws.specs.Often.{tally}

@@ -1,12 +1,9 @@
 -- `dealt_in` meets its contract: what was counted with what stands behind the place is all.
-use mathlib.Core.Path.{◌≡◌, ap}
+use mathlib.Core.Path.{◌≡◌}
 use Prim.Native.Nat.{◌+◌, ◌-◌, ◌≤◌}
-use lib.ListN.{length, drop, drop_of_length-le}
-use native.Mathlib.Omega.{arith}
+use lib.ListN.{drop}
 use lib.Dec.{ltb}
 use Rattle.laws.specs.Often.{tally}
-use Rattle.dealings.proofs.Laws.{tally_step}
-use borrow.Author.Rules.{rules}
 use Rattle.dealings.proofs.dealt_in.Given as goal
 
 abbrev pub invariant-loop-i : goal.invariant-loop-i

@@ -1,6 +1,5 @@
 -- `hand_of` meets its contract.
 use Rattle.dealings.proofs.Laws.{hand_made}
-use borrow.Author.Rules.{rules}
 use Rattle.dealings.proofs.hand_of.Goals as goal
 
 pub returns : goal.returns

@@ -1,6 +1,5 @@
 -- `looked_at` meets its contract.
 use Rattle.dealings.specs.Dealings.{looked_at}
-use borrow.Author.Rules.{rules}
 use Rattle.dealings.proofs.looked_at.Goals as goal
 
 pub returns : goal.returns

@@ -1,6 +1,5 @@
 -- `part_at` meets its contract.
 use Rattle.dealings.specs.Dealings.{part_at}
-use borrow.Author.Rules.{rules}
 use Rattle.dealings.proofs.part_at.Goals as goal
 
 pub returns : goal.returns

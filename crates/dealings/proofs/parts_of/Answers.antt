@@ -1,10 +1,8 @@
 -- `parts_of` meets its contract: in front of the place the sittings are written, behind it they are still to come.
 use mathlib.Core.Path.{◌≡◌, refl}
-use mathlib.Core.List.{◌++◌}
-use Prim.Native.Nat.{◌-◌, ◌≤◌}
-use lib.ListN.{length, take, drop, length-set}
+use Prim.Native.Nat.{◌-◌}
+use lib.ListN.{length, length-set}
 use native.Mathlib.Omega.{arith}
-use Rattle.dealings.specs.Dealings.{parts_from}
 use Rattle.dealings.proofs.Laws.{parts_turn, parts_done}
 use borrow.Author.Rules.{rules}
 use Rattle.dealings.proofs.parts_of.Goals as goal

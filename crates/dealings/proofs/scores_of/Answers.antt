@@ -1,8 +1,8 @@
 -- `scores_of` meets its contract: in front of the place the scores are written, behind it they are still to come.
 use mathlib.Core.Path.{◌≡◌, refl}
-use mathlib.Core.List.{◌++◌, map}
-use Prim.Native.Nat.{◌-◌, ◌≤◌}
-use lib.ListN.{length, take, drop, length-set}
+use mathlib.Core.List.{map}
+use Prim.Native.Nat.{◌-◌}
+use lib.ListN.{length, length-set}
 use native.Mathlib.Omega.{arith}
 use Rattle.laws.proofs.Places.{front_turn, front_done}
 use Rattle.dealings.specs.Dealings.{score_in}

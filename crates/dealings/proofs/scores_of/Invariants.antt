@@ -1,13 +1,9 @@
 -- `scores_of` meets its contract: in front of the place the scores are written, behind it they are still to come.
-use mathlib.Core.Path.{◌≡◌, refl}
+use mathlib.Core.Path.{◌≡◌}
 use mathlib.Core.List.{◌++◌, map}
 use Prim.Native.Nat.{◌-◌, ◌≤◌}
-use lib.ListN.{length, take, drop, length-set}
-use native.Mathlib.Omega.{arith}
-use Rattle.laws.proofs.Places.{front_turn, front_done}
+use lib.ListN.{length, take, drop}
 use Rattle.dealings.specs.Dealings.{score_in}
-use Rattle.dealings.proofs.Laws.{unread_part}
-use borrow.Author.Rules.{rules}
 use Rattle.dealings.proofs.scores_of.Given as goal
 
 abbrev pub invariant-loop-i : goal.invariant-loop-i

@@ -1,5 +1,4 @@
 -- `shown` meets its contract.
-use borrow.Author.Rules.{rules}
 use Rattle.dealings.proofs.shown.Goals as goal
 
 pub returns : goal.returns

@@ -4,7 +4,6 @@ use mathlib.Core.List.{List}
 use Prim.Native.Nat.{ℕ}
 use Rattle.writing.specs.AnswerSheet.{sheet_after}
 use Rattle.desk.proofs.Laws.{block_small, read_answered}
-use borrow.Author.Rules.{rules}
 use Rattle.desk.proofs.answer.Goals as goal
 
 pub answer_block-requires : goal.answer_block-requires

@@ -4,7 +4,6 @@ use Rattle.desk.proofs.Laws.{answered_is, none_answered}
 use Rattle.desk.proofs.Room.{judged_closed}
 use borrow.Author.Tests.{not-true, not-false}
 use mathlib.Core.Path.{refl}
-use borrow.Author.Rules.{rules}
 use Rattle.desk.proofs.answer_block.Goals as goal
 
 pub returns-then-not-j : goal.returns-then-not-j

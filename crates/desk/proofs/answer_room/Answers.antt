@@ -1,7 +1,6 @@
 -- `desk::answer_room` meets its contract: it says the length of the bytes that `desk::answer` writes. Assumes nothing.
 use Rattle.desk.proofs.Room.{log_closed, none_said, some_said}
 use borrow.Author.Tests.{not-true, not-false}
-use borrow.Author.Rules.{rules}
 use Rattle.desk.proofs.answer_room.Goals as goal
 
 pub returns-then-not-j : goal.returns-then-not-j

@@ -3,7 +3,6 @@ use Rattle.desk.specs.Desk.{judged_of, judge_block}
 use Rattle.desk.proofs.Laws.{block_small}
 use mathlib.Core.Path.{ap, ◌∙◌}
 use Rattle.blocks.specs.declared.Block.{Block}
-use borrow.Author.Rules.{rules}
 use Rattle.desk.proofs.judge.Goals as goal
 
 pub judge_block-requires : goal.judge_block-requires

@@ -1,6 +1,5 @@
 -- `judge_block` meets its contract: what the table says to the block's plan is what the desk judges.
 use Rattle.desk.proofs.Plans.{judged_small}
-use borrow.Author.Rules.{rules}
 use Rattle.desk.proofs.judge_block.Goals as goal
 
 pub returns : goal.returns

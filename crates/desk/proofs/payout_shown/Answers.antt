@@ -1,5 +1,4 @@
 -- `payout_shown` meets its contract.
-use borrow.Author.Rules.{rules}
 use Rattle.desk.proofs.payout_shown.Goals as goal
 
 pub returns : goal.returns

@@ -1,6 +1,5 @@
 -- `plan` meets its contract.
 use Rattle.desk.proofs.Plans.{plan_raw}
-use borrow.Author.Rules.{rules}
 use Rattle.desk.proofs.plan.Goals as goal
 
 pub returns-in-Raw : goal.returns-in-Raw

@@ -1,5 +1,4 @@
 -- `plan_parsed` meets its contract.
-use borrow.Author.Rules.{rules}
 use Rattle.desk.proofs.plan_parsed.Goals as goal
 
 pub returns-in-OutOfRange : goal.returns-in-OutOfRange

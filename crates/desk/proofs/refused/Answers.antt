@@ -1,5 +1,4 @@
 -- `refused` meets its contract.
-use borrow.Author.Rules.{rules}
 use Rattle.desk.proofs.refused.Goals as goal
 
 pub returns : goal.returns

@@ -3,9 +3,8 @@ use Rattle.desk.proofs.Laws.{rows_turn, rows_done}
 use Rattle.desk.specs.Desk.{rows_of}
 use borrow.Author.Rules.{rules}
 use native.Mathlib.Omega.{arith}
-use lib.ListN.{length, take, drop, length-set}
-use Prim.Native.Nat.{◌-◌, ◌≤◌}
-use mathlib.Core.List.{◌++◌}
+use lib.ListN.{length, length-set}
+use Prim.Native.Nat.{◌-◌}
 use mathlib.Core.Path.{◌≡◌, refl}
 use Rattle.desk.proofs.rows_of.Goals as goal
 

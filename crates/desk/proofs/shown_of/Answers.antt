@@ -1,6 +1,5 @@
 -- `shown_of` meets its contract.
 use Rattle.desk.proofs.SamePots.{now_shows}
-use borrow.Author.Rules.{rules}
 use Rattle.desk.proofs.shown_of.Goals as goal
 
 pub shown_with-requires : goal.shown_with-requires

@@ -1,7 +1,6 @@
 -- `hear` meets its contract.
 use native.Mathlib.Omega.{arith}
 use Rattle.frames.proofs.Nexts.{wanted_range, from_within, heard_kept, heard_whole}
-use borrow.Author.Rules.{rules}
 use Rattle.frames.proofs.hear.Goals as goal
 
 pub gather-g-requires : goal.gather-g-requires

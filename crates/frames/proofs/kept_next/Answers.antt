@@ -1,6 +1,5 @@
 -- `kept_next` meets its contract.
 use Rattle.frames.proofs.Nexts.{kept_more, kept_last}
-use borrow.Author.Rules.{rules}
 use Rattle.frames.proofs.kept_next.Goals as goal
 
 pub returns-then-lines-wanted : goal.returns-then-lines-wanted

@@ -1,6 +1,5 @@
 -- `line_next` meets its contract.
 use Rattle.frames.proofs.Nexts.{line_opening, line_other, line_table}
-use borrow.Author.Rules.{rules}
 use Rattle.frames.proofs.line_next.Goals as goal
 
 pub returns-then-due-lt-TABLE : goal.returns-then-due-lt-TABLE

@@ -1,6 +1,5 @@
 -- `other_next` meets its contract.
 use Rattle.frames.proofs.Nexts.{other_first, other_more, other_block}
-use borrow.Author.Rules.{rules}
 use Rattle.frames.proofs.other_next.Goals as goal
 
 pub returns-then-due-eq-TABLE : goal.returns-then-due-eq-TABLE

@@ -1,6 +1,5 @@
 -- `start` meets its contract.
 use Rattle.frames.proofs.Nexts.{started}
-use borrow.Author.Rules.{rules}
 use Rattle.frames.proofs.start.Goals as goal
 
 pub returns : goal.returns

@@ -1,7 +1,6 @@
 -- `table_in` meets its contract.
 use native.Mathlib.Omega.{arith}
 use Rattle.frames.proofs.Nexts.{table_none}
-use borrow.Author.Rules.{rules}
 use Rattle.frames.proofs.table_in.Goals as goal
 
 pub returns-else-v-eq2 : goal.returns-else-v-eq2

@@ -1,6 +1,5 @@
 -- `table_next` meets its contract.
 use Rattle.frames.proofs.Nexts.{table_first, table_cut}
-use borrow.Author.Rules.{rules}
 use Rattle.frames.proofs.table_next.Goals as goal
 
 pub returns-then-due-lt-BLOCK : goal.returns-then-due-lt-BLOCK

@@ -1,7 +1,6 @@
 -- `table_of` meets its contract.
 use mathlib.Core.Path.{ap, ◌∙◌}
 use Rattle.frames.specs.Frames.{table_of, table_in}
-use borrow.Author.Rules.{rules}
 use Rattle.frames.proofs.table_of.Goals as goal
 
 pub returns : goal.returns

@@ -2,7 +2,6 @@
 use mathlib.Core.Bool.{true}
 use Rattle.table.specs.declared.table.Table.{Table}
 use mathlib.Core.Path.{ap}
-use borrow.Author.Rules.{rules}
 use Rattle.fresh.proofs.begun.Goals as goal
 
 pub returns : goal.returns

@@ -2,7 +2,6 @@
 use Rattle.fresh.proofs.Steps.{here_it_is, another}
 use Rattle.records.specs.Stored.{entry_by}
 use Prim.Native.Nat.{ℕ}
-use borrow.Author.Rules.{rules}
 use Rattle.fresh.proofs.entry_or.Goals as goal
 
 pub returns-then-k-at : goal.returns-then-k-at

@@ -1,6 +1,5 @@
 -- `is_hand` meets its contract.
 use Rattle.fresh.specs.Reading.{is_hand}
-use borrow.Author.Rules.{rules}
 use Rattle.fresh.proofs.is_hand.Goals as goal
 
 pub returns : goal.returns

@@ -1,7 +1,6 @@
 -- `play_on` meets its contract.
 use Rattle.fresh.proofs.Steps.{play_is}
 use mathlib.Core.Path.{refl}
-use borrow.Author.Rules.{rules}
 use Rattle.fresh.proofs.play_on.Goals as goal
 
 pub returns : goal.returns

@@ -1,6 +1,5 @@
 -- `put_row_if` meets its contract.
 use Rattle.fresh.proofs.Steps.{rowed_yes, rowed_no}
-use borrow.Author.Rules.{rules}
 use Rattle.fresh.proofs.put_row_if.Goals as goal
 
 pub returns-then-hand : goal.returns-then-hand

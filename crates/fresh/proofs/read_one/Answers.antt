@@ -1,6 +1,5 @@
 -- `read_one` meets its contract.
 use Rattle.fresh.proofs.Reached.{read_is}
-use borrow.Author.Rules.{rules}
 use Rattle.fresh.proofs.read_one.Goals as goal
 
 pub returns : goal.returns

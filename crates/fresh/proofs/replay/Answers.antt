@@ -1,6 +1,5 @@
 -- `replay` meets its contract.
 use Rattle.fresh.proofs.Reached.{replay_is}
-use borrow.Author.Rules.{rules}
 use Rattle.fresh.proofs.replay.Goals as goal
 
 pub returns : goal.returns

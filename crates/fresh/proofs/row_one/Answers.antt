@@ -1,7 +1,6 @@
 -- `row_one` meets its contract.
 use Rattle.fresh.proofs.Steps.{row_is}
 use Rattle.records.specs.Stored.{entry_in}
-use borrow.Author.Rules.{rules}
 use Rattle.fresh.proofs.row_one.Goals as goal
 
 pub returns : goal.returns

@@ -3,9 +3,9 @@ use Rattle.fresh.specs.Reading.{stack_of}
 use Rattle.chairs.proofs.Laws.{unread}
 use Rattle.laws.proofs.Places.{front_turn, front_done}
 use mathlib.Core.Path.{◌≡◌, refl}
-use mathlib.Core.List.{◌++◌, map}
-use Prim.Native.Nat.{◌-◌, ◌≤◌}
-use lib.ListN.{length, take, drop, length-set}
+use mathlib.Core.List.{map}
+use Prim.Native.Nat.{◌-◌}
+use lib.ListN.{length, length-set}
 use native.Mathlib.Omega.{arith}
 use borrow.Author.Rules.{rules}
 use Rattle.fresh.proofs.stacks_of.Goals as goal

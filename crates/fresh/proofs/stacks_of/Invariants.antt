@@ -1,13 +1,9 @@
 -- `stacks_of` meets its contract: in front of the place the stacks are written, behind it they are still to come.
 use Rattle.fresh.specs.Reading.{stack_of}
-use Rattle.chairs.proofs.Laws.{unread}
-use Rattle.laws.proofs.Places.{front_turn, front_done}
-use mathlib.Core.Path.{◌≡◌, refl}
+use mathlib.Core.Path.{◌≡◌}
 use mathlib.Core.List.{◌++◌, map}
 use Prim.Native.Nat.{◌-◌, ◌≤◌}
-use lib.ListN.{length, take, drop, length-set}
-use native.Mathlib.Omega.{arith}
-use borrow.Author.Rules.{rules}
+use lib.ListN.{length, take, drop}
 use Rattle.fresh.proofs.stacks_of.Given as goal
 
 abbrev pub invariant-loop-i : goal.invariant-loop-i

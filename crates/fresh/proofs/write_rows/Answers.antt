@@ -1,12 +1,10 @@
 -- `write_rows` meets its contract.
 use Rattle.fresh.proofs.Steps.{rowed_turn, index_turn, rowed_most}
-use Rattle.fresh.specs.Reading.{rows_begun, rowed_from, index_from}
+use Rattle.fresh.specs.Reading.{rows_begun, index_from}
 use Rattle.records.specs.Stored.{entry_in}
 use Rattle.table.specs.declared.table.Table.{Table}
-use Rattle.table.specs.Take.{Sound}
 use mathlib.Core.Path.{◌≡◌, refl, ap, ◌∙◌}
-use lib.ListN.{length}
-use Prim.Native.Nat.{ℕ, ◌-◌, ◌≤◌}
+use Prim.Native.Nat.{ℕ, ◌-◌}
 use native.Mathlib.Omega.{arith}
 use borrow.Author.Rules.{rules}
 use Rattle.fresh.proofs.write_rows.Goals as goal

@@ -1,6 +1,5 @@
 -- `ladder::beside_place` meets its contract. Assumes nothing.
 use Rattle.ladder.specs.Reckoned.{beside_place}
-use borrow.Author.Rules.{rules}
 use Rattle.ladder.proofs.beside_place.Goals as goal
 
 pub returns : goal.returns

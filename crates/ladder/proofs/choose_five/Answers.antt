@@ -1,7 +1,6 @@
 -- `choose_five` meets its contract.
 use native.Mathlib.Omega.{arith}
 use Rattle.ladder.proofs.Steps.{one-fits, two_fits, three-fits, four-fits, five-in, choose_out}
-use borrow.Author.Rules.{rules}
 use Rattle.ladder.proofs.choose_five.Goals as goal
 
 pub overflow_mul-result : goal.overflow_mul-result

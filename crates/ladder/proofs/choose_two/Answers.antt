@@ -1,7 +1,6 @@
 -- `choose_two` meets its contract.
 use native.Mathlib.Omega.{arith}
 use Rattle.ladder.proofs.Steps.{one-fits, two_in, choose_out}
-use borrow.Author.Rules.{rules}
 use Rattle.ladder.proofs.choose_two.Goals as goal
 
 pub overflow_mul-result : goal.overflow_mul-result

@@ -1,7 +1,6 @@
 -- `ladder::five_below` meets its contract. Assumes nothing.
 use native.Mathlib.Omega.{arith}
 use Rattle.ladder.specs.Reckoned.{five_below}
-use borrow.Author.Rules.{rules}
 use Rattle.ladder.proofs.five_below.Goals as goal
 
 pub returns : goal.returns

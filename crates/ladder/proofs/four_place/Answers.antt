@@ -1,6 +1,5 @@
 -- `ladder::four_place` meets its contract. Assumes nothing.
 use Rattle.ladder.specs.Reckoned.{four_place}
-use borrow.Author.Rules.{rules}
 use Rattle.ladder.proofs.four_place.Goals as goal
 
 pub returns : goal.returns

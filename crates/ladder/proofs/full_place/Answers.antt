@@ -1,6 +1,5 @@
 -- `ladder::full_place` meets its contract. Assumes nothing.
 use Rattle.ladder.specs.Reckoned.{full_place}
-use borrow.Author.Rules.{rules}
 use Rattle.ladder.proofs.full_place.Goals as goal
 
 pub returns : goal.returns

@@ -1,7 +1,6 @@
 -- `ladder::in_row` meets its contract. Assumes nothing.
 use Rattle.laws.proofs.Compare.{both_last}
 use Rattle.cards.specs.Cards.{in_row}
-use borrow.Author.Rules.{rules}
 use Rattle.ladder.proofs.in_row.Goals as goal
 
 pub returns : goal.returns

@@ -1,6 +1,5 @@
 -- `ladder::is_straight` meets its contract. Assumes nothing.
 use Rattle.laws.proofs.Compare.{both_last}
-use borrow.Author.Rules.{rules}
 use Rattle.ladder.proofs.is_straight.Goals as goal
 
 pub returns : goal.returns

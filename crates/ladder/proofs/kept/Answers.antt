@@ -1,5 +1,4 @@
 -- `kept` meets its contract: of 32 cards the number, else the place.
-use borrow.Author.Rules.{rules}
 use borrow.Author.Tests.{eq-eqb, ne_eqb}
 use Rattle.ladder.specs.Ladder.{kept_of}
 use Rattle.ladder.proofs.kept.Goals as goal

@@ -1,7 +1,6 @@
 -- `ladder::less` meets its contract. Assumes nothing.
 use native.Mathlib.Omega.{arith}
 use Rattle.ladder.specs.Reckoned.{less}
-use borrow.Author.Rules.{rules}
 use Rattle.ladder.proofs.less.Goals as goal
 
 pub returns : goal.returns

@@ -1,6 +1,5 @@
 -- `ladder::odd_place` meets its contract. Assumes nothing.
 use Rattle.ladder.specs.Reckoned.{odd_place}
-use borrow.Author.Rules.{rules}
 use Rattle.ladder.proofs.odd_place.Goals as goal
 
 pub returns : goal.returns

@@ -1,6 +1,5 @@
 -- `ladder::pair_place` meets its contract. Assumes nothing.
 use Rattle.ladder.specs.Reckoned.{pair_place}
-use borrow.Author.Rules.{rules}
 use Rattle.ladder.proofs.pair_place.Goals as goal
 
 pub returns : goal.returns

@@ -1,7 +1,6 @@
 -- `ladder::place` meets its contract. Assumes nothing.
 use Rattle.ladder.proofs.Reckons.{place_is, no_place}
 use Rattle.ladder.specs.Reckoned.{reckoned_as}
-use borrow.Author.Rules.{rules}
 use Rattle.ladder.proofs.place.Goals as goal
 
 pub returns-then-class-eq0 : goal.returns-then-class-eq0

@@ -1,6 +1,5 @@
 -- `ladder::row_place` meets its contract. Assumes nothing.
 use Rattle.ladder.specs.Reckoned.{row_place}
-use borrow.Author.Rules.{rules}
 use Rattle.ladder.proofs.row_place.Goals as goal
 
 pub returns : goal.returns

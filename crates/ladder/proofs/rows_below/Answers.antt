@@ -1,5 +1,4 @@
 -- `ladder::rows_below` meets its contract. Assumes nothing.
-use borrow.Author.Rules.{rules}
 use Rattle.ladder.specs.Reckoned.{rows_below}
 use Rattle.ladder.proofs.rows_below.Goals as goal
 

@@ -1,7 +1,6 @@
 -- `ladder::three_below` meets its contract. Assumes nothing.
 use native.Mathlib.Omega.{arith}
 use Rattle.ladder.specs.Reckoned.{three_below}
-use borrow.Author.Rules.{rules}
 use Rattle.ladder.proofs.three_below.Goals as goal
 
 pub returns : goal.returns

@@ -1,5 +1,4 @@
 -- `ladder::three_fall` meets its contract. Assumes nothing.
-use borrow.Author.Rules.{rules}
 use Rattle.ladder.proofs.three_fall.Goals as goal
 
 pub returns : goal.returns

@@ -1,6 +1,5 @@
 -- `ladder::three_place` meets its contract. Assumes nothing.
 use Rattle.ladder.specs.Reckoned.{three_place}
-use borrow.Author.Rules.{rules}
 use Rattle.ladder.proofs.three_place.Goals as goal
 
 pub returns : goal.returns

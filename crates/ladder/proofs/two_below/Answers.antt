@@ -1,7 +1,6 @@
 -- `ladder::two_below` meets its contract. Assumes nothing.
 use native.Mathlib.Omega.{arith}
 use Rattle.ladder.specs.Reckoned.{two_below}
-use borrow.Author.Rules.{rules}
 use Rattle.ladder.proofs.two_below.Goals as goal
 
 pub returns : goal.returns

@@ -1,5 +1,4 @@
 -- `ladder::two_fall` meets its contract. Assumes nothing.
-use borrow.Author.Rules.{rules}
 use Rattle.ladder.proofs.two_fall.Goals as goal
 
 pub returns : goal.returns

@@ -1,6 +1,5 @@
 -- `ladder::two_pair_place` meets its contract. Assumes nothing.
 use Rattle.ladder.specs.Reckoned.{two_pair_place}
-use borrow.Author.Rules.{rules}
 use Rattle.ladder.proofs.two_pair_place.Goals as goal
 
 pub returns : goal.returns

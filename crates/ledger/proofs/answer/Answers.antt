@@ -5,7 +5,6 @@ use Prim.Native.Nat.{◌<◌, ◌^◌}
 use mathlib.Core.Path.{sym, subst}
 use Rattle.desk.proofs.Laws.{block_small}
 use Rattle.ledger.proofs.Holding.{answer_right, answer_entry}
-use borrow.Author.Rules.{rules}
 use Rattle.ledger.proofs.answer.Goals as goal
 
 pub returns-then-is_right : goal.returns-then-is_right

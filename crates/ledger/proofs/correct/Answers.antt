@@ -2,7 +2,6 @@
 use Rattle.ledger.proofs.Closing.{right_closed}
 use Rattle.ledger.proofs.Holding.{righted_is}
 use Rattle.text.proofs.Parts.{part_is}
-use borrow.Author.Rules.{rules}
 use Rattle.ledger.proofs.correct.Goals as goal
 
 pub put_answer-w-requires : goal.put_answer-w-requires

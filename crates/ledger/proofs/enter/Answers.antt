@@ -1,7 +1,6 @@
 -- `enter` meets its contract.
 use Rattle.ledger.proofs.Closing.{entry_closed}
 use Rattle.ledger.proofs.Holding.{entered_is}
-use borrow.Author.Rules.{rules}
 use Rattle.ledger.proofs.enter.Goals as goal
 
 pub put_answer-w-requires : goal.put_answer-w-requires

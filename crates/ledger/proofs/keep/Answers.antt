@@ -1,6 +1,5 @@
 -- `keep` meets its contract.
 use Rattle.ledger.proofs.Telling.{keep_yes, keep_no}
-use borrow.Author.Rules.{rules}
 use Rattle.ledger.proofs.keep.Goals as goal
 
 pub returns-then-ok : goal.returns-then-ok

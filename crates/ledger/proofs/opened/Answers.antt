@@ -3,7 +3,6 @@ use Rattle.table.specs.declared.table.Table.{Table}
 use Rattle.paper.specs.Paper.{is_sheet}
 use native.Mathlib.Omega.{arith}
 use mathlib.Core.Path.{ap, ◌∙◌}
-use borrow.Author.Rules.{rules}
 use Rattle.ledger.proofs.opened.Goals as goal
 
 pub returns : goal.returns

@@ -1,6 +1,5 @@
 -- `put_answer` meets its contract.
 use Rattle.desk.proofs.SamePots.{now_shows}
-use borrow.Author.Rules.{rules}
 use Rattle.ledger.proofs.put_answer.Goals as goal
 
 pub write_judged-requires : goal.write_judged-requires

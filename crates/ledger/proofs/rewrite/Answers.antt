@@ -1,7 +1,6 @@
 -- `rewrite` meets its contract.
 use Rattle.ledger.proofs.Telling.{rewrite_yes, rewrite_no}
 use Rattle.text.proofs.Parts.{part_is}
-use borrow.Author.Rules.{rules}
 use Rattle.ledger.proofs.rewrite.Goals as goal
 
 pub returns-then-ok : goal.returns-then-ok

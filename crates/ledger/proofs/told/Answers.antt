@@ -1,6 +1,5 @@
 -- `told` meets its contract.
 use Rattle.ledger.proofs.Telling.{told_bytes, told_none}
-use borrow.Author.Rules.{rules}
 use Rattle.ledger.proofs.told.Goals as goal
 
 pub returns-in-Bytes : goal.returns-in-Bytes

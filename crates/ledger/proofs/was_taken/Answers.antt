@@ -1,6 +1,5 @@
 -- `was_taken` meets its contract.
 use Rattle.ledger.proofs.Telling.{taken_bytes, taken_none}
-use borrow.Author.Rules.{rules}
 use Rattle.ledger.proofs.was_taken.Goals as goal
 
 pub returns-in-Bytes : goal.returns-in-Bytes

@@ -1,10 +1,7 @@
 -- `gather` meets its contract: at each turn what is kept and what is left to gather are said by `Going`.
-use Prim.Native.Nat.{◌-◌, ◌<◌}
+use Prim.Native.Nat.{◌-◌}
 use native.Mathlib.Omega.{arith}
-use lib.ListN.{length}
-use borrow.Author.Rules.{rules}
-use Rattle.lines.specs.Kept.{gather_of, kept_in, Room}
-use Rattle.lines.proofs.Keeps.{Going, going_start, going_end, going-stop, going_turn}
+use Rattle.lines.proofs.Keeps.{going_start, going_end, going-stop, going_turn}
 use Rattle.lines.proofs.gather.Goals as goal
 
 pub loop-i-init : goal.loop-i-init

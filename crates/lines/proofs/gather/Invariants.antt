@@ -1,10 +1,8 @@
 -- `gather` meets its contract: at each turn what is kept and what is left to gather are said by `Going`.
 use Prim.Native.Nat.{◌-◌, ◌<◌}
-use native.Mathlib.Omega.{arith}
 use lib.ListN.{length}
-use borrow.Author.Rules.{rules}
 use Rattle.lines.specs.Kept.{gather_of, kept_in, Room}
-use Rattle.lines.proofs.Keeps.{Going, going_start, going_end, going-stop, going_turn}
+use Rattle.lines.proofs.Keeps.{Going}
 use Rattle.lines.proofs.gather.Given as goal
 
 abbrev pub invariant-loop-i : goal.invariant-loop-i

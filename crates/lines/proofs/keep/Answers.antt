@@ -1,7 +1,6 @@
 -- `keep` meets its contract: an LF, a byte of a line that has room, and one of a line that has none.
 use mathlib.Core.Logic.{⊎_elim}
 use native.Mathlib.Omega.{arith}
-use borrow.Author.Rules.{rules}
 use Rattle.lines.proofs.Keeps.{keep_end, keep_on, keep_not, bad_when}
 use Rattle.lines.proofs.keep.Goals as goal
 

@@ -1,6 +1,5 @@
 -- `account_now` meets its contract.
 use Rattle.notes.proofs.Laws.{now_yes, now_no}
-use borrow.Author.Rules.{rules}
 use Rattle.notes.proofs.account_now.Goals as goal
 
 pub returns-then-here : goal.returns-then-here

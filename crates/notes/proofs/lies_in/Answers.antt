@@ -1,7 +1,7 @@
 -- `lies_in` meets its contract: what was counted with what lies behind the place is all.
 use mathlib.Core.Path.{◌≡◌, ap}
-use Prim.Native.Nat.{◌+◌, ◌-◌, ◌*◌, ◌≤◌}
-use lib.ListN.{length, drop, drop_of_length-le}
+use Prim.Native.Nat.{◌-◌}
+use lib.ListN.{length, drop_of_length-le}
 use native.Mathlib.Omega.{arith}
 use Rattle.chairs.proofs.Laws.{unread}
 use Rattle.notes.specs.Notes.{lies_in}

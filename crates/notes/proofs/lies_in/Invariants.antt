@@ -1,12 +1,8 @@
 -- `lies_in` meets its contract: what was counted with what lies behind the place is all.
-use mathlib.Core.Path.{◌≡◌, ap}
+use mathlib.Core.Path.{◌≡◌}
 use Prim.Native.Nat.{◌+◌, ◌-◌, ◌*◌, ◌≤◌}
-use lib.ListN.{length, drop, drop_of_length-le}
-use native.Mathlib.Omega.{arith}
-use Rattle.chairs.proofs.Laws.{unread}
+use lib.ListN.{drop}
 use Rattle.notes.specs.Notes.{lies_in}
-use Rattle.notes.proofs.Laws.{lies_step}
-use borrow.Author.Rules.{rules}
 use Rattle.notes.proofs.lies_in.Given as goal
 
 abbrev pub invariant-loop-i : goal.invariant-loop-i

@@ -1,7 +1,6 @@
 -- `place_of` meets its contract.
 use borrow.Author.Tests.{eq-eqb, ne_eqb, lt-ltb, le-ltb}
 use Rattle.notes.specs.Notes.{place_of}
-use borrow.Author.Rules.{rules}
 use Rattle.notes.proofs.place_of.Goals as goal
 
 pub returns-then-seat-eq0 : goal.returns-then-seat-eq0

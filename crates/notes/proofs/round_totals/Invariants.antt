@@ -1,13 +1,9 @@
 -- `round_totals` meets its contract: in front of the place the round totals are written, behind it they are still to come.
-use mathlib.Core.Path.{◌≡◌, refl, sym, ap}
-use mathlib.Core.List.{◌∷◌, ◌++◌, map}
-use Prim.Native.Nat.{ℕ, ◌+◌, ◌-◌, ◌≤◌}
-use lib.ListN.{length, take, drop, length-set}
-use native.Mathlib.Omega.{arith}
-use Rattle.chairs.proofs.Laws.{unread}
-use Rattle.laws.proofs.Places.{front_turn, front_done}
+use mathlib.Core.Path.{◌≡◌}
+use mathlib.Core.List.{◌++◌, map}
+use Prim.Native.Nat.{◌+◌, ◌-◌, ◌≤◌}
+use lib.ListN.{length, take, drop}
 use Rattle.chairs.specs.Chairs.{round_of}
-use borrow.Author.Rules.{rules}
 use Rattle.notes.proofs.round_totals.Given as goal
 
 abbrev pub invariant-loop-i : goal.invariant-loop-i

@@ -1,6 +1,5 @@
 -- `rounds_at` meets its contract.
 use Rattle.notes.specs.Notes.{rounds_at}
-use borrow.Author.Rules.{rules}
 use Rattle.notes.proofs.rounds_at.Goals as goal
 
 pub returns : goal.returns

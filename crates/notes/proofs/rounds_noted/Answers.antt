@@ -1,6 +1,5 @@
 -- `rounds_noted` meets its contract.
 use Rattle.notes.specs.Notes.{rounds_noted}
-use borrow.Author.Rules.{rules}
 use Rattle.notes.proofs.rounds_noted.Goals as goal
 
 pub returns : goal.returns

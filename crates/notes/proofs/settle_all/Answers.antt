@@ -1,10 +1,8 @@
 -- `settle_all` meets its contract: in front of the place the accounts are settled, behind it they are still to come.
 use mathlib.Core.Path.{◌≡◌, refl}
-use mathlib.Core.List.{◌++◌}
-use Prim.Native.Nat.{◌-◌, ◌≤◌}
-use lib.ListN.{length, take, drop, length-set}
+use Prim.Native.Nat.{◌-◌}
+use lib.ListN.{length, length-set}
 use native.Mathlib.Omega.{arith}
-use Rattle.notes.specs.Notes.{settle_all}
 use Rattle.notes.proofs.Laws.{settle_turn, settle_done}
 use borrow.Author.Rules.{rules}
 use Rattle.notes.proofs.settle_all.Goals as goal

@@ -1,12 +1,9 @@
 -- `settle_all` meets its contract: in front of the place the accounts are settled, behind it they are still to come.
-use mathlib.Core.Path.{◌≡◌, refl}
+use mathlib.Core.Path.{◌≡◌}
 use mathlib.Core.List.{◌++◌}
 use Prim.Native.Nat.{◌-◌, ◌≤◌}
-use lib.ListN.{length, take, drop, length-set}
-use native.Mathlib.Omega.{arith}
+use lib.ListN.{length, take, drop}
 use Rattle.notes.specs.Notes.{settle_all}
-use Rattle.notes.proofs.Laws.{settle_turn, settle_done}
-use borrow.Author.Rules.{rules}
 use Rattle.notes.proofs.settle_all.Given as goal
 
 abbrev pub invariant-loop-i : goal.invariant-loop-i

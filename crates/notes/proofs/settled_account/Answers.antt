@@ -1,6 +1,5 @@
 -- `settled_account` meets its contract.
 use Rattle.notes.proofs.Laws.{settled_yes, settled_no}
-use borrow.Author.Rules.{rules}
 use Rattle.notes.proofs.settled_account.Goals as goal
 
 pub returns-then-here : goal.returns-then-here

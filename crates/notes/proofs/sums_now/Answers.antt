@@ -1,9 +1,8 @@
 -- `sums_now` meets its contract: the sums so far with the sittings behind the place are those of all.
 use mathlib.Core.Path.{◌≡◌, refl}
-use Prim.Native.Nat.{◌-◌, ◌≤◌}
-use lib.ListN.{length, drop}
+use Prim.Native.Nat.{◌-◌}
+use lib.ListN.{length}
 use native.Mathlib.Omega.{arith}
-use Rattle.notes.specs.Notes.{sums_from}
 use Rattle.notes.proofs.Laws.{sums_turn, sums_done}
 use borrow.Author.Rules.{rules}
 use Rattle.notes.proofs.sums_now.Goals as goal

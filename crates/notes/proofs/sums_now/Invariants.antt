@@ -1,11 +1,8 @@
 -- `sums_now` meets its contract: the sums so far with the sittings behind the place are those of all.
-use mathlib.Core.Path.{◌≡◌, refl}
+use mathlib.Core.Path.{◌≡◌}
 use Prim.Native.Nat.{◌-◌, ◌≤◌}
-use lib.ListN.{length, drop}
-use native.Mathlib.Omega.{arith}
+use lib.ListN.{drop}
 use Rattle.notes.specs.Notes.{sums_from}
-use Rattle.notes.proofs.Laws.{sums_turn, sums_done}
-use borrow.Author.Rules.{rules}
 use Rattle.notes.proofs.sums_now.Given as goal
 
 abbrev pub invariant-loop-i : goal.invariant-loop-i

@@ -2,7 +2,6 @@
 use borrow.Author.Tests.{eq-eqb}
 use Rattle.notes.specs.Notes.{sums_with}
 use Rattle.notes.proofs.Laws.{sums_some}
-use borrow.Author.Rules.{rules}
 use Rattle.notes.proofs.sums_with.Goals as goal
 
 pub returns-then-c-eq0 : goal.returns-then-c-eq0

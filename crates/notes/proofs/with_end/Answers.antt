@@ -1,5 +1,4 @@
 -- `with_end` meets its contract.
-use borrow.Author.Rules.{rules}
 use Rattle.notes.proofs.with_end.Goals as goal
 
 pub returns : goal.returns

@@ -1,5 +1,4 @@
 -- `chair_in` meets its contract.
-use borrow.Author.Rules.{rules}
 use Rattle.packed.proofs.chair_in.Goals as goal
 
 pub returns : goal.returns

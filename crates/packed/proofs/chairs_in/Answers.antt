@@ -2,10 +2,9 @@
 use Rattle.text.proofs.Parts.{part_is}
 use Rattle.packed.specs.Layout.{chair_in, chairs_in}
 use Rattle.packed.proofs.Read.{chairs_turn, chairs_done}
-use lib.ListN.{length, take, drop, length-set}
-use mathlib.Core.Path.{◌≡◌, refl, ap, ◌∙◌}
-use mathlib.Core.List.{◌++◌}
-use Prim.Native.Nat.{◌-◌, ◌*◌, ◌≤◌}
+use lib.ListN.{length-set}
+use mathlib.Core.Path.{refl, ap, ◌∙◌}
+use Prim.Native.Nat.{◌-◌, ◌*◌}
 use native.Mathlib.Omega.{arith}
 use borrow.Author.Rules.{rules}
 use Rattle.packed.proofs.chairs_in.Goals as goal

@@ -1,13 +1,9 @@
 -- `chairs_in` meets its contract.
-use Rattle.text.proofs.Parts.{part_is}
-use Rattle.packed.specs.Layout.{chair_in, chairs_in}
-use Rattle.packed.proofs.Read.{chairs_turn, chairs_done}
-use lib.ListN.{length, take, drop, length-set}
-use mathlib.Core.Path.{◌≡◌, refl, ap, ◌∙◌}
+use Rattle.packed.specs.Layout.{chairs_in}
+use lib.ListN.{length, take, drop}
+use mathlib.Core.Path.{◌≡◌}
 use mathlib.Core.List.{◌++◌}
 use Prim.Native.Nat.{◌-◌, ◌*◌, ◌≤◌}
-use native.Mathlib.Omega.{arith}
-use borrow.Author.Rules.{rules}
 use Rattle.packed.proofs.chairs_in.Given as goal
 
 abbrev pub invariant-loop-i : goal.invariant-loop-i

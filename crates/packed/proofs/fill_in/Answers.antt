@@ -1,5 +1,4 @@
 -- `mark_in` meets its contract.
-use borrow.Author.Rules.{rules}
 use Rattle.packed.proofs.fill_in.Goals as goal
 
 pub returns : goal.returns

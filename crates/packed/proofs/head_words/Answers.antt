@@ -1,5 +1,4 @@
 -- `head_words` meets its contract.
-use borrow.Author.Rules.{rules}
 use Rattle.packed.proofs.head_words.Goals as goal
 
 pub returns : goal.returns

@@ -1,7 +1,6 @@
 -- `pack` meets its contract.
 use Rattle.packed.proofs.Again.{packed_is}
 use mathlib.Core.Path.{refl}
-use borrow.Author.Rules.{rules}
 use Rattle.packed.proofs.pack.Goals as goal
 
 pub returns : goal.returns

@@ -1,5 +1,4 @@
 -- `play_in` meets its contract.
-use borrow.Author.Rules.{rules}
 use Rattle.packed.proofs.play_in.Goals as goal
 
 pub returns : goal.returns

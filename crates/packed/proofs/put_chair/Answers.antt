@@ -1,7 +1,6 @@
 -- `put_chair` meets its contract.
 use Rattle.packed.proofs.Rows.{two_wrote}
 use mathlib.Core.Path.{refl}
-use borrow.Author.Rules.{rules}
 use Rattle.packed.proofs.put_chair.Goals as goal
 
 pub returns : goal.returns

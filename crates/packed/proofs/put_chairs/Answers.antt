@@ -1,13 +1,11 @@
 -- `put_chairs` meets its contract.
-use Rattle.packed.proofs.Rows.{Going, going_start, going_at, going_turn, going_done}
-use Rattle.packed.specs.Layout.{chair_bytes}
-use Rattle.packed.specs.Fits.{ChairFits}
+use Rattle.packed.proofs.Rows.{going_start, going_at, going_turn, going_done}
 use Rattle.chairs.specs.declared.Chair.{Chair}
 use Rattle.chairs.proofs.Laws.{unread}
 use Rattle.text.proofs.Parts.{part_is}
 use lib.ListN.{length, length-drop}
 use mathlib.Core.Path.{◌≡◌, refl, ap}
-use Prim.Native.Nat.{◌-◌, ◌≤◌}
+use Prim.Native.Nat.{◌-◌}
 use native.Mathlib.Omega.{arith}
 use borrow.Author.Rules.{rules}
 use Rattle.packed.proofs.put_chairs.Goals as goal

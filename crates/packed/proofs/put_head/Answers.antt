@@ -4,7 +4,6 @@ use Rattle.packed.specs.Layout.{words_bytes}
 use Rattle.packed.specs.Fits.{IsWord}
 use Rattle.laws.specs.Lists.{All}
 use mathlib.Core.Path.{refl, ap, subst}
-use borrow.Author.Rules.{rules}
 use Rattle.packed.proofs.put_head.Goals as goal
 
 pub returns : goal.returns

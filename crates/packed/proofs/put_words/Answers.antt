@@ -1,11 +1,9 @@
 -- `put_words` meets its contract.
-use Rattle.packed.proofs.Rows.{Going, going_start, going_at, going_turn, going_done}
-use Rattle.records.specs.Bytes.{word_bytes}
-use Rattle.packed.specs.Fits.{IsWord}
+use Rattle.packed.proofs.Rows.{going_start, going_at, going_turn, going_done}
 use Rattle.text.proofs.Parts.{part_is}
 use lib.ListN.{length, length-drop}
 use mathlib.Core.Path.{◌≡◌, refl, ap}
-use Prim.Native.Nat.{ℕ, ◌-◌, ◌*◌, ◌≤◌}
+use Prim.Native.Nat.{ℕ, ◌-◌, ◌*◌}
 use native.Mathlib.Omega.{arith}
 use borrow.Author.Rules.{rules}
 use Rattle.packed.proofs.put_words.Goals as goal

@@ -1,13 +1,9 @@
 -- `put_words` meets its contract.
-use Rattle.packed.proofs.Rows.{Going, going_start, going_at, going_turn, going_done}
+use Rattle.packed.proofs.Rows.{Going}
 use Rattle.records.specs.Bytes.{word_bytes}
 use Rattle.packed.specs.Fits.{IsWord}
-use Rattle.text.proofs.Parts.{part_is}
-use lib.ListN.{length, length-drop}
-use mathlib.Core.Path.{◌≡◌, refl, ap}
-use Prim.Native.Nat.{ℕ, ◌-◌, ◌*◌, ◌≤◌}
-use native.Mathlib.Omega.{arith}
-use borrow.Author.Rules.{rules}
+use lib.ListN.{length}
+use Prim.Native.Nat.{◌-◌, ◌≤◌}
 use Rattle.packed.proofs.put_words.Given as goal
 
 abbrev pub invariant-loop-k : goal.invariant-loop-k

@@ -1,7 +1,6 @@
 -- `unpack` meets its contract.
 use Rattle.packed.specs.Layout.{clerk_from}
 use Rattle.text.proofs.Parts.{part_is}
-use borrow.Author.Rules.{rules}
 use Rattle.packed.proofs.unpack.Goals as goal
 
 pub returns : goal.returns

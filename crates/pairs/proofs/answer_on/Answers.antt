@@ -5,7 +5,6 @@ use Rattle.table.specs.Take.{Sound}
 use Rattle.couple.proofs.Tables.{sound_at}
 use Rattle.pairs.proofs.Runs.{block_written, block_gave, block-good}
 use Rattle.shared.proofs.Room.{shared_bytes_most}
-use borrow.Author.Rules.{rules}
 use Rattle.pairs.proofs.answer_on.Goals as goal
 
 pub answer_at-a-requires : goal.answer_at-a-requires

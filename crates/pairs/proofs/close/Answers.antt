@@ -1,6 +1,5 @@
 -- `close` meets its contract: what is kept at the end of the input is answered as the definition says.
 use Rattle.pairs.proofs.Runs.{end_gave}
-use borrow.Author.Rules.{rules}
 use Rattle.pairs.proofs.close.Goals as goal
 
 pub returns : goal.returns

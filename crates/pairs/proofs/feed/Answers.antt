@@ -1,6 +1,5 @@
 -- `feed` meets its contract: the lines up to the first that makes something whole, and that is answered.
 use Rattle.pairs.proofs.On.{fed_one}
-use borrow.Author.Rules.{rules}
 use Rattle.pairs.proofs.feed.Goals as goal
 
 pub take_piece-s-requires : goal.take_piece-s-requires

@@ -1,10 +1,10 @@
 -- `feed_on` meets its contract: line after line, as long as bytes and room are left.
 use mathlib.Core.Path.{refl}
-use Prim.Native.Nat.{◌-◌, ◌≤◌}
+use Prim.Native.Nat.{◌-◌}
 use native.Mathlib.Omega.{arith}
 use lib.ListN.{length}
 use borrow.Author.Rules.{rules}
-use Rattle.pairs.proofs.On.{Feeding, on_start, goes_when, on_used, on_room, on_moves, on_turn, on_done}
+use Rattle.pairs.proofs.On.{on_start, goes_when, on_used, on_room, on_moves, on_turn, on_done}
 use Rattle.pairs.proofs.feed_on.Goals as goal
 
 pub loop-buf-init : goal.loop-buf-init

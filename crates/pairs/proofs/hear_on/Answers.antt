@@ -1,8 +1,7 @@
 -- `hear_on` meets its contract: line after line, and nothing is whole but at the end.
-use Rattle.pairs.proofs.Gathers.{Hearing, hear_start, turn_used, turn_less, hear_turn, hear_done, goes_on_when}
-use Rattle.lines.specs.Kept.{kept_most}
+use Rattle.pairs.proofs.Gathers.{hear_start, turn_used, turn_less, hear_turn, hear_done, goes_on_when}
 use lib.ListN.{length}
-use Prim.Native.Nat.{◌-◌, ◌≤◌}
+use Prim.Native.Nat.{◌-◌}
 use borrow.Author.Rules.{rules}
 use native.Mathlib.Omega.{arith}
 use Rattle.pairs.proofs.hear_on.Goals as goal

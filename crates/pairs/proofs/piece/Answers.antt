@@ -1,6 +1,5 @@
 -- `piece` meets its contract: each kind of piece is answered as the definition says.
 use Rattle.pairs.proofs.Runs.{no_piece, whole_piece, cut_piece, none_piece, missing_piece}
-use borrow.Author.Rules.{rules}
 use Rattle.pairs.proofs.piece.Goals as goal
 
 pub returns-then-what-eq-NOTHING : goal.returns-then-what-eq-NOTHING

@@ -1,6 +1,5 @@
 -- `whole` meets its contract: a part of the opening is read, a block is answered.
 use Rattle.pairs.proofs.Runs.{whole_pool, whole_sheet, whole_block}
-use borrow.Author.Rules.{rules}
 use Rattle.pairs.proofs.whole.Goals as goal
 
 pub returns-then-due-eq-POOL : goal.returns-then-due-eq-POOL

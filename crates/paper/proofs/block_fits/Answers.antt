@@ -1,7 +1,6 @@
 -- `block_fits` meets its contract: the row of a known kind decides, and an unknown kind never fits.
 use native.Mathlib.Omega.{arith}
 use Rattle.paper.proofs.Rows.{row_fits, row_missing}
-use borrow.Author.Rules.{rules}
 use Rattle.paper.proofs.block_fits.Goals as goal
 
 pub returns-then-k-lt12 : goal.returns-then-k-lt12

@@ -2,7 +2,6 @@
 use mathlib.Core.Path.{ap, ◌∙◌}
 use Rattle.paper.specs.declared.Numbers.{Numbers}
 use Rattle.paper.specs.SheetAndEntries.{in_range, block_fits}
-use borrow.Author.Rules.{rules}
 use Rattle.paper.proofs.in_range.Goals as goal
 
 pub returns : goal.returns

@@ -1,5 +1,4 @@
 -- `in_span` meets its contract.
-use borrow.Author.Rules.{rules}
 use Rattle.paper.proofs.in_span.Goals as goal
 
 pub returns : goal.returns

@@ -1,6 +1,5 @@
 -- `is_sheet` meets its contract.
 use Rattle.paper.specs.Paper.{is_sheet}
-use borrow.Author.Rules.{rules}
 use Rattle.paper.proofs.is_sheet.Goals as goal
 
 pub returns : goal.returns

@@ -1,5 +1,4 @@
 -- `least_in` meets its contract.
-use borrow.Author.Rules.{rules}
 use Rattle.paper.proofs.least_in.Goals as goal
 
 pub returns-then-span : goal.returns-then-span

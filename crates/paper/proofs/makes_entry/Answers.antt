@@ -4,7 +4,6 @@ use native.Mathlib.Omega.{arith}
 use Rattle.paper.specs.declared.KindRow.{KindRow}
 use Rattle.paper.specs.SheetAndEntries.{spared}
 use Rattle.paper.proofs.Rows.{kind_known, kind_unknown}
-use borrow.Author.Rules.{rules}
 use Rattle.paper.proofs.makes_entry.Goals as goal
 
 pub returns-then-k-lt12 : goal.returns-then-k-lt12

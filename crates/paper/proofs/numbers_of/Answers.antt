@@ -1,5 +1,4 @@
 -- `numbers_of` meets its contract, kind by kind.
-use borrow.Author.Rules.{rules}
 use Rattle.paper.proofs.numbers_of.Goals as goal
 
 pub returns-in-Sit : goal.returns-in-Sit

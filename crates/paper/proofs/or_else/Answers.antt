@@ -1,7 +1,6 @@
 -- `or_else` meets its contract.
 use Rattle.paper.proofs.Codes.{or_some}
 use mathlib.Core.Path.{sym}
-use borrow.Author.Rules.{rules}
 use Rattle.paper.proofs.or_else.Goals as goal
 
 pub returns-else-a-eq-TAKEN : goal.returns-else-a-eq-TAKEN

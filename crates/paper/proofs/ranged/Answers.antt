@@ -1,7 +1,6 @@
 -- `ranged` meets its contract: the tests of the used numbers, in the order of the row.
 use Rattle.paper.specs.SheetAndEntries.{is_seat, in_span}
 use Rattle.paper.proofs.Rows.{used_tests}
-use borrow.Author.Rules.{rules}
 use Rattle.paper.proofs.ranged.Goals as goal
 
 pub returns : goal.returns

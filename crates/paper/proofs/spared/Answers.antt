@@ -1,5 +1,4 @@
 -- `spared` meets its contract.
-use borrow.Author.Rules.{rules}
 use Rattle.paper.proofs.spared.Goals as goal
 
 pub returns : goal.returns

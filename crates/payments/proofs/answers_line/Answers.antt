@@ -10,7 +10,6 @@ use lib.Dec.{eqb}
 use native.Mathlib.Omega.{arith}
 use mathlib.Core.Bool.{not}
 use mathlib.Core.Path.{refl, sym, ap, ◌∙◌, subst}
-use borrow.Author.Rules.{rules}
 use Rattle.payments.proofs.answers_line.Goals as goal
 
 pub pay_out-requires : goal.pay_out-requires

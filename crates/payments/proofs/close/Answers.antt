@@ -11,7 +11,6 @@ use lib.Dec.{lit<}
 use native.Mathlib.Omega.{arith}
 use mathlib.Core.List.{◌++◌}
 use mathlib.Core.Path.{refl, sym, ap, ◌∙◌, subst}
-use borrow.Author.Rules.{rules}
 use Rattle.payments.proofs.close.Goals as goal
 
 pub returns-then-ended : goal.returns-then-ended

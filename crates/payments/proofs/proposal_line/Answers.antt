@@ -9,7 +9,6 @@ use borrow.Author.Tests.{eq-eqb, ne_eqb}
 use native.Mathlib.Omega.{arith}
 use mathlib.Core.Bool.{true}
 use mathlib.Core.Path.{refl, sym, ap, subst}
-use borrow.Author.Rules.{rules}
 use Rattle.payments.proofs.proposal_line.Goals as goal
 
 pub returns-then-l-eq-GIVE : goal.returns-then-l-eq-GIVE

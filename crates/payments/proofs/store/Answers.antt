@@ -1,7 +1,6 @@
 -- `payments::store` meets its contract: one number more of a proposal. Assumes nothing.
 use lib.Seq.{set_out}
 use mathlib.Core.Path.{sym}
-use borrow.Author.Rules.{rules}
 use Rattle.payments.proofs.store.Goals as goal
 
 pub returns-else-i-gives : goal.returns-else-i-gives

@@ -6,7 +6,6 @@ use Rattle.teller.specs.Keeping.{Sound}
 use borrow.Author.Tests.{eq-eqb, ne_eqb}
 use native.Mathlib.Omega.{arith}
 use mathlib.Core.Path.{refl, sym, subst}
-use borrow.Author.Rules.{rules}
 use Rattle.payments.proofs.take_line.Goals as goal
 
 pub proposal_line-requires : goal.proposal_line-requires

@@ -5,7 +5,6 @@ use Rattle.teller.specs.declared.state.Teller.{Teller}
 use borrow.Author.Tests.{eq-eqb, ne_eqb}
 use native.Mathlib.Omega.{arith}
 use mathlib.Core.Path.{◌≡◌, refl, sym, ap, ◌∙◌}
-use borrow.Author.Rules.{rules}
 use Rattle.payments.proofs.tray_answer.Goals as goal
 
 pub returns-then-t-eq-FAULT : goal.returns-then-t-eq-FAULT

@@ -1,7 +1,6 @@
 -- `close` meets its contract, by whether a line is kept.
 use Rattle.picture.proofs.Steps.{close_half, close_line}
 use native.Mathlib.Omega.{arith}
-use borrow.Author.Rules.{rules}
 use Rattle.picture.proofs.close.Goals as goal
 
 pub returns-then-n-eq0 : goal.returns-then-n-eq0

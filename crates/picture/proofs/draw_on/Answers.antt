@@ -1,9 +1,8 @@
 -- `draw_on` meets its contract: at each turn what was drawn so far is said by `Drawing`.
 use Prim.Native.Nat.{◌-◌}
 use native.Mathlib.Omega.{arith}
-use lib.ListN.{length}
 use borrow.Author.Rules.{rules}
-use Rattle.picture.proofs.Parts.{Drawing, draw_start, draw_goes, draw_turn, draw_done}
+use Rattle.picture.proofs.Parts.{draw_start, draw_goes, draw_turn, draw_done}
 use Rattle.picture.proofs.draw_on.Goals as goal
 
 pub loop-buf-init : goal.loop-buf-init

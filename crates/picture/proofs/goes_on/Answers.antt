@@ -1,5 +1,4 @@
 -- `goes_on` meets its contract.
-use borrow.Author.Rules.{rules}
 use borrow.Author.Tests.{lt-ltb, le-ltb}
 use Rattle.picture.proofs.goes_on.Goals as goal
 

@@ -2,7 +2,6 @@
 use Rattle.picture.specs.Screen.{shown_of}
 use borrow.Author.Tests.{lt-ltb, le-ltb}
 use native.Mathlib.Omega.{arith}
-use borrow.Author.Rules.{rules}
 use Rattle.picture.proofs.put_said.Goals as goal
 
 pub returns-then-l-lt-KINDS : goal.returns-then-l-lt-KINDS

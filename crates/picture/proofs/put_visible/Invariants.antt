@@ -1,11 +1,8 @@
 -- `put_visible` meets its contract: after i turns the first i bytes are shown.
-use borrow.Author.Rules.{rules}
-use Rattle.picture.proofs.Foreign.{visible_start, visible_on, visible_done}
 use Rattle.picture.specs.Rows.{visible_all}
 use Rattle.figures.specs.Placing.{Put}
-use lib.ListN.{length, take, length-set}
-use native.Mathlib.Omega.{arith}
-use mathlib.Core.Path.{◌≡◌, refl}
+use lib.ListN.{length, take}
+use mathlib.Core.Path.{◌≡◌}
 use Prim.Native.Nat.{◌+◌, ◌-◌, ◌≤◌}
 use Rattle.picture.proofs.put_visible.Given as goal
 

@@ -1,7 +1,6 @@
 -- `said` meets its contract, by its test.
 use Rattle.picture.proofs.Tables.{answering_none}
 use Rattle.picture.specs.Screen.{said_of}
-use borrow.Author.Rules.{rules}
 use Rattle.picture.proofs.said.Goals as goal
 
 pub returns-then-long : goal.returns-then-long

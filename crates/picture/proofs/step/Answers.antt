@@ -2,7 +2,6 @@
 use lib.ListN.{length-set}
 use Rattle.picture.proofs.Steps.{step_ended, step_kept, step_full}
 use native.Mathlib.Omega.{arith}
-use borrow.Author.Rules.{rules}
 use Rattle.picture.proofs.step.Goals as goal
 
 pub slice_bounds-said-end : goal.slice_bounds-said-end

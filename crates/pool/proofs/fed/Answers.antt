@@ -2,7 +2,6 @@
 -- Assumes nothing.
 use native.Mathlib.Omega.{arith}
 use Rattle.pool.specs.Jackpot.{fits_in, fed_by}
-use borrow.Author.Rules.{rules}
 use Rattle.pool.proofs.fed.Goals as goal
 
 pub overflow_add-result : goal.overflow_add-result

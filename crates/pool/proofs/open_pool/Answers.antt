@@ -1,7 +1,6 @@
 -- `open_pool` meets its contract.
 -- Assumes nothing.
 use Rattle.pool.specs.Jackpot.{opened_with}
-use borrow.Author.Rules.{rules}
 use Rattle.pool.proofs.open_pool.Goals as goal
 
 pub returns : goal.returns

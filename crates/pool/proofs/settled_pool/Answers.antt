@@ -1,7 +1,6 @@
 -- `settled_pool` meets its contract.
 -- Assumes nothing.
 use Rattle.pool.specs.Jackpot.{win_of, settled_pool}
-use borrow.Author.Rules.{rules}
 use Rattle.pool.proofs.settled_pool.Goals as goal
 
 pub returns : goal.returns

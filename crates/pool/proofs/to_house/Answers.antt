@@ -1,7 +1,6 @@
 -- `to_house` meets its contract.
 -- Assumes nothing.
 use Rattle.pool.specs.Jackpot.{house_of}
-use borrow.Author.Rules.{rules}
 use Rattle.pool.proofs.to_house.Goals as goal
 
 pub returns : goal.returns

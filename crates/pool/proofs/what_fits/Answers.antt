@@ -1,7 +1,6 @@
 -- `what_fits` meets its contract.
 -- Assumes nothing.
 use Rattle.pool.specs.Jackpot.{fits_in}
-use borrow.Author.Rules.{rules}
 use Rattle.pool.proofs.what_fits.Goals as goal
 
 pub returns : goal.returns

@@ -1,10 +1,10 @@
 -- `back_each` meets its contract: each total less the top. The invariant: what is written and what is still to come are that of all.
 -- Assumes nothing.
-use Prim.Native.Nat.{◌+◌, ◌≤◌, ◌-◌}
-use mathlib.Core.Path.{◌≡◌, refl, sym, ap, ◌∙◌}
-use mathlib.Core.List.{◌∷◌, ◌++◌, map}
+use Prim.Native.Nat.{◌+◌, ◌-◌}
+use mathlib.Core.Path.{refl, sym, ap, ◌∙◌}
+use mathlib.Core.List.{◌∷◌, map}
 use borrow.Author.Rules.{rules}
-use lib.ListN.{length, drop, take, length-set}
+use lib.ListN.{drop, length-set}
 use Rattle.pots.specs.Heights.{returned_of}
 use Rattle.pots.proofs.Filled.{top_is}
 use Rattle.laws.proofs.Places.{front_turn, front_done}

@@ -1,9 +1,9 @@
 -- `largest` meets its contract. The invariant: m is the largest from place i on.
 -- Assumes nothing.
-use Prim.Native.Nat.{◌≤◌, ◌-◌, max}
-use mathlib.Core.Path.{◌≡◌, sym, ap, ◌∙◌}
+use Prim.Native.Nat.{◌-◌, max}
+use mathlib.Core.Path.{sym, ap, ◌∙◌}
 use borrow.Author.Rules.{rules}
-use lib.ListN.{get_or, drop}
+use lib.ListN.{get_or}
 use Rattle.laws.proofs.Places.{last_start, last_turn, last_done}
 use Rattle.laws.specs.Lists.{max_of}
 use Rattle.pots.proofs.largest.Goals as goal

@@ -1,10 +1,10 @@
 -- `live_totals` meets its contract. The invariant: what is written and the live totals still to come are those of all.
 -- Assumes nothing.
-use Prim.Native.Nat.{◌+◌, ◌≤◌, ◌-◌, ◌/◌}
-use mathlib.Core.Path.{◌≡◌, refl, sym, ap, ◌∙◌}
-use mathlib.Core.List.{◌∷◌, ◌++◌}
+use Prim.Native.Nat.{◌+◌, ◌/◌}
+use mathlib.Core.Path.{refl, sym, ap, ◌∙◌}
+use mathlib.Core.List.{◌∷◌}
 use borrow.Author.Rules.{rules}
-use lib.ListN.{length, drop, length-set, take}
+use lib.ListN.{drop, length-set}
 use Rattle.laws.proofs.Places.{front_turn, front_done}
 use Rattle.pots.specs.Heights.{live_of}
 use Rattle.pots.proofs.live_totals.Goals as goal

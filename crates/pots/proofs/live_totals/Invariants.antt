@@ -1,11 +1,9 @@
 -- `live_totals` meets its contract. The invariant: what is written and the live totals still to come are those of all.
 -- Assumes nothing.
-use Prim.Native.Nat.{◌+◌, ◌≤◌, ◌-◌, ◌/◌}
-use mathlib.Core.Path.{◌≡◌, refl, sym, ap, ◌∙◌}
-use mathlib.Core.List.{◌∷◌, ◌++◌}
-use borrow.Author.Rules.{rules}
-use lib.ListN.{length, drop, length-set, take}
-use Rattle.laws.proofs.Places.{front_turn, front_done}
+use Prim.Native.Nat.{◌≤◌, ◌-◌}
+use mathlib.Core.Path.{◌≡◌}
+use mathlib.Core.List.{◌++◌}
+use lib.ListN.{length, drop, take}
 use Rattle.pots.specs.Heights.{live_of}
 use Rattle.pots.proofs.live_totals.Given as goal
 

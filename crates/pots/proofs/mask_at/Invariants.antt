@@ -1,12 +1,8 @@
 -- `mask_at` meets its contract. The invariant: m is the mask of the places from i on.
 -- Assumes nothing.
-use Prim.Native.Nat.{◌≤◌, ◌<◌, ◌-◌, ◌^◌}
-use mathlib.Core.Path.{◌≡◌, sym, ◌∙◌}
-use native.Mathlib.Omega.{arith}
-use borrow.Author.Rules.{rules}
-use lib.ListN.{get_or, drop, length-drop}
-use Rattle.pots.proofs.Masks.{mask_lt, has_le}
-use Rattle.laws.proofs.Places.{last_start, last_turn, last_done}
+use Prim.Native.Nat.{◌≤◌}
+use mathlib.Core.Path.{◌≡◌}
+use lib.ListN.{drop}
 use Rattle.pots.specs.Heights.{mask_at}
 use Rattle.pots.proofs.mask_at.Given as goal
 

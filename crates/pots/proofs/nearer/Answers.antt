@@ -1,6 +1,5 @@
 -- `nearer` meets its contract.
 -- Assumes nothing.
-use borrow.Author.Rules.{rules}
 use borrow.Author.Tests.{lt-ltb, le-ltb}
 use Rattle.pots.proofs.nearer.Goals as goal
 

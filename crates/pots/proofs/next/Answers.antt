@@ -1,9 +1,9 @@
 -- `next` meets its contract. The invariant: m is the next level of the totals from place i on.
 -- Assumes nothing.
-use Prim.Native.Nat.{◌≤◌, ◌-◌, min}
-use mathlib.Core.Path.{◌≡◌, sym, ap, ◌∙◌}
+use Prim.Native.Nat.{◌-◌, min}
+use mathlib.Core.Path.{sym, ap, ◌∙◌}
 use borrow.Author.Rules.{rules}
-use lib.ListN.{get_or, drop}
+use lib.ListN.{get_or}
 use lib.Dec.{ltb}
 use Rattle.laws.specs.Tests.{pick}
 use Rattle.laws.proofs.Places.{last_start, last_turn, last_done}

@@ -1,12 +1,8 @@
 -- `next` meets its contract. The invariant: m is the next level of the totals from place i on.
 -- Assumes nothing.
-use Prim.Native.Nat.{◌≤◌, ◌-◌, min}
-use mathlib.Core.Path.{◌≡◌, sym, ap, ◌∙◌}
-use borrow.Author.Rules.{rules}
-use lib.ListN.{get_or, drop}
-use lib.Dec.{ltb}
-use Rattle.laws.specs.Tests.{pick}
-use Rattle.laws.proofs.Places.{last_start, last_turn, last_done}
+use Prim.Native.Nat.{◌≤◌}
+use mathlib.Core.Path.{◌≡◌}
+use lib.ListN.{drop}
 use Rattle.pots.specs.Levels.{next_of}
 use Rattle.pots.proofs.next.Given as goal
 

@@ -1,6 +1,5 @@
 -- `pots::pots_of` meets its contract: the pots up to the top.
 -- Assumes nothing.
-use borrow.Author.Rules.{rules}
 use Rattle.pots.proofs.pots_of.Goals as goal
 
 pub returns : goal.returns

@@ -13,7 +13,7 @@ use Rattle.laws.specs.Lists.{sum_of}
 use Rattle.pots.specs.Heights.{chips_at, over, chips_over, live_of}
 use Rattle.pots.specs.Levels.{top_of, next_of}
 use Rattle.pots.proofs.Chips.{over_split}
-use Rattle.pots.proofs.Filled.{Filled, filled_start, filled_room, filled_turn, filled_done, top_is, next_is, pots_live}
+use Rattle.pots.proofs.Filled.{filled_start, filled_room, filled_turn, filled_done, top_is, next_is, pots_live}
 use Rattle.pots.proofs.Hands.{paid_and_unclaimed}
 use Rattle.pots.proofs.PotLevels.{next_lo, next_top}
 use Rattle.pots.proofs.pots_to.Goals.{After-next-hi, After-under-all}

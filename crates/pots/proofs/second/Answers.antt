@@ -1,9 +1,9 @@
 -- `second` meets its contract. The invariant: m and s are the largest and the second largest from place i on.
 -- Assumes nothing.
-use Prim.Native.Nat.{◌≤◌, ◌-◌, min, max}
-use mathlib.Core.Path.{◌≡◌, sym, ap, ◌∙◌, ap₂}
+use Prim.Native.Nat.{◌-◌, min, max}
+use mathlib.Core.Path.{sym, ap, ◌∙◌, ap₂}
 use borrow.Author.Rules.{rules}
-use lib.ListN.{get_or, drop}
+use lib.ListN.{get_or}
 use Rattle.laws.proofs.Places.{last_start, last_turn, last_done}
 use Rattle.laws.specs.Lists.{max_of}
 use Rattle.pots.specs.Levels.{second_of}

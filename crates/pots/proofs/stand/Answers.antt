@@ -1,6 +1,5 @@
 -- `pots::stand` meets its contract: the pots up to the top, and what the totals hold above it.
 -- Assumes nothing.
-use borrow.Author.Rules.{rules}
 use Rattle.pots.proofs.Filled.{top_is}
 use Rattle.pots.proofs.Returns.{back_above}
 use Rattle.pots.proofs.stand.Goals as goal

@@ -1,14 +1,10 @@
 -- `pots::sum_above` meets its contract. The invariant: what is summed is what the totals from place i on hold above the top.
 -- Assumes nothing.
-use Prim.Native.Nat.{ℕ, ◌≤◌, ◌-◌, zero-le}
-use mathlib.Core.Path.{◌≡◌, sym, ◌∙◌}
-use mathlib.Core.List.{List, [], ◌∷◌, map}
-use native.Mathlib.Omega.{arith}
-use borrow.Author.Rules.{rules}
+use Prim.Native.Nat.{ℕ, ◌≤◌, ◌-◌}
+use mathlib.Core.Path.{◌≡◌}
+use mathlib.Core.List.{List, map}
 use lib.ListN.{drop}
 use Rattle.laws.specs.Lists.{sum_of}
-use Rattle.laws.proofs.Places.{last_start, last_turn, last_done}
-use Rattle.laws.proofs.Sums.{drop_sum}
 use Rattle.pots.proofs.sum_above.Given as goal
 
 abbrev pub high : ℕ → List ℕ → ℕ

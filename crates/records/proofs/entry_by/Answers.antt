@@ -1,6 +1,5 @@
 -- `entry_by` meets its contract.
 use Rattle.records.proofs.Found.{entry_none}
-use borrow.Author.Rules.{rules}
 use Rattle.records.proofs.entry_by.Goals as goal
 
 pub returns-then-k-lt12 : goal.returns-then-k-lt12

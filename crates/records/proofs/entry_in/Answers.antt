@@ -1,7 +1,6 @@
 -- `entry_in` meets its contract.
 use Rattle.records.specs.Stored.{entry_by}
 use mathlib.Core.Path.{◌∙◌, ap}
-use borrow.Author.Rules.{rules}
 use Rattle.records.proofs.entry_in.Goals as goal
 
 pub returns : goal.returns

@@ -1,5 +1,5 @@
 -- `last_hand` meets its contract: each turn hands on the record behind.
-use Rattle.std.proofs.Common.{◌≡◌, ◌+◌, ◌-◌, ◌≤◌, ◌<◌, ◌∙◌, ℕ, List, Bool, true, false, suc, length, refl, sym, ap, ap₂, subst, arith}
+use Rattle.std.proofs.Common.{◌≡◌, ◌+◌, ◌-◌, ◌≤◌, ◌<◌, ◌∙◌, ℕ, List, Bool, true, false, suc, length, refl, sym, ap, ap₂, arith}
 use Rattle.laws.specs.Tests.{pick}
 use Rattle.records.specs.declared.Record.{Record}
 use Rattle.records.specs.declared.RecordRead.{RecordRead}
@@ -48,10 +48,10 @@ loop-g-smaller c =
     let there : (record_at log v.0).there ≡ true = sym (ap (λ (r : Record). r.there) v.1.0) ∙ c.loop-g-test.true in
     let less = nearer log v.0 (record_at log v.0).next there refl in
     let old : pick c.loop-g.g.got.there (suc (length log - c.loop-g.g.rest.at)) 0 ≡ suc (length log - (record_at log v.0).next) =
-          rw (c.loop-g-test.true, v.1.2) refl in
+    rw (c.loop-g-test.true, v.1.2) refl in
     let new : pick c.next-g-in-loop-g.result.got.there (suc (length log - c.next-g-in-loop-g.result.rest.at)) 0
-          ≡ pick (record_at log (record_at log v.0).next).there (suc (length log - (record_at log (record_at log v.0).next).next)) 0 =
-          rw (got log v.0 c.loop-g.g c.next-g-in-loop-g.result n v.1.1 v.1.2, place log v.0 c.loop-g.g c.next-g-in-loop-g.result n v.1.1 v.1.2) refl in
+    ≡ pick (record_at log (record_at log v.0).next).there (suc (length log - (record_at log (record_at log v.0).next).next)) 0 =
+    rw (got log v.0 c.loop-g.g c.next-g-in-loop-g.result n v.1.1 v.1.2, place log v.0 c.loop-g.g c.next-g-in-loop-g.result n v.1.1 v.1.2) refl in
     omega (arith, old, new, less)
 
 pub loop-g-preserved : goal.loop-g-preserved
@@ -64,7 +64,7 @@ loop-g-preserved c =
     let there : (record_at log i).there ≡ true = sym (ap (λ (r : Record). r.there) v.1.0) ∙ c.loop-g-test.true in
     let later : c.later-last.result ≡ later_of c.loop-g.last (record_at log i) = c.later-last.ensures ∙ ap (later_of c.loop-g.last) v.1.0 in
     let on : last_on (f - 1) log (record_at log i).next c.later-last.result ≡ last_hand log =
-          ap (last_on (f - 1) log (record_at log i).next) later ∙ sym (turn log f i c.loop-g.last there v.1.3.1.1) ∙ v.1.3.1.0 in (
+    ap (last_on (f - 1) log (record_at log i).next) later ∙ sym (turn log f i c.loop-g.last there v.1.3.1.1) ∙ v.1.3.1.0 in (
       (record_at log i).next,
       (
         got log i c.loop-g.g c.next-g-in-loop-g.result n v.1.1 v.1.2,

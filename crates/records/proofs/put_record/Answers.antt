@@ -1,7 +1,6 @@
 -- `put_record` meets its contract.
 use Rattle.records.proofs.Puts.{record_put, record_none}
 use mathlib.Core.Path.{refl}
-use borrow.Author.Rules.{rules}
 use Rattle.records.proofs.put_record.Goals as goal
 
 pub returns-then-at-log : goal.returns-then-at-log

@@ -1,6 +1,5 @@
 -- `put_word` meets its contract.
 use Rattle.records.proofs.Words.{word_wrote}
-use borrow.Author.Rules.{rules}
 use Rattle.records.proofs.put_word.Goals as goal
 
 pub returns : goal.returns

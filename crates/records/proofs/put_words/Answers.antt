@@ -1,8 +1,8 @@
 -- `put_words` meets its contract.
-use Rattle.records.proofs.Words.{Going, going_start, going_at, going_part, going_turn, going_done}
+use Rattle.records.proofs.Words.{going_start, going_at, going_part, going_turn, going_done}
 use lib.ListN.{length}
 use mathlib.Core.Path.{◌≡◌, refl}
-use Prim.Native.Nat.{◌-◌, ◌≤◌}
+use Prim.Native.Nat.{◌-◌}
 use native.Mathlib.Omega.{arith}
 use borrow.Author.Rules.{rules}
 use Rattle.records.proofs.put_words.Goals as goal

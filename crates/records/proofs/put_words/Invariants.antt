@@ -1,10 +1,6 @@
 -- `put_words` meets its contract.
-use Rattle.records.proofs.Words.{Going, going_start, going_at, going_part, going_turn, going_done}
-use lib.ListN.{length}
-use mathlib.Core.Path.{◌≡◌, refl}
+use Rattle.records.proofs.Words.{Going}
 use Prim.Native.Nat.{◌-◌, ◌≤◌}
-use native.Mathlib.Omega.{arith}
-use borrow.Author.Rules.{rules}
 use Rattle.records.proofs.put_words.Given as goal
 
 abbrev pub invariant-loop-k : goal.invariant-loop-k

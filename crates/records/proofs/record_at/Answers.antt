@@ -1,6 +1,5 @@
 -- `record_at` meets its contract.
 use Rattle.records.proofs.Found.{absent, present}
-use borrow.Author.Rules.{rules}
 use Rattle.records.proofs.record_at.Goals as goal
 
 pub returns-then-left-lt-RECORD : goal.returns-then-left-lt-RECORD

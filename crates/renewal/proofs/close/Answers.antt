@@ -1,7 +1,6 @@
 -- `close` meets its contract: behind the sheet, at a held `n`, where the sheet may end, and elsewhere.
 use Rattle.renewal.proofs.Steps.{close_done, close_held, close_ends, close_cut}
 use native.Mathlib.Omega.{arith}
-use borrow.Author.Rules.{rules}
 use Rattle.renewal.proofs.close.Goals as goal
 
 pub returns-then-s : goal.returns-then-s

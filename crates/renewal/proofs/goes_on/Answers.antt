@@ -1,6 +1,5 @@
 -- `goes_on` meets its contract.
 use Rattle.renewal.proofs.Steps.{goes_is}
-use borrow.Author.Rules.{rules}
 use Rattle.renewal.proofs.goes_on.Goals as goal
 
 pub returns : goal.returns

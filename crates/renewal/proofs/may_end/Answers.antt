@@ -1,5 +1,4 @@
 -- `may_end` meets its contract.
-use borrow.Author.Rules.{rules}
 use Rattle.renewal.proofs.may_end.Goals as goal
 
 pub returns : goal.returns

@@ -1,6 +1,5 @@
 -- `onward` meets its contract: at an LF, and at another byte.
 use Rattle.renewal.proofs.Steps.{onward_lf, onward_in}
-use borrow.Author.Rules.{rules}
 use Rattle.renewal.proofs.onward.Goals as goal
 
 pub returns-then-b-eq10 : goal.returns-then-b-eq10

@@ -2,7 +2,6 @@
 use Rattle.renewal.proofs.Steps.{meant_bytes, meant_bytes_law, lines_are, lines_short, lines_put}
 use Rattle.renewal.specs.OldSheets.{meant}
 use native.Mathlib.Omega.{arith}
-use borrow.Author.Rules.{rules}
 use Rattle.renewal.proofs.put_missing.Goals as goal
 
 pub put_bytes-requires : goal.put_bytes-requires

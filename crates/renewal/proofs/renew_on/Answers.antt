@@ -1,7 +1,6 @@
 -- `renew_on` meets its contract: at each turn what was given so far is said by `Renewing`.
-use Rattle.renewal.proofs.Parts.{Renewing, renew_start, renew_goes, renew_turn, renew_done}
+use Rattle.renewal.proofs.Parts.{renew_start, renew_goes, renew_turn, renew_done}
 use Prim.Native.Nat.{◌-◌}
-use borrow.Author.Rules.{rules}
 use lib.ListN.{length, length-drop}
 use mathlib.Core.Path.{refl, ap}
 use native.Mathlib.Omega.{arith}

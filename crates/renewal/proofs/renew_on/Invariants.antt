@@ -1,11 +1,7 @@
 -- `renew_on` meets its contract: at each turn what was given so far is said by `Renewing`.
-use Rattle.renewal.proofs.Parts.{Renewing, renew_start, renew_goes, renew_turn, renew_done}
+use Rattle.renewal.proofs.Parts.{Renewing}
 use Prim.Native.Nat.{◌-◌}
-use borrow.Author.Rules.{rules}
-use lib.ListN.{length, length-drop}
-use mathlib.Core.Path.{refl, ap}
-use native.Mathlib.Omega.{arith}
-use Rattle.text.proofs.Parts.{part_is}
+use lib.ListN.{length}
 use Rattle.renewal.proofs.renew_on.Given as goal
 
 abbrev pub invariant-loop-out : goal.invariant-loop-out

@@ -1,6 +1,5 @@
 -- `step` meets its contract: behind the sheet, behind a held `n`, at an `n` that is held back, and at another byte.
 use Rattle.renewal.proofs.Steps.{step_done, step_behind, step_hold, step_pass}
-use borrow.Author.Rules.{rules}
 use Rattle.renewal.proofs.step.Goals as goal
 
 pub returns-then-s : goal.returns-then-s

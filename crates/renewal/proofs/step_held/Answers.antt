@@ -2,7 +2,6 @@
 use Rattle.renewal.proofs.Steps.{most_is, block_begins, n_passes}
 use lib.ListN.{length-set}
 use native.Mathlib.Omega.{arith}
-use borrow.Author.Rules.{rules}
 use Rattle.renewal.proofs.step_held.Goals as goal
 
 pub returns-then-b-eq61 : goal.returns-then-b-eq61

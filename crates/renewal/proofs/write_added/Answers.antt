@@ -2,7 +2,6 @@
 use Rattle.renewal.proofs.Steps.{added_bytes, added_bytes_law, lines_are, lines_short, lines_put}
 use Rattle.renewal.specs.OldSheets.{added_lines}
 use native.Mathlib.Omega.{arith}
-use borrow.Author.Rules.{rules}
 use Rattle.renewal.proofs.write_added.Goals as goal
 
 pub put_bytes-requires : goal.put_bytes-requires

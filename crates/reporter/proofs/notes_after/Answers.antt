@@ -1,5 +1,4 @@
 -- `notes_after` meets its contract.
-use borrow.Author.Rules.{rules}
 use Rattle.reporter.proofs.notes_after.Goals as goal
 
 pub returns-in-Raw : goal.returns-in-Raw

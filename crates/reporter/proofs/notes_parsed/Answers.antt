@@ -1,5 +1,4 @@
 -- `notes_parsed` meets its contract.
-use borrow.Author.Rules.{rules}
 use Rattle.reporter.proofs.notes_parsed.Goals as goal
 
 pub returns-in-Read : goal.returns-in-Read

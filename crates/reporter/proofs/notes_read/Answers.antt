@@ -1,7 +1,6 @@
 -- `notes_read` meets its contract.
 use borrow.Author.Tests.{eq-eqb, ne_eqb}
 use Rattle.reporter.specs.Telling.{notes_read}
-use borrow.Author.Rules.{rules}
 use Rattle.reporter.proofs.notes_read.Goals as goal
 
 pub returns-then-code-eq-TAKEN : goal.returns-then-code-eq-TAKEN

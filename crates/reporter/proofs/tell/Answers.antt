@@ -1,6 +1,5 @@
 -- `tell` meets its contract.
 use Rattle.reporter.proofs.Laws.{told}
-use borrow.Author.Rules.{rules}
 use Rattle.reporter.proofs.tell.Goals as goal
 
 pub returns : goal.returns

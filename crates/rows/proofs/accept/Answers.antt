@@ -1,8 +1,7 @@
 -- `accept` meets its contract: the columns are those of all rows, the checker over them answers as it does over the rows, and each row is counted anew in its place.
-use Rattle.std.proofs.Common.{◌≡◌, ◌+◌, ◌≤◌, ◌<◌, ◌∙◌, sym, ap, subst, length, get_or, arith}
+use Rattle.std.proofs.Common.{◌≡◌, ◌<◌, ◌∙◌, sym, ap, subst, length, arith}
 use Rattle.tray.proofs.Front.{front_long, each_turn, each_done}
 use Rattle.tray.specs.Counting.{each_by}
-use Rattle.rows.specs.declared.Row.{Row}
 use Rattle.rows.specs.declared.Columns.{Columns}
 use Rattle.rows.specs.declared.Answer.{Answer}
 use Rattle.rows.specs.Rows.{no_row, judged_rows, rows_after}
@@ -27,7 +26,7 @@ returns c =
     let e : c.loop-i.i ≡ length rows = omega (arith, c.loop-i.invariant.0, c.loop-i-test.false) in
     let all : c.loop-i.columns ≡ columns_to (length rows) rows = c.loop-i.invariant.1 ∙ ap (λ i. columns_to i rows) e in
     let s : c.settled-s.result ≡ settled_of (columns_to (length rows) rows) (length rows) paid p =
-          c.settled-s.ensures ∙ ap (λ (k : Columns). settled_of k (length rows) paid p) all in
+    c.settled-s.ensures ∙ ap (λ (k : Columns). settled_of k (length rows) paid p) all in
     let ends = rows_settled rows paid p in
     let long : length c.loop-j.rows ≡ length rows = ap length c.loop-j.invariant.1 ∙ front_long c.loop-j.j f rows in
     let done = each_done f rows c.loop-j.rows c.loop-j.j (omega (arith, c.loop-j-test.false, long)) c.loop-j.invariant.1 in

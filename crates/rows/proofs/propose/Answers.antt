@@ -1,7 +1,7 @@
 -- `propose` meets its contract: the columns are those of all rows, and the proposer over them answers as it does over the rows.
-use Rattle.std.proofs.Common.{◌≡◌, ◌≤◌, ◌∙◌, sym, ap, length, arith}
+use Rattle.std.proofs.Common.{◌≡◌, ◌∙◌, ap, length, arith}
 use Rattle.rows.specs.declared.Columns.{Columns}
-use Rattle.rows.specs.Rows.{proposing_rows, list_of}
+use Rattle.rows.specs.Rows.{proposing_rows}
 use Rattle.rows.specs.Columns.{columns_to, proposed_code, proposed_list}
 use Rattle.rows.proofs.Settling.{rows_proposed, rows_listed}
 use Rattle.rows.proofs.propose.Goals as goal
@@ -14,7 +14,7 @@ returns c =
     let e : c.loop-i.i ≡ length rows = omega (arith, c.loop-i.invariant.0, c.loop-i-test.false) in
     let all : c.loop-i.columns ≡ columns_to (length rows) rows = c.loop-i.invariant.1 ∙ ap (λ i. columns_to i rows) e in
     let code : c.proposed.result ≡ proposing_rows rows paid (length old) =
-          c.proposed.ensures.0 ∙ ap (λ (k : Columns). proposed_code k (length rows) paid (length old)) all ∙ rows_proposed rows paid (length old) in (
+    c.proposed.ensures.0 ∙ ap (λ (k : Columns). proposed_code k (length rows) paid (length old)) all ∙ rows_proposed rows paid (length old) in (
       code,
       c.proposed.ensures.1 ∙ ap (λ (k : Columns). proposed_list c.proposed.result k (length rows) paid old) all ∙ rows_listed rows paid c.proposed.result old code,
     )

@@ -1,11 +1,6 @@
 -- `propose` meets its contract. The loop has put i rows into the columns.
-use Rattle.std.proofs.Common.{◌≡◌, ◌+◌, ◌-◌, ◌≤◌, ◌∙◌, refl, sym, ap, ap₂, length, arith}
-use Rattle.tray.proofs.Front.{front_by, front_long, each_turn, each_done}
-use Rattle.rows.specs.declared.Row.{Row}
-use Rattle.rows.specs.declared.Columns.{Columns}
-use Rattle.rows.specs.declared.Answer.{Answer}
-use Rattle.rows.specs.Rows.{no_row, rows_after, list_of, proposing_rows}
-use Rattle.rows.specs.Columns.{columns_to, settled_of, recount, with_row, no_columns, proposed_code, proposed_list}
+use Rattle.std.proofs.Common.{◌≡◌, ◌-◌, ◌≤◌, length}
+use Rattle.rows.specs.Columns.{columns_to}
 use Rattle.rows.proofs.propose.Given as goal
 
 abbrev pub invariant-loop-i : goal.invariant-loop-i

@@ -4,7 +4,6 @@ use lib.Dec.{eqb}
 use borrow.Author.Tests.{eqb-true}
 use Rattle.laws.proofs.Tests.{both_true}
 use Rattle.royal.specs.Royal.{holds_royal}
-use borrow.Author.Rules.{rules}
 use Rattle.royal.proofs.holds_royal.Goals as goal
 
 pub royal_in-requires : goal.royal_in-requires

@@ -1,12 +1,10 @@
 -- `is_royal` meets its contract: cards of more than one suit are none. Assumes nothing.
 use mathlib.Core.Path.{sym, ap, ◌∙◌}
 use lib.Dec.{eqb}
-use borrow.Author.Tests.{not-true}
 use Rattle.laws.specs.Tests.{both}
 use Rattle.cards.specs.declared.Hand.{Hand}
 use Rattle.royal.specs.Royal.{is_royal}
 use Rattle.royal.proofs.Laws.{suits_differ}
-use borrow.Author.Rules.{rules}
 use Rattle.royal.proofs.is_royal.Goals as goal
 
 pub returns-then-not-one_suit : goal.returns-then-not-one_suit

@@ -1,7 +1,6 @@
 -- `one_suit` meets its contract. Assumes nothing.
 use Rattle.cards.specs.Cards.{all_alike, one_suit}
 use Rattle.laws.proofs.Compare.{both_last}
-use borrow.Author.Rules.{rules}
 use Rattle.royal.proofs.one_suit.Goals as goal
 
 pub returns : goal.returns

@@ -3,7 +3,6 @@ use mathlib.Core.Path.{◌≡◌, ◌∙◌}
 use mathlib.Core.Logic.{◌⊎◌, ⊎_elim}
 use Prim.Native.Nat.{ℕ}
 use Rattle.paper.proofs.Sheets.{game_is}
-use borrow.Author.Rules.{rules}
 use Rattle.royal.proofs.royal_in.Goals as goal
 
 two : (game : ℕ) → (game ≡ 2) ⊎ (game ≡ 4) → (game ≡ 4 → ⊥) → game ≡ 2

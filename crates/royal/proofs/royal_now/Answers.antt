@@ -1,6 +1,5 @@
 -- `royal_now` meets its contract. Assumes nothing.
 use Rattle.royal.proofs.Laws.{now_not, now_five}
-use borrow.Author.Rules.{rules}
 use Rattle.royal.proofs.royal_now.Goals as goal
 
 pub returns-then-t-ne5 : goal.returns-then-t-ne5

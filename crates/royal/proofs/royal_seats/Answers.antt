@@ -1,11 +1,10 @@
 -- The invariant: what is counted so far and what the rest counts make the whole count. Assumes nothing.
 use borrow.Author.Rules.{rules}
 use mathlib.Core.Path.{◌≡◌, ap, ◌∙◌}
-use Prim.Native.Nat.{◌+◌, ◌-◌, ◌≤◌}
+use Prim.Native.Nat.{◌-◌}
 use native.Mathlib.Omega.{arith}
-use lib.ListN.{length, drop}
+use lib.ListN.{length}
 use Rattle.laws.specs.Tests.{one}
-use Rattle.chairs.specs.Chairs.{count_of}
 use Rattle.chairs.proofs.Laws.{unread, count_step}
 use Rattle.royal.specs.Royal.{holds_royal, royal_seats}
 use Rattle.royal.proofs.Laws.{count_done}

@@ -1,15 +1,9 @@
 -- The invariant: what is counted so far and what the rest counts make the whole count. Assumes nothing.
-use borrow.Author.Rules.{rules}
-use mathlib.Core.Path.{◌≡◌, ap, ◌∙◌}
+use mathlib.Core.Path.{◌≡◌}
 use Prim.Native.Nat.{◌+◌, ◌-◌, ◌≤◌}
-use native.Mathlib.Omega.{arith}
-use lib.ListN.{length, drop}
-use Rattle.laws.specs.Tests.{one}
+use lib.ListN.{drop}
 use Rattle.chairs.specs.Chairs.{count_of}
-use Rattle.chairs.proofs.Laws.{unread, count_step}
-use Rattle.royal.specs.Royal.{holds_royal, royal_seats}
-use Rattle.royal.proofs.Laws.{count_done}
-use Rattle.royal.proofs.Once.{one_most}
+use Rattle.royal.specs.Royal.{holds_royal}
 use Rattle.royal.proofs.royal_seats.Given as goal
 
 abbrev pub invariant-loop-i : goal.invariant-loop-i

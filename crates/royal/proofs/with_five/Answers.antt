@@ -2,7 +2,6 @@
 use mathlib.Core.Path.{sym, ap₂, ◌∙◌}
 use Rattle.laws.specs.Tests.{either}
 use Rattle.royal.proofs.Laws.{with_five}
-use borrow.Author.Rules.{rules}
 use Rattle.royal.proofs.with_five.Goals as goal
 
 pub returns : goal.returns

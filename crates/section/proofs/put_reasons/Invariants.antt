@@ -2,7 +2,6 @@
 use mathlib.Core.Path.{◌≡◌}
 use Prim.Native.Nat.{◌-◌}
 use lib.ListN.{length}
-use borrow.Author.Rules.{rules}
 use Rattle.section.proofs.put_reasons.Given as goal
 
 abbrev pub invariant-loop-k : goal.invariant-loop-k

@@ -1,9 +1,7 @@
 -- `answer_at` meets its contract: the table and the pool after the block, or those before it where its answer had no room. Assumes nothing.
 use mathlib.Core.Path.{ap}
 use Rattle.shared.specs.declared.SharedAnswer.{SharedAnswer}
-use borrow.Author.Tests.{not-true, not-false}
 use Rattle.shared.proofs.Laws.{answered, answered_said, answered_kept, answered_none, said_fit, kept_fit, won_small, pool_small}
-use borrow.Author.Rules.{rules}
 use Rattle.shared.proofs.answer_at.Goals as goal
 
 pub returns-then-not-j : goal.returns-then-not-j

@@ -1,5 +1,4 @@
 -- `answer_room` meets its contract: it says the length of the bytes that `answer_at` writes. Assumes nothing.
-use borrow.Author.Tests.{not-true, not-false}
 use Rattle.shared.proofs.Laws.{room_none, room_some, won_small}
 use borrow.Author.Rules.{rules}
 use Rattle.shared.proofs.answer_room.Goals as goal

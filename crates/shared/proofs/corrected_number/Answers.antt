@@ -1,6 +1,5 @@
 -- `corrected_number` meets its contract. Assumes nothing.
 use Rattle.shared.proofs.Laws.{corrected_is}
-use borrow.Author.Rules.{rules}
 use Rattle.shared.proofs.corrected_number.Goals as goal
 
 pub returns : goal.returns

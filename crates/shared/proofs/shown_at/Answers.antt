@@ -1,6 +1,5 @@
 -- `shown_at` meets its contract. Assumes nothing.
 use Rattle.shared.proofs.Laws.{shown_is}
-use borrow.Author.Rules.{rules}
 use Rattle.shared.proofs.shown_at.Goals as goal
 
 pub returns : goal.returns

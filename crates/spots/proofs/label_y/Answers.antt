@@ -1,7 +1,6 @@
 -- `label_y` meets its contract, by its two tests.
 use borrow.Author.Tests.{lt-ltb, le-ltb, eq-eqb, ne_eqb}
 use Rattle.spots.specs.Spots.{label_y}
-use borrow.Author.Rules.{rules}
 use Rattle.spots.proofs.label_y.Goals as goal
 
 pub returns-then-k-gt10 : goal.returns-then-k-gt10

@@ -4,7 +4,6 @@ use borrow.Author.Tests.{eq-eqb, ne_eqb}
 use Rattle.pots.specs.declared.Pot.{Pot}
 use Rattle.columns.specs.Columns.{reach_of}
 use Rattle.spots.specs.Spots.{reach_of_first}
-use borrow.Author.Rules.{rules}
 use Rattle.spots.proofs.reach_of_first.Goals as goal
 
 pub returns-then-k-eq0 : goal.returns-then-k-eq0

@@ -1,5 +1,4 @@
 -- `sum` meets its contract, by its two tests.
-use borrow.Author.Rules.{rules}
 use borrow.Author.Tests.{lt-ltb, le-ltb}
 use Rattle.spots.specs.Spots.{more_by}
 use Rattle.spots.proofs.sum.Goals as goal

@@ -1,6 +1,5 @@
 -- `clerk_after` meets its contract.
 use Rattle.stream.proofs.One.{after_is}
-use borrow.Author.Rules.{rules}
 use Rattle.stream.proofs.clerk_after.Goals as goal
 
 pub returns : goal.returns

@@ -1,7 +1,6 @@
 -- `close` meets its contract: shut, nothing kept, a block that is not whole, and a sheet that is not whole.
 use Rattle.stream.proofs.Steps.{close_shut, close_none, close_block, close_bad}
 use native.Mathlib.Omega.{arith}
-use borrow.Author.Rules.{rules}
 use Rattle.stream.proofs.close.Goals as goal
 
 pub returns-then-c : goal.returns-then-c

@@ -1,6 +1,5 @@
 -- `ended` meets its contract.
 use Rattle.stream.proofs.One.{ended_by}
-use borrow.Author.Rules.{rules}
 use Rattle.stream.proofs.ended.Goals as goal
 
 pub returns : goal.returns

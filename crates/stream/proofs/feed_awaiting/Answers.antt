@@ -4,7 +4,6 @@ use mathlib.Core.Path.{sym, ap}
 use native.Mathlib.Omega.{arith}
 use lib.ListN.{length}
 use Rattle.stream.proofs.Feeds.{fed_out, awaits_is, none_written, fed-placed, used-placed, used_none}
-use borrow.Author.Rules.{rules}
 use Rattle.stream.proofs.feed_awaiting.Goals as goal
 
 pub feed_kept-requires : goal.feed_kept-requires

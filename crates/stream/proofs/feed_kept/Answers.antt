@@ -3,7 +3,6 @@ use mathlib.Core.Bool.{true≢false}
 use mathlib.Core.Path.{sym}
 use native.Mathlib.Omega.{arith}
 use Rattle.stream.proofs.Feeds.{used_is, fed_kept, fed_whole}
-use borrow.Author.Rules.{rules}
 use Rattle.stream.proofs.feed_kept.Goals as goal
 
 pub gather-g-requires : goal.gather-g-requires

@@ -4,7 +4,7 @@ use Prim.Native.Nat.{◌-◌}
 use native.Mathlib.Omega.{arith}
 use lib.ListN.{length}
 use borrow.Author.Rules.{rules}
-use Rattle.stream.proofs.On.{Feeding, on_start, goes_when, on_turn, on_used, on_room, on_moves, on_done}
+use Rattle.stream.proofs.On.{on_start, goes_when, on_turn, on_used, on_room, on_moves, on_done}
 use Rattle.stream.proofs.feed_on.Goals as goal
 
 pub loop-buf-init : goal.loop-buf-init

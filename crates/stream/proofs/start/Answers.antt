@@ -3,7 +3,6 @@ use Rattle.paper.proofs.Sheets.{stand_in_good}
 use mathlib.Core.Bool.{true≢false}
 use mathlib.Core.Path.{sym}
 use native.Mathlib.Omega.{arith}
-use borrow.Author.Rules.{rules}
 use Rattle.stream.proofs.start.Goals as goal
 
 pub new_table-t-requires : goal.new_table-t-requires

@@ -1,7 +1,6 @@
 -- `whole` meets its contract: a block, or the sheet.
 use lib.ListN.{length}
 use Rattle.stream.proofs.Steps.{gave_as}
-use borrow.Author.Rules.{rules}
 use Rattle.stream.proofs.whole.Goals as goal
 
 pub returns-then-opened : goal.returns-then-opened

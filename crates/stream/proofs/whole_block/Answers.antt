@@ -2,7 +2,6 @@
 use Rattle.stream.proofs.One.{empty_lines, open_alone, front_part, rest_within, one_gave, none_gave}
 use native.Mathlib.Omega.{arith}
 use mathlib.Core.Path.{sym, ◌∙◌}
-use borrow.Author.Rules.{rules}
 use Rattle.stream.proofs.whole_block.Goals as goal
 
 pub returns-then-block-eq0 : goal.returns-then-block-eq0

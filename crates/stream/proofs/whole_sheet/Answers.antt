@@ -2,7 +2,6 @@
 use Rattle.desk.proofs.Opened.{opened_is}
 use mathlib.Core.Path.{sym, ◌∙◌}
 use Rattle.stream.proofs.Steps.{bad_gave, read_gave}
-use borrow.Author.Rules.{rules}
 use Rattle.stream.proofs.whole_sheet.Goals as goal
 
 pub new_table-requires : goal.new_table-requires

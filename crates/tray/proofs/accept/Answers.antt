@@ -4,7 +4,6 @@ use mathlib.Core.Path.{sym, ◌∙◌}
 use native.Mathlib.Omega.{arith}
 use Rattle.tray.proofs.Within.{within}
 use Rattle.tray.proofs.Judging.{tests_of, after_0, after_other}
-use borrow.Author.Rules.{rules}
 use Rattle.tray.proofs.accept.Goals as goal
 
 pub lower-requires : goal.lower-requires

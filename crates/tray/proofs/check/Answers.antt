@@ -4,7 +4,6 @@ use mathlib.Core.Path.{sym, ◌∙◌}
 use native.Mathlib.Omega.{arith}
 use Rattle.tray.proofs.Within.{within}
 use Rattle.tray.proofs.Judging.{judged_2, judged_0, judged_16}
-use borrow.Author.Rules.{rules}
 use Rattle.tray.proofs.check.Goals as goal
 
 pub pays_all-pays-requires : goal.pays_all-pays-requires

@@ -2,7 +2,6 @@
 -- Assumes nothing.
 use native.Mathlib.Omega.{arith}
 use native.Mathlib.Nat.{mul-le-mul}
-use borrow.Author.Rules.{rules}
 use Rattle.tray.proofs.given.Goals as goal
 
 pub overflow_mul-s : goal.overflow_mul-s

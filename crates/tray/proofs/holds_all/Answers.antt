@@ -1,10 +1,9 @@
 -- `holds_all` meets its contract. The invariant: each row below i was looked at.
 -- Assumes nothing.
-use Prim.Native.Nat.{◌≤◌, ◌-◌}
-use mathlib.Core.Path.{◌≡◌, refl, ap, ◌∙◌}
+use Prim.Native.Nat.{◌-◌}
+use mathlib.Core.Path.{refl, ap, ◌∙◌}
 use lib.Dec.{leb}
 use lib.ListN.{length, get_or}
-use Rattle.tray.specs.Counting.{all_to}
 use Rattle.tray.specs.Proposal.{taken_from, holds_all}
 use Rattle.tray.proofs.Sums.{all_turn, all_done}
 use borrow.Author.Rules.{rules}

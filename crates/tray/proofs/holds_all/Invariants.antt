@@ -1,13 +1,11 @@
 -- `holds_all` meets its contract. The invariant: each row below i was looked at.
 -- Assumes nothing.
 use Prim.Native.Nat.{◌≤◌, ◌-◌}
-use mathlib.Core.Path.{◌≡◌, refl, ap, ◌∙◌}
+use mathlib.Core.Path.{◌≡◌}
 use lib.Dec.{leb}
 use lib.ListN.{length, get_or}
 use Rattle.tray.specs.Counting.{all_to}
-use Rattle.tray.specs.Proposal.{taken_from, holds_all}
-use Rattle.tray.proofs.Sums.{all_turn, all_done}
-use borrow.Author.Rules.{rules}
+use Rattle.tray.specs.Proposal.{taken_from}
 use Rattle.tray.proofs.holds_all.Given as goal
 
 abbrev pub invariant-loop-i : goal.invariant-loop-i

@@ -1,11 +1,11 @@
 -- `lower` meets its contract. The invariant: the counts of the rows below i are lowered.
 -- Assumes nothing.
-use Prim.Native.Nat.{◌≤◌, ◌-◌}
-use mathlib.Core.Path.{◌≡◌, refl, ap, ◌∙◌}
+use Prim.Native.Nat.{◌-◌}
+use mathlib.Core.Path.{refl, ap, ◌∙◌}
 use native.Mathlib.Omega.{arith}
 use lib.ListN.{length, get_or}
 use Rattle.tray.specs.Proposal.{taken_from}
-use Rattle.tray.proofs.Front.{front_by, front_long, each_turn, each_done}
+use Rattle.tray.proofs.Front.{front_long, each_turn, each_done}
 use borrow.Author.Rules.{rules}
 use Rattle.tray.proofs.lower.Goals as goal
 

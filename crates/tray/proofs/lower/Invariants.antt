@@ -1,12 +1,10 @@
 -- `lower` meets its contract. The invariant: the counts of the rows below i are lowered.
 -- Assumes nothing.
 use Prim.Native.Nat.{◌≤◌, ◌-◌}
-use mathlib.Core.Path.{◌≡◌, refl, ap, ◌∙◌}
-use native.Mathlib.Omega.{arith}
-use lib.ListN.{length, get_or}
+use mathlib.Core.Path.{◌≡◌}
+use lib.ListN.{length}
 use Rattle.tray.specs.Proposal.{taken_from}
-use Rattle.tray.proofs.Front.{front_by, front_long, each_turn, each_done}
-use borrow.Author.Rules.{rules}
+use Rattle.tray.proofs.Front.{front_by}
 use Rattle.tray.proofs.lower.Given as goal
 
 abbrev pub invariant-loop-i : goal.invariant-loop-i

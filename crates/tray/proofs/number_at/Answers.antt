@@ -1,7 +1,6 @@
 -- `number_at` meets its contract: past the end the list's number is 0. Assumes nothing.
 use mathlib.Core.Path.{sym}
 use lib.ListN.{get_or-eq_default}
-use borrow.Author.Rules.{rules}
 use Rattle.tray.proofs.number_at.Goals as goal
 
 pub returns-else-at-p : goal.returns-else-at-p

@@ -1,11 +1,10 @@
 -- `pays_all` meets its contract. The invariant: each sitting below s was looked at.
 -- Assumes nothing.
-use Prim.Native.Nat.{◌≤◌, ◌-◌}
-use mathlib.Core.Path.{◌≡◌, refl, ap, ◌∙◌}
+use Prim.Native.Nat.{◌-◌}
+use mathlib.Core.Path.{refl, ap, ◌∙◌}
 use native.Mathlib.Omega.{arith}
 use lib.Dec.{eqb}
 use lib.ListN.{length, get_or}
-use Rattle.tray.specs.Counting.{all_to}
 use Rattle.tray.specs.Proposal.{worth_given, pays_all}
 use Rattle.tray.proofs.Sums.{all_turn, all_done}
 use borrow.Author.Rules.{rules}

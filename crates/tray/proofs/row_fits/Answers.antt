@@ -1,6 +1,5 @@
 -- `row_fits` meets its contract, by what `both` ensures.
 -- Assumes nothing.
-use borrow.Author.Rules.{rules}
 use Rattle.tray.proofs.row_fits.Goals as goal
 
 pub returns : goal.returns

@@ -2,10 +2,9 @@
 -- Assumes nothing.
 use Rattle.tray.proofs.Sums.{all_turn, all_done}
 use Rattle.tray.specs.Proposal.{row_fits}
-use Rattle.tray.specs.Counting.{all_to}
 use lib.ListN.{length, get_or}
-use mathlib.Core.Path.{◌≡◌, refl, ap, ◌∙◌}
-use Prim.Native.Nat.{◌≤◌, ◌-◌}
+use mathlib.Core.Path.{refl, ap, ◌∙◌}
+use Prim.Native.Nat.{◌-◌}
 use borrow.Author.Rules.{rules}
 use Rattle.tray.proofs.rows_fit.Goals as goal
 

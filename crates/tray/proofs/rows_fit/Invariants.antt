@@ -1,12 +1,10 @@
 -- `rows_fit` meets its contract. The invariant: each row below i was looked at.
 -- Assumes nothing.
-use Rattle.tray.proofs.Sums.{all_turn, all_done}
 use Rattle.tray.specs.Proposal.{row_fits}
 use Rattle.tray.specs.Counting.{all_to}
 use lib.ListN.{length, get_or}
-use mathlib.Core.Path.{◌≡◌, refl, ap, ◌∙◌}
+use mathlib.Core.Path.{◌≡◌}
 use Prim.Native.Nat.{◌≤◌, ◌-◌}
-use borrow.Author.Rules.{rules}
 use Rattle.tray.proofs.rows_fit.Given as goal
 
 abbrev pub invariant-loop-i : goal.invariant-loop-i

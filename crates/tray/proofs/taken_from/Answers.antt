@@ -2,10 +2,9 @@
 -- Assumes nothing.
 use Rattle.tray.proofs.Sums.{sum_turn, sum_done}
 use Rattle.tray.specs.Proposal.{given, taken_from}
-use Rattle.tray.specs.Counting.{sum_to}
 use native.Mathlib.Omega.{arith}
-use mathlib.Core.Path.{◌≡◌, refl, ◌∙◌}
-use Prim.Native.Nat.{◌*◌, ◌≤◌, ◌-◌}
+use mathlib.Core.Path.{refl, ◌∙◌}
+use Prim.Native.Nat.{◌-◌}
 use borrow.Author.Rules.{rules}
 use Rattle.tray.proofs.taken_from.Goals as goal
 

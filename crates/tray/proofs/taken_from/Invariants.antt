@@ -1,12 +1,9 @@
 -- `taken_from` meets its contract. The invariant: the sum of the sittings below s, which is small.
 -- Assumes nothing.
-use Rattle.tray.proofs.Sums.{sum_turn, sum_done}
-use Rattle.tray.specs.Proposal.{given, taken_from}
+use Rattle.tray.specs.Proposal.{given}
 use Rattle.tray.specs.Counting.{sum_to}
-use native.Mathlib.Omega.{arith}
-use mathlib.Core.Path.{◌≡◌, refl, ◌∙◌}
+use mathlib.Core.Path.{◌≡◌}
 use Prim.Native.Nat.{◌*◌, ◌≤◌, ◌-◌}
-use borrow.Author.Rules.{rules}
 use Rattle.tray.proofs.taken_from.Given as goal
 
 abbrev pub invariant-loop-s : goal.invariant-loop-s

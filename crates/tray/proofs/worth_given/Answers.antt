@@ -3,11 +3,10 @@
 -- Assumes nothing.
 use Rattle.tray.proofs.Sums.{sum_turn, sum_done}
 use Rattle.tray.specs.Proposal.{given, worth_given}
-use Rattle.tray.specs.Counting.{sum_to}
 use lib.ListN.{length, get_or}
 use native.Mathlib.Omega.{arith}
-use mathlib.Core.Path.{◌≡◌, refl, ap, ◌∙◌}
-use Prim.Native.Nat.{◌*◌, ◌≤◌, ◌-◌}
+use mathlib.Core.Path.{refl, ap, ◌∙◌}
+use Prim.Native.Nat.{◌*◌, ◌-◌}
 use borrow.Author.Rules.{rules}
 use Rattle.tray.proofs.worth_given.Goals as goal
 

@@ -1,14 +1,11 @@
 -- `worth_given` meets its contract.
 -- `worth_given` meets its contract. The invariant: the worth of the rows below i, which is small.
 -- Assumes nothing.
-use Rattle.tray.proofs.Sums.{sum_turn, sum_done}
-use Rattle.tray.specs.Proposal.{given, worth_given}
+use Rattle.tray.specs.Proposal.{given}
 use Rattle.tray.specs.Counting.{sum_to}
 use lib.ListN.{length, get_or}
-use native.Mathlib.Omega.{arith}
-use mathlib.Core.Path.{◌≡◌, refl, ap, ◌∙◌}
+use mathlib.Core.Path.{◌≡◌}
 use Prim.Native.Nat.{◌*◌, ◌≤◌, ◌-◌}
-use borrow.Author.Rules.{rules}
 use Rattle.tray.proofs.worth_given.Given as goal
 
 abbrev pub invariant-loop-i : goal.invariant-loop-i

@@ -1,7 +1,6 @@
 -- `banked::fates::ante_fate` meets its contract. Assumes nothing.
 use Rattle.banked.specs.Fates.{ante_fate}
 use mathlib.Core.Path.{refl}
-use borrow.Author.Rules.{rules}
 use Rattle.banked.proofs.fates.ante_fate.Goals as goal
 
 pub returns-then-folded : goal.returns-then-folded

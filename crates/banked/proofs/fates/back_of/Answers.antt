@@ -3,7 +3,6 @@ use Prim.Native.Nat.{◌≤◌}
 use native.Mathlib.Omega.{arith}
 use Rattle.banked.proofs.Tables.{times_most}
 use Rattle.banked.specs.Books.{back_of}
-use borrow.Author.Rules.{rules}
 use Rattle.banked.proofs.fates.back_of.Goals as goal
 
 pub overflow_mul-result : goal.overflow_mul-result

@@ -2,7 +2,6 @@
 use Rattle.banked.specs.Fates.{jackpot_fate}
 use borrow.Author.Tests.{eq-eqb, ne_eqb}
 use mathlib.Core.Path.{refl, sym, ◌∙◌}
-use borrow.Author.Rules.{rules}
 use Rattle.banked.proofs.fates.jackpot_fate.Goals as goal
 
 pub returns-then-folded : goal.returns-then-folded

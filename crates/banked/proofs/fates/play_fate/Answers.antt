@@ -2,7 +2,6 @@
 use Rattle.banked.specs.Fates.{play_fate}
 use native.Mathlib.Omega.{arith}
 use mathlib.Core.Path.{refl}
-use borrow.Author.Rules.{rules}
 use Rattle.banked.proofs.fates.play_fate.Goals as goal
 
 pub returns-in-Above : goal.returns-in-Above

@@ -1,5 +1,4 @@
 -- `banked::hands::card_twice` meets its contract. Assumes nothing.
-use borrow.Author.Rules.{rules}
 use Rattle.banked.proofs.hands.card_twice.Goals as goal
 
 pub returns : goal.returns

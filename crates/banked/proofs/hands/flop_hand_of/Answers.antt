@@ -1,6 +1,5 @@
 -- `banked::hands::flop_hand_of` meets its contract. Assumes nothing.
 use Rattle.banked.specs.Hands.{flop_hand_of}
-use borrow.Author.Rules.{rules}
 use Rattle.banked.proofs.hands.flop_hand_of.Goals as goal
 
 pub returns : goal.returns

@@ -1,7 +1,6 @@
 -- `banked::hands::hand_of` meets its contract. Assumes nothing.
 use Rattle.banked.specs.Hands.{hand_of}
 use Rattle.cards.specs.Order.{ranking_of}
-use borrow.Author.Rules.{rules}
 use Rattle.banked.proofs.hands.hand_of.Goals as goal
 
 pub returns : goal.returns

@@ -1,5 +1,4 @@
 -- `banked::hands::high_card` meets its contract. Assumes nothing.
-use borrow.Author.Rules.{rules}
 use Rattle.banked.proofs.hands.high_card.Goals as goal
 
 pub returns : goal.returns

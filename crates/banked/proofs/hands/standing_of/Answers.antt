@@ -2,7 +2,6 @@
 use Rattle.banked.specs.Hands.{standing_of}
 use Rattle.cards.specs.Order.{ranking_of}
 use mathlib.Core.Path.{sym, ◌∙◌}
-use borrow.Author.Rules.{rules}
 use Rattle.banked.proofs.hands.standing_of.Goals as goal
 
 pub returns-then-beats : goal.returns-then-beats

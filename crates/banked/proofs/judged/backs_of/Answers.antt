@@ -1,7 +1,6 @@
 -- `banked::judged::backs_of` meets its contract. Assumes nothing.
 use Rattle.banked.specs.Rounds.{backs_of}
 use native.Mathlib.Omega.{arith}
-use borrow.Author.Rules.{rules}
 use Rattle.banked.proofs.judged.backs_of.Goals as goal
 
 pub back_of-requires : goal.back_of-requires

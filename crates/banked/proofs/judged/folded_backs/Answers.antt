@@ -6,7 +6,6 @@ use Rattle.banked.specs.Fates.{extra_fate}
 use Rattle.banked.specs.Books.{back_of}
 use Rattle.banked.specs.declared.fates.Fate.{Fate}
 use native.Mathlib.Omega.{arith}
-use borrow.Author.Rules.{rules}
 use Rattle.banked.proofs.judged.folded_backs.Goals as goal
 
 pub returns : goal.returns

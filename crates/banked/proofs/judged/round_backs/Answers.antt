@@ -3,7 +3,6 @@ use Rattle.banked.proofs.Folds.{fold_stakes}
 use Rattle.banked.specs.Rounds.{is_fold}
 use mathlib.Core.Bool.{true}
 use mathlib.Core.Path.{◌≡◌, sym, ◌∙◌}
-use borrow.Author.Rules.{rules}
 use Rattle.banked.proofs.judged.round_backs.Goals as goal
 
 pub folded_backs-requires : goal.folded_backs-requires

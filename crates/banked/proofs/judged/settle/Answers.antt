@@ -1,7 +1,6 @@
 -- `banked::judged::settle` meets its contract. Assumes nothing.
 use Rattle.banked.proofs.Codes.{bounded, gets_two, gets_eight, gets_paid}
 use mathlib.Core.Path.{sym, ◌∙◌}
-use borrow.Author.Rules.{rules}
 use Rattle.banked.proofs.judged.settle.Goals as goal
 
 pub returns-then-wrong_number : goal.returns-then-wrong_number

@@ -1,7 +1,6 @@
 -- `settled_of` meets its contract.
 use native.Mathlib.Omega.{arith}
 use Rattle.banked.specs.Rounds.{settled_of}
-use borrow.Author.Rules.{rules}
 use Rattle.banked.proofs.judged.settled_of.Goals as goal
 
 pub returns : goal.returns

@@ -3,7 +3,6 @@ use Prim.Native.Nat.{◌≤◌, zero-le}
 use Rattle.banked.proofs.Codes.{pick_most}
 use Rattle.banked.specs.Rounds.{stakes_of}
 use native.Mathlib.Omega.{arith}
-use borrow.Author.Rules.{rules}
 use Rattle.banked.proofs.judged.stakes_of.Goals as goal
 
 pub returns-in-Fold : goal.returns-in-Fold

@@ -2,7 +2,6 @@
 use Rattle.banked.specs.Rounds.{total_of}
 use native.Mathlib.Omega.{arith}
 use mathlib.Core.Path.{refl}
-use borrow.Author.Rules.{rules}
 use Rattle.banked.proofs.judged.total.Goals as goal
 
 pub returns : goal.returns

@@ -1,6 +1,5 @@
 -- `banked::judged::wrong_number` meets its contract. Assumes nothing.
 use Rattle.banked.specs.Rounds.{wrong_number}
-use borrow.Author.Rules.{rules}
 use Rattle.banked.proofs.judged.wrong_number.Goals as goal
 
 pub returns : goal.returns

@@ -4,7 +4,6 @@ use Rattle.banked.proofs.Tables.{bonus_most}
 use Rattle.banked.specs.Payouts.{bonus_column, bonus_times}
 use lib.ListN.{get_or-eq_default}
 use mathlib.Core.Path.{sym, refl}
-use borrow.Author.Rules.{rules}
 use Rattle.banked.proofs.payouts.bonus_times.Goals as goal
 
 pub returns-then-k-lt9 : goal.returns-then-k-lt9

@@ -5,7 +5,6 @@ use Rattle.banked.specs.Payouts.{extra_column, extra_odds}
 use Rattle.banked.specs.Hands.{is_royal}
 use lib.ListN.{get_or-eq_default}
 use mathlib.Core.Path.{sym, ◌∙◌}
-use borrow.Author.Rules.{rules}
 use Rattle.banked.proofs.payouts.extra_odds.Goals as goal
 
 pub returns-then-both : goal.returns-then-both

@@ -3,7 +3,6 @@ use Rattle.blocks.proofs.Packs.{bytes_within, bytes_at_law}
 use Rattle.text.specs.Bytes.{pack_of}
 use mathlib.Core.Path.{ap}
 use native.Mathlib.Omega.{arith}
-use borrow.Author.Rules.{rules}
 use Rattle.blocks.proofs.firsts.four.Goals as goal
 
 pub overflow_mul-result : goal.overflow_mul-result

@@ -5,7 +5,6 @@ use lib.ListN.{drop, length-drop}
 use mathlib.Core.List.{[], ◌∷◌}
 use mathlib.Core.Path.{refl}
 use native.Mathlib.Omega.{arith}
-use borrow.Author.Rules.{rules}
 use Rattle.blocks.proofs.front.a_line.Goals as goal
 
 pub returns-then-two-eq15713 : goal.returns-then-two-eq15713

@@ -3,7 +3,6 @@ use native.Mathlib.Nat.{le_refl}
 use Rattle.blocks.proofs.Fronts.{none_used, fifth_room, five_seen}
 use Rattle.text.proofs.Parts.{part_is}
 use native.Mathlib.Omega.{arith}
-use borrow.Author.Rules.{rules}
 use Rattle.blocks.proofs.front.at_one_go.Goals as goal
 
 pub returns-then-log-lt-FULL : goal.returns-then-log-lt-FULL

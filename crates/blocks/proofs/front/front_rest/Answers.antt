@@ -2,7 +2,6 @@
 use mathlib.Core.Path.{ap, ◌∙◌}
 use Prim.Native.Nat.{ℕ}
 use lib.ListN.{drop}
-use borrow.Author.Rules.{rules}
 use Rattle.text.proofs.Parts.{part_is}
 use Rattle.blocks.proofs.Blocks.{rest_drop}
 use Rattle.blocks.proofs.front.front_rest.Goals as goal

@@ -2,7 +2,6 @@
 use native.Mathlib.Omega.{arith}
 use mathlib.Core.Path.{ap}
 use lib.ListN.{length}
-use borrow.Author.Rules.{rules}
 use Rattle.blocks.specs.Block.{rest_of}
 use Rattle.text.proofs.Lines.{after_lines_no_longer}
 use Rattle.blocks.proofs.Fronts.{by_ends}

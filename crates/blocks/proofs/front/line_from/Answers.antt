@@ -1,7 +1,6 @@
 -- `line_from` meets its contract.
 use mathlib.Core.Path.{refl}
 use native.Mathlib.Omega.{arith}
-use borrow.Author.Rules.{rules}
 use Rattle.blocks.proofs.front.line_from.Goals as goal
 
 pub returns : goal.returns

@@ -1,5 +1,4 @@
 -- `read_front` meets its contract.
-use borrow.Author.Rules.{rules}
 use Rattle.blocks.proofs.front.read_front.Goals as goal
 
 pub returns-then-f-gt0 : goal.returns-then-f-gt0

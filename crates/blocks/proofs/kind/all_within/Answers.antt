@@ -1,9 +1,7 @@
 -- `all_within` meets its contract: what is left is as the whole.
 use borrow.Author.Rules.{rules}
-use mathlib.Core.Path.{◌≡◌, refl, sym, ◌∙◌}
-use Prim.Native.Nat.{◌-◌, ◌≤◌}
-use lib.ListN.{length, drop}
-use Rattle.text.specs.Bytes.{all_within}
+use mathlib.Core.Path.{refl, sym, ◌∙◌}
+use Prim.Native.Nat.{◌-◌}
 use Rattle.text.proofs.Bytes.{within_end, within_low, within_high, within_on}
 use native.Mathlib.Omega.{arith}
 use Rattle.blocks.proofs.kind.all_within.Goals as goal

@@ -3,7 +3,6 @@ use Rattle.paper.specs.declared.Entry.{Entry}
 use Rattle.blocks.specs.declared.Parsed.TheVariants.{Read}
 use Rattle.blocks.proofs.Entries.{kind_known, entry_read, entry_none}
 use mathlib.Core.Path.{sym, ap, ◌∙◌}
-use borrow.Author.Rules.{rules}
 use Rattle.blocks.proofs.kind.entry_of.Goals as goal
 
 pub entry_at-requires : goal.entry_at-requires

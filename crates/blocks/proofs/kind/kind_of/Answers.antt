@@ -1,5 +1,4 @@
 -- `kind_of` meets its contract.
-use borrow.Author.Rules.{rules}
 use mathlib.Core.Path.{sym, ap, ◌∙◌}
 use Prim.Native.Nat.{ℕ}
 use Rattle.blocks.specs.Block.{kind_names}

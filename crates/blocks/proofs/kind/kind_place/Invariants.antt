@@ -1,12 +1,8 @@
 -- `kind_place` meets its contract: what is left of the table gives the place that the whole does.
-use Rattle.blocks.proofs.Packs.{word_here, word_other}
-use Rattle.blocks.proofs.Blocks.{place_here, place_on, place_end}
 use Rattle.blocks.specs.Block.{kind_names, place_in}
 use lib.ListN.{drop}
 use Prim.Native.Nat.{◌+◌, ◌-◌, ◌≤◌}
-use mathlib.Core.Path.{◌≡◌, sym, ◌∙◌}
-use native.Mathlib.Omega.{arith}
-use borrow.Author.Rules.{rules}
+use mathlib.Core.Path.{◌≡◌}
 use Rattle.blocks.proofs.kind.kind_place.Given as goal
 
 abbrev pub invariant-loop-k : goal.invariant-loop-k

@@ -1,11 +1,8 @@
 -- `letter_run` meets its contract: the bytes passed are letters.
-use mathlib.Core.Path.{◌≡◌, refl}
-use mathlib.Core.Bool.{true}
-use Prim.Native.Nat.{◌-◌, ◌≤◌}
+use mathlib.Core.Path.{refl}
+use Prim.Native.Nat.{◌-◌}
 use native.Mathlib.Omega.{arith}
-use lib.ListN.{length, take}
 use borrow.Author.Rules.{rules}
-use Rattle.blocks.specs.Block.{all_letters}
 use Rattle.text.proofs.Bytes.{run_on}
 use Rattle.blocks.proofs.kind.letter_run.Goals as goal
 

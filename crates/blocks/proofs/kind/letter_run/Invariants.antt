@@ -1,12 +1,9 @@
 -- `letter_run` meets its contract: the bytes passed are letters.
-use mathlib.Core.Path.{◌≡◌, refl}
+use mathlib.Core.Path.{◌≡◌}
 use mathlib.Core.Bool.{true}
 use Prim.Native.Nat.{◌-◌, ◌≤◌}
-use native.Mathlib.Omega.{arith}
 use lib.ListN.{length, take}
-use borrow.Author.Rules.{rules}
 use Rattle.blocks.specs.Block.{all_letters}
-use Rattle.text.proofs.Bytes.{run_on}
 use Rattle.blocks.proofs.kind.letter_run.Given as goal
 
 abbrev pub invariant-loop-i : goal.invariant-loop-i

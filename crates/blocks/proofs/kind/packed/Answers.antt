@@ -2,11 +2,10 @@
 use Rattle.blocks.proofs.Packs.{pack_room, pack_turn, pack_more, pack_none}
 use Rattle.text.specs.Bytes.{pack_of}
 use Rattle.laws.proofs.Places.{last_start, last_done}
-use lib.ListN.{length, drop}
-use Prim.Native.Nat.{◌-◌, ◌≤◌, ◌<◌, ◌^◌}
+use lib.ListN.{length}
+use Prim.Native.Nat.{◌-◌, ◌≤◌}
 use mathlib.Core.Path.{◌≡◌, refl, sym, ◌∙◌}
 use native.Mathlib.Omega.{arith}
-use borrow.Author.Rules.{rules}
 use Rattle.blocks.proofs.kind.packed.Goals as goal
 
 pub loop-i-init : goal.loop-i-init

@@ -1,5 +1,4 @@
 -- `block_from` meets its contract: the equation of each match, in turn.
-use borrow.Author.Rules.{rules}
 use Rattle.blocks.proofs.reader.block_from.Goals as goal
 
 pub returns-in_default-a : goal.returns-in_default-a

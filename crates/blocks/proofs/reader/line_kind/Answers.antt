@@ -3,7 +3,6 @@ use Rattle.blocks.specs.Block.{kind_of}
 use Prim.Native.Nat.{ℕ}
 use mathlib.Core.List.{List}
 use mathlib.Core.Path.{ap, ◌∙◌}
-use borrow.Author.Rules.{rules}
 use Rattle.blocks.proofs.reader.line_kind.Goals as goal
 
 pub returns : goal.returns

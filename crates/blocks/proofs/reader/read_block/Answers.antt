@@ -1,7 +1,6 @@
 -- `read_block` meets its contract: five readings, each of what the one before left.
 use Rattle.blocks.proofs.Blocks.{block_none, block_five}
 use mathlib.Core.Path.{sym}
-use borrow.Author.Rules.{rules}
 use Rattle.blocks.proofs.reader.read_block.Goals as goal
 
 pub returns-then-log-eq0 : goal.returns-then-log-eq0

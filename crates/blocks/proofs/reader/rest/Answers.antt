@@ -1,6 +1,5 @@
 -- `rest` meets its contract.
 use Rattle.blocks.specs.Block.{rest_of}
-use borrow.Author.Rules.{rules}
 use Rattle.blocks.proofs.reader.rest.Goals as goal
 
 pub returns : goal.returns

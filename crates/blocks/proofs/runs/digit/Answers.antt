@@ -4,7 +4,6 @@ use lib.Bits.{bit_xor}
 use Prim.Native.Nat.{ℕ}
 use mathlib.Core.Path.{ap}
 use native.Mathlib.Omega.{arith}
-use borrow.Author.Rules.{rules}
 use Rattle.blocks.proofs.runs.digit.Goals as goal
 
 pub returns : goal.returns

@@ -1,14 +1,12 @@
 -- `digit_run` meets its contract: the bytes passed are digits, and their value is v.
 use Rattle.text.proofs.Numbers.{value_on, step_below, room}
 use Rattle.text.proofs.Bytes.{run_on}
-use Rattle.text.specs.Number.{all_digits, value_from}
 use borrow.Author.Rules.{rules}
-use lib.ListN.{get_or, take}
+use lib.ListN.{get_or}
 use native.Mathlib.Omega.{arith}
 use native.Mathlib.Numerals.{add-one}
-use Prim.Native.Nat.{ℕ, ◌+◌, ◌-◌, ◌*◌, ◌≤◌, ◌<◌, ◌^◌}
-use mathlib.Core.Bool.{true}
-use mathlib.Core.Path.{◌≡◌, refl, sym, ap, ◌∙◌}
+use Prim.Native.Nat.{ℕ, ◌+◌, ◌-◌, ◌*◌}
+use mathlib.Core.Path.{refl, sym, ap, ◌∙◌}
 use Rattle.blocks.proofs.runs.digit_run.Goals as goal
 
 pub loop-i-init : goal.loop-i-init

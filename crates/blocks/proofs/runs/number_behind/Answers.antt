@@ -1,6 +1,5 @@
 -- `number_behind` meets its contract: one digit, two, or as many as there are.
 use Rattle.blocks.proofs.Fronts.{one_behind, two_behind, more_behind}
-use borrow.Author.Rules.{rules}
 use Rattle.blocks.proofs.runs.number_behind.Goals as goal
 
 pub returns-then-log-from-eq10 : goal.returns-then-log-from-eq10

@@ -1,7 +1,6 @@
 -- `number_ended` meets its contract: a run of digits, an LF behind it, and no leading zero.
 use Rattle.text.proofs.Numbers.{run_one, run_more}
 use native.Mathlib.Omega.{arith}
-use borrow.Author.Rules.{rules}
 use Rattle.blocks.proofs.runs.number_ended.Goals as goal
 
 pub returns-then-e-le1 : goal.returns-then-e-le1

@@ -3,7 +3,6 @@ use Rattle.blocks.proofs.Fronts.{word_part, place_most, place_lent}
 use lib.ListN.{take, drop}
 use Prim.Native.Nat.{◌-◌}
 use native.Mathlib.Omega.{arith}
-use borrow.Author.Rules.{rules}
 use Rattle.blocks.proofs.words.any_word.Goals as goal
 
 pub kind_place-requires : goal.kind_place-requires

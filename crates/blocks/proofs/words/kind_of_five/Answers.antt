@@ -2,7 +2,6 @@
 use Rattle.blocks.proofs.Packs.{last_known}
 use mathlib.Core.Path.{refl}
 use native.Mathlib.Omega.{arith}
-use borrow.Author.Rules.{rules}
 use Rattle.blocks.proofs.words.kind_of_five.Goals as goal
 
 pub returns-in-1986094444 : goal.returns-in-1986094444

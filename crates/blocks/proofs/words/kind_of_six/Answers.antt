@@ -2,7 +2,6 @@
 use Rattle.blocks.proofs.Packs.{last_known}
 use mathlib.Core.Path.{refl}
 use native.Mathlib.Omega.{arith}
-use borrow.Author.Rules.{rules}
 use Rattle.blocks.proofs.words.kind_of_six.Goals as goal
 
 pub returns-then-fifth-eq108 : goal.returns-then-fifth-eq108

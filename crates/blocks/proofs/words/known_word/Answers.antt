@@ -1,7 +1,6 @@
 -- `known_word` meets its contract: an LF behind as many bytes as the word has, and these bytes by their number.
 use Rattle.blocks.proofs.Packs.{bytes_within, pack_five, pack_six, sit_line, word_known}
 use native.Mathlib.Omega.{arith}
-use borrow.Author.Rules.{rules}
 use Rattle.blocks.proofs.words.known_word.Goals as goal
 
 pub returns-then-part-eq10 : goal.returns-then-part-eq10

@@ -1,7 +1,6 @@
 -- `word_ended` meets its contract.
 use lib.ListN.{take}
 use Rattle.blocks.proofs.Packs.{word_place}
-use borrow.Author.Rules.{rules}
 use Rattle.blocks.proofs.words.word_ended.Goals as goal
 
 pub returns-then-k-lt12 : goal.returns-then-k-lt12

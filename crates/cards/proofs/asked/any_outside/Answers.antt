@@ -1,7 +1,6 @@
 -- `cards::asked::any_outside` meets its contract. Assumes nothing.
 use mathlib.Core.Path.{sym, ◌∙◌}
 use Rattle.cards.proofs.Outside.{outside_above, outside_below, outside_none}
-use borrow.Author.Rules.{rules}
 use Rattle.cards.proofs.asked.any_outside.Goals as goal
 
 pub returns-then-any_above : goal.returns-then-any_above

@@ -1,10 +1,9 @@
 -- `cards::asked::any_twice` meets its contract: what is left of the cards decides. Assumes nothing.
-use mathlib.Core.Path.{◌≡◌, refl, sym, ◌∙◌}
+use mathlib.Core.Path.{refl, sym, ◌∙◌}
 use mathlib.Core.List.{List}
-use Prim.Native.Nat.{ℕ, ◌≤◌, ◌-◌}
+use Prim.Native.Nat.{ℕ}
 use native.Mathlib.Omega.{arith}
-use lib.ListN.{length, drop}
-use Rattle.cards.specs.Reading.{is_among, any_twice}
+use Rattle.cards.specs.Reading.{is_among}
 use Rattle.laws.proofs.Some.{some_here, some_next, some_end}
 use Rattle.cards.proofs.asked.any_twice.Goals as goal
 

@@ -4,7 +4,6 @@ use borrow.Author.Tests.{eq-eqb, ne_eqb}
 use Rattle.cards.specs.Reading.{reading_of}
 use Rattle.cards.proofs.Numbered.{asked_is}
 use Rattle.cards.specs.declared.asked.Reading.TheVariants.{Known}
-use borrow.Author.Rules.{rules}
 use Rattle.cards.proofs.asked.read_hand.Goals as goal
 
 pub returns-then-cards-ne7 : goal.returns-then-cards-ne7

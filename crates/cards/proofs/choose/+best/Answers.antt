@@ -2,9 +2,7 @@
 use Rattle.cards.specs.Packed.{hand_in}
 use Rattle.cards.proofs.Searched.{found_five, found_more}
 use native.Mathlib.Omega.{arith}
-use lib.ListN.{length}
 use borrow.Author.Rules.{rules}
-use Prim.Native.Nat.{◌-◌, ℕ, ◌<◌}
 use Rattle.cards.proofs.choose.+best.Goals as goal
 
 pub in_full-requires : goal.in_full-requires

@@ -2,7 +2,6 @@
 use native.Mathlib.Omega.{arith}
 use Rattle.cards.specs.Packed.{hand_in}
 use Rattle.cards.proofs.Standing.{unit_small, with_small, five_small, stands_with, stands_without, last_found, next-found, without-found, six_found}
-use Prim.Native.Nat.{ℕ, ◌+◌, ◌-◌, ◌<◌}
 use Rattle.cards.proofs.choose.+search.Goals as goal
 
 pub returns-then-have-eq6 : goal.returns-then-have-eq6

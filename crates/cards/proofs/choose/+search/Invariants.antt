@@ -1,7 +1,4 @@
-use Rattle.std.proofs.Common.{◌≡◌, ◌+◌, ◌-◌, ◌*◌, ◌/◌, ◌%◌, ◌≤◌, ◌<◌, length, drop, ℕ}
-use Rattle.cards.specs.Order.{ranking_of, keep, values_from, best_of, Placed}
-use Rattle.cards.specs.Packed.{digits, hand_in, IsHand}
-use Rattle.cards.specs.Searching.{values_left, lows, units, Stands}
+use Rattle.std.proofs.Common.{◌+◌, ◌-◌}
 use Rattle.cards.proofs.choose.+search.Given as goal
 
 -- proposed from what the function passes where it calls itself

@@ -3,7 +3,6 @@ use mathlib.Core.Path.{ap, sym, subst, ◌∙◌}
 use Rattle.cards.specs.Order.{best_of, Placed}
 use Rattle.cards.specs.declared.Ranking.{Ranking}
 use Rattle.cards.proofs.Kept.{placed_of}
-use borrow.Author.Rules.{rules}
 use Rattle.cards.proofs.choose.best_hand.Goals as goal
 
 pub best_by-requires : goal.best_by-requires

@@ -1,6 +1,5 @@
 -- `cards::choose::best_of_few` meets its contract. Assumes nothing.
 use native.Mathlib.Omega.{arith}
-use borrow.Author.Rules.{rules}
 use Rattle.cards.specs.Packed.{hand_in}
 use Rattle.cards.proofs.Packing.{few-stands, all_small, all_found, few-found, hand_nine}
 use Rattle.cards.proofs.choose.best_of_few.Goals as goal

@@ -1,9 +1,8 @@
 -- `cards::choose::packed` meets its contract: what is packed so far are the cards from `i` on. Assumes nothing.
 use mathlib.Core.Path.{◌≡◌, refl}
-use Prim.Native.Nat.{◌-◌, ◌≤◌, ◌<◌}
+use Prim.Native.Nat.{◌-◌}
 use native.Mathlib.Omega.{arith}
-use lib.ListN.{length, drop}
-use Rattle.cards.specs.Searching.{lows, units}
+use lib.ListN.{length}
 use Rattle.cards.proofs.Packing.{packed_start, packed_turn, units_seven}
 use Rattle.cards.proofs.choose.packed.Goals as goal
 

@@ -1,10 +1,8 @@
 -- `cards::choose::packed` meets its contract: what is packed so far are the cards from `i` on. Assumes nothing.
-use mathlib.Core.Path.{◌≡◌, refl}
+use mathlib.Core.Path.{◌≡◌}
 use Prim.Native.Nat.{◌-◌, ◌≤◌, ◌<◌}
-use native.Mathlib.Omega.{arith}
 use lib.ListN.{length, drop}
 use Rattle.cards.specs.Searching.{lows, units}
-use Rattle.cards.proofs.Packing.{packed_start, packed_turn, units_seven}
 use Rattle.cards.proofs.choose.packed.Given as goal
 
 abbrev pub invariant-loop-i : goal.invariant-loop-i

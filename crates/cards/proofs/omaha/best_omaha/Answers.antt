@@ -5,7 +5,6 @@ use Rattle.cards.specs.Omaha.{from_both}
 use Rattle.cards.specs.declared.Ranking.{Ranking}
 use Rattle.cards.proofs.Kept.{placed_of}
 use Rattle.cards.proofs.Pairs.{found_few}
-use borrow.Author.Rules.{rules}
 use Rattle.cards.proofs.omaha.best_omaha.Goals as goal
 
 pub returns-then-board-lt3 : goal.returns-then-board-lt3

@@ -1,6 +1,5 @@
 -- `cards::weighing::better` meets its contract. Assumes nothing.
 use native.Mathlib.Omega.{arith}
-use borrow.Author.Rules.{rules}
 use Rattle.cards.specs.Falls.{spread}
 use Rattle.cards.proofs.Weighed.{odd-better, row_kept, row-class, row-better}
 use Rattle.cards.proofs.weighing.better.Goals as goal

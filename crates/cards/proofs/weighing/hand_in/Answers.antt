@@ -1,6 +1,5 @@
 -- `cards::weighing::hand_in` meets its contract. Assumes nothing.
 use Rattle.cards.proofs.Searched.{hand_of}
-use borrow.Author.Rules.{rules}
 use Rattle.cards.proofs.weighing.hand_in.Goals as goal
 
 pub returns : goal.returns

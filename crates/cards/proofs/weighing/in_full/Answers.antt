@@ -1,6 +1,5 @@
 -- `cards::weighing::in_full` meets its contract. Assumes nothing.
 use mathlib.Core.Path.{ap, ◌∙◌}
-use borrow.Author.Rules.{rules}
 use Rattle.cards.specs.Hands.{value_of}
 use Rattle.cards.proofs.Searched.{class_small}
 use Rattle.cards.proofs.Weighed.{larger_better}

@@ -1,7 +1,6 @@
 -- `cards::weighing::lowest_row` meets its contract. Assumes nothing.
 use mathlib.Core.Path.{refl}
 use Rattle.cards.specs.Steps.{lowest_row}
-use borrow.Author.Rules.{rules}
 use Rattle.cards.proofs.weighing.lowest_row.Goals as goal
 
 pub returns : goal.returns

@@ -2,7 +2,6 @@
 use native.Mathlib.Omega.{arith}
 use mathlib.Core.Path.{refl}
 use Rattle.cards.specs.Steps.{marks_in}
-use borrow.Author.Rules.{rules}
 use Rattle.cards.proofs.weighing.marks_in.Goals as goal
 
 pub returns : goal.returns

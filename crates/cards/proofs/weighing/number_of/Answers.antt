@@ -1,7 +1,6 @@
 -- `cards::weighing::number_of` meets its contract. Assumes nothing.
 use native.Mathlib.Omega.{arith}
 use Rattle.cards.proofs.Packed.{number_hand}
-use borrow.Author.Rules.{rules}
 use Rattle.cards.proofs.weighing.number_of.Goals as goal
 
 pub returns : goal.returns

@@ -3,7 +3,6 @@ use native.Mathlib.Omega.{arith}
 use Prim.Native.Nat.{ℕ, ◌*◌, ◌/◌, ◌%◌}
 use mathlib.Core.Path.{ap}
 use Rattle.cards.specs.Steps.{pattern_in, gathered}
-use borrow.Author.Rules.{rules}
 use Rattle.cards.proofs.weighing.pattern_in.Goals as goal
 
 pub returns : goal.returns

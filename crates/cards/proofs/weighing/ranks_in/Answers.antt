@@ -2,7 +2,6 @@
 use Rattle.cards.proofs.Stepped.{ranks_small}
 use mathlib.Core.Path.{refl}
 use Rattle.cards.specs.Steps.{ranks_in}
-use borrow.Author.Rules.{rules}
 use Rattle.cards.proofs.weighing.ranks_in.Goals as goal
 
 pub returns : goal.returns

@@ -1,16 +1,9 @@
 -- The invariant: the first i chairs are dealt in. Then two chairs are put down.
-use borrow.Author.Rules.{rules}
 use Prim.Native.Nat.{◌-◌, ◌≤◌}
-use mathlib.Core.Path.{◌≡◌, ap, ◌∙◌}
-use mathlib.Core.List.{List, map}
-use native.Mathlib.Omega.{arith}
-use native.Mathlib.Numerals.{add-one}
-use lib.ListN.{length, set, get_or}
+use mathlib.Core.Path.{◌≡◌}
 use Rattle.chairs.specs.Chairs.{sweep_of}
 use Rattle.chairs.specs.Sweep.{Deal}
-use Rattle.chairs.proofs.Laws.{unread, sweep_to, sweep_step, put_two}
-use Rattle.chairs.proofs.Above.{sweep_none, above_sweep}
-use Rattle.chairs.specs.declared.Chair.{Chair}
+use Rattle.chairs.proofs.Laws.{sweep_to}
 use Rattle.chairs.proofs.passes.deal_all.Given as goal
 
 abbrev pub invariant-loop-i : goal.invariant-loop-i

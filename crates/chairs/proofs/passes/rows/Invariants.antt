@@ -1,17 +1,12 @@
 -- The invariant: the places from i on are read, those before it are 0, and both masks are of the places from i on.
-use borrow.Author.Rules.{rules}
-use Prim.Native.Nat.{ℕ, suc, ◌-◌, ◌≤◌}
-use mathlib.Core.Path.{◌≡◌, sym, ap, ◌∙◌}
+use Prim.Native.Nat.{◌-◌, ◌≤◌}
+use mathlib.Core.Path.{◌≡◌}
 use mathlib.Core.List.{map}
-use native.Mathlib.Omega.{arith}
-use lib.ListN.{length, get_or, set, replicate, drop}
-use Rattle.laws.specs.Tests.{one}
-use Rattle.laws.proofs.Often.{one_small}
+use lib.ListN.{drop}
 use Rattle.pots.specs.Heights.{mask_at}
-use Rattle.chairs.specs.Chairs.{column_of, is_here}
+use Rattle.chairs.specs.Chairs.{column_of}
 use Rattle.chairs.specs.What.{Total, Sitting, Live, Here}
-use Rattle.chairs.proofs.Laws.{unread}
-use Rattle.chairs.proofs.Above.{column_none, read_from, read_start, read_turn, mask_start, mask_turn, mask_small, has_truth}
+use Rattle.chairs.proofs.Above.{read_from}
 use Rattle.chairs.proofs.passes.rows.Given as goal
 
 abbrev pub invariant-loop-i : goal.invariant-loop-i

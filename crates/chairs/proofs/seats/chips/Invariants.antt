@@ -1,12 +1,8 @@
 -- `chips` meets its contract.
-use borrow.Author.Rules.{rules}
 use Prim.Native.Nat.{◌-◌, ◌+◌, ◌*◌, ◌≤◌}
-use mathlib.Core.Path.{◌≡◌, ap}
-use native.Mathlib.Omega.{arith}
-use lib.ListN.{length, drop}
+use mathlib.Core.Path.{◌≡◌}
+use lib.ListN.{drop}
 use Rattle.chairs.specs.Chairs.{chips_of}
-use Rattle.chairs.proofs.Laws.{unread, sum_step}
-use Rattle.chairs.proofs.Above.{above_chips}
 use Rattle.chairs.proofs.seats.chips.Given as goal
 
 abbrev pub invariant-loop-i : goal.invariant-loop-i

@@ -1,15 +1,7 @@
 -- `close_all` meets its contract.
-use borrow.Author.Rules.{rules}
 use Prim.Native.Nat.{◌-◌, ◌≤◌}
-use mathlib.Core.Path.{◌≡◌, ap, ◌∙◌}
-use mathlib.Core.List.{List}
-use native.Mathlib.Omega.{arith}
-use native.Mathlib.Numerals.{add-one}
-use lib.ListN.{length, set, get_or}
-use Rattle.chairs.specs.Chairs.{no_chair, closed_of}
-use Rattle.chairs.proofs.Laws.{unread, read_any, close_to, close_at, close_step}
-use Rattle.chairs.proofs.Above.{above_close}
-use Rattle.chairs.specs.declared.Chair.{Chair}
+use mathlib.Core.Path.{◌≡◌}
+use Rattle.chairs.proofs.Laws.{close_to}
 use Rattle.chairs.proofs.seats.close_all.Given as goal
 
 abbrev pub invariant-loop-i : goal.invariant-loop-i

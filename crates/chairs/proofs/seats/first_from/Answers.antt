@@ -4,7 +4,7 @@ use Prim.Native.Nat.{◌-◌, ◌≤◌}
 use mathlib.Core.Bool.{true, false}
 use mathlib.Core.Path.{◌≡◌, refl, sym, ap, ◌∙◌}
 use native.Mathlib.Omega.{arith}
-use lib.ListN.{length, drop, drop_of_length-le}
+use lib.ListN.{length, drop_of_length-le}
 use Rattle.chairs.specs.Chairs.{no_chair, want_of, first_of, clockwise}
 use Rattle.chairs.specs.Who.{Owing}
 use Rattle.chairs.proofs.Laws.{unread, read_any}

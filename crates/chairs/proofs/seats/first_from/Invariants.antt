@@ -1,14 +1,10 @@
 -- The invariant: none of the first k seats clockwise owes, so that the first among those behind them is the first of all.
-use borrow.Author.Rules.{rules}
 use Prim.Native.Nat.{◌-◌, ◌≤◌}
-use mathlib.Core.Bool.{true, false}
-use mathlib.Core.Path.{◌≡◌, refl, sym, ap, ◌∙◌}
-use native.Mathlib.Omega.{arith}
-use lib.ListN.{length, drop, drop_of_length-le}
-use Rattle.chairs.specs.Chairs.{no_chair, want_of, first_of, clockwise}
+use mathlib.Core.Bool.{true}
+use mathlib.Core.Path.{◌≡◌}
+use lib.ListN.{drop}
+use Rattle.chairs.specs.Chairs.{want_of, first_of, clockwise}
 use Rattle.chairs.specs.Who.{Owing}
-use Rattle.chairs.proofs.Laws.{unread, read_any}
-use Rattle.chairs.proofs.Clockwise.{clock_length, first_turn}
 use Rattle.chairs.proofs.seats.first_from.Given as goal
 
 abbrev pub invariant-loop-k : goal.invariant-loop-k

@@ -2,7 +2,7 @@
 use mathlib.Core.Path.{refl, ap, ◌∙◌, ◌≡◌}
 use lib.ListN.{length, drop, get_or}
 use borrow.Author.Rules.{rules}
-use Prim.Native.Nat.{◌≤◌, ◌+◌, ◌-◌}
+use Prim.Native.Nat.{◌-◌}
 use native.Mathlib.Omega.{arith}
 use Rattle.laws.specs.Tests.{one}
 use Rattle.laws.proofs.Often.{one_small}

@@ -1,15 +1,9 @@
 -- The invariant: what is counted so far and what the rest counts make the whole count.
-use mathlib.Core.Path.{refl, ap, ◌≡◌}
-use lib.ListN.{length, drop, get_or}
-use borrow.Author.Rules.{rules}
+use mathlib.Core.Path.{◌≡◌}
+use lib.ListN.{drop}
 use Prim.Native.Nat.{◌≤◌, ◌+◌, ◌-◌}
-use native.Mathlib.Omega.{arith}
-use Rattle.laws.specs.Tests.{one}
-use Rattle.laws.proofs.Often.{one_small}
 use Rattle.chairs.specs.Chairs.{want_of, count_of}
 use Rattle.chairs.specs.Who.{Live}
-use Rattle.chairs.proofs.Laws.{unread, count_step}
-use Rattle.chairs.proofs.Above.{above_count}
 use Rattle.chairs.proofs.seats.lives.Given as goal
 
 abbrev pub invariant-loop-i : goal.invariant-loop-i

@@ -1,17 +1,11 @@
 -- The invariant: the counts are of the places from i on, the first is of the seats behind them, and below seat s that of the seats after s is kept.
-use mathlib.Core.Path.{refl, sym, ap, ◌∙◌, ◌≡◌}
+use mathlib.Core.Path.{◌≡◌}
 use mathlib.Core.Bool.{false}
-use lib.ListN.{length, drop, get_or}
-use borrow.Author.Rules.{rules}
+use lib.ListN.{drop}
 use Prim.Native.Nat.{◌≤◌, ◌+◌, ◌-◌}
-use native.Mathlib.Omega.{arith}
-use Rattle.laws.specs.Tests.{one}
-use Rattle.laws.proofs.Often.{one_small}
-use Rattle.chairs.specs.Chairs.{no_chair, want_of, count_of}
+use Rattle.chairs.specs.Chairs.{want_of, count_of}
 use Rattle.chairs.specs.Who.{Live, LiveWithChips, Owing}
-use Rattle.chairs.proofs.Laws.{unread, count_step, read_any}
-use Rattle.chairs.proofs.Above.{above_count}
-use Rattle.chairs.proofs.Turn.{first_after, first_end, first_all, first_down, over_turn}
+use Rattle.chairs.proofs.Turn.{first_after}
 use Rattle.chairs.proofs.seats.seek.Given as goal
 
 abbrev pub invariant-loop-i : goal.invariant-loop-i

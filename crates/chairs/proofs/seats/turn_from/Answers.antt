@@ -1,6 +1,5 @@
 -- `turn_from` meets its contract.
 use native.Mathlib.Omega.{arith}
-use borrow.Author.Rules.{rules}
 use Rattle.chairs.proofs.Turn.{turn_few, turn_alone, turn_more}
 use Rattle.chairs.proofs.seats.turn_from.Goals as goal
 

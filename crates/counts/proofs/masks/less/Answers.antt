@@ -1,6 +1,5 @@
 -- A bit taken out is a rank left out.
 use mathlib.Core.Path.{refl}
-use borrow.Author.Rules.{rules}
 use Rattle.counts.proofs.Masked.{less_is}
 use Rattle.counts.proofs.masks.less.Goals as goal
 

@@ -1,6 +1,5 @@
 -- Five bits in a row, the ace below the two as well.
 use mathlib.Core.Path.{◌∙◌}
-use borrow.Author.Rules.{rules}
 use Rattle.counts.proofs.Masked.{row_short, foot_is}
 use Rattle.counts.proofs.masks.row_foot.Goals as goal
 

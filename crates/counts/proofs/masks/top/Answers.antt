@@ -1,7 +1,6 @@
 -- The highest bit is the highest rank.
 use mathlib.Core.Path.{refl}
 use native.Mathlib.Omega.{arith}
-use borrow.Author.Rules.{rules}
 use Rattle.counts.proofs.Masked.{top_none, leading_small, top_found}
 use Rattle.counts.proofs.masks.top.Goals as goal
 

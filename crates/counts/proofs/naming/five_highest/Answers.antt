@@ -2,7 +2,6 @@
 use Rattle.counts.specs.Kept.{ranks_in}
 use Rattle.counts.proofs.Masked.{ranks_drop}
 use Rattle.counts.proofs.Firsts.{five_are}
-use borrow.Author.Rules.{rules}
 use Rattle.counts.proofs.naming.five_highest.Goals as goal
 
 pub returns : goal.returns

@@ -2,7 +2,6 @@
 use mathlib.Core.Path.{◌≡◌, ap, ◌∙◌}
 use Rattle.counts.specs.HandOrder.{highest, leaving}
 use Rattle.counts.specs.Kept.{ranks_in}
-use borrow.Author.Rules.{rules}
 use Rattle.counts.proofs.naming.four_hand.Goals as goal
 
 pub returns : goal.returns

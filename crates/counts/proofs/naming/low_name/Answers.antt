@@ -3,7 +3,6 @@ use mathlib.Core.Path.{ap, ◌∙◌}
 use Rattle.counts.specs.HandOrder.{highest}
 use Rattle.counts.specs.Kept.{shown}
 use Rattle.counts.proofs.Firsts.{low_three, low-two-pair, low-pair, low-odd}
-use borrow.Author.Rules.{rules}
 use Rattle.counts.proofs.naming.low_name.Goals as goal
 
 pub returns-then-t-gt0 : goal.returns-then-t-gt0

@@ -3,7 +3,6 @@ use mathlib.Core.Path.{ap, ◌∙◌}
 use Rattle.counts.specs.HandOrder.{highest}
 use Rattle.counts.specs.Kept.{shown}
 use Rattle.counts.proofs.Firsts.{name_straight_flush, name-four, name-full, name-flush, name-straight, name-low}
-use borrow.Author.Rules.{rules}
 use Rattle.counts.proofs.naming.name.Goals as goal
 
 pub returns-then-k-gt0 : goal.returns-then-k-gt0

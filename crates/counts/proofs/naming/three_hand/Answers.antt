@@ -8,7 +8,6 @@ use Rattle.counts.specs.Kept.{ranks_in}
 use Rattle.laws.proofs.Choosing.{Drops}
 use Rattle.counts.proofs.Masked.{ranks_drop}
 use Rattle.counts.proofs.Firsts.{second_is}
-use borrow.Author.Rules.{rules}
 use Rattle.counts.proofs.naming.three_hand.Goals as goal
 
 pub returns : goal.returns

@@ -1,6 +1,5 @@
 -- One, moved up to the card.
 use Rattle.counts.proofs.Gathered.{bit_is}
-use borrow.Author.Rules.{rules}
 use Rattle.counts.proofs.seen.bit_of.Goals as goal
 
 pub returns : goal.returns

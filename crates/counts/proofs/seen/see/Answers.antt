@@ -1,7 +1,6 @@
 -- One card more.
 use native.Mathlib.Omega.{arith}
 use Rattle.counts.proofs.Gathered.{see_is}
-use borrow.Author.Rules.{rules}
 use Rattle.counts.proofs.seen.see.Goals as goal
 
 pub returns : goal.returns

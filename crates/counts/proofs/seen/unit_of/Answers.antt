@@ -1,6 +1,5 @@
 -- One, moved up to the suit.
 use Rattle.counts.proofs.Gathered.{unit_is}
-use borrow.Author.Rules.{rules}
 use Rattle.counts.proofs.seen.unit_of.Goals as goal
 
 pub returns : goal.returns

@@ -1,5 +1,5 @@
 -- `blocks` meets its contract.
-use Rattle.desk.proofs.Whole.{going_room, whole_part, Going, going_start, going_turn, going_done}
+use Rattle.desk.proofs.Whole.{going_room, whole_part, going_start, going_turn, going_done}
 use mathlib.Core.Path.{refl, ap, ◌∙◌}
 use lib.ListN.{length}
 use Rattle.blocks.proofs.Blocks.{rest_shorter}

@@ -1,10 +1,6 @@
 -- `blocks` meets its contract.
-use Rattle.desk.proofs.Whole.{going_room, whole_part, Going, going_start, going_turn, going_done}
-use mathlib.Core.Path.{refl, ap, ◌∙◌}
+use Rattle.desk.proofs.Whole.{Going}
 use lib.ListN.{length}
-use Rattle.blocks.proofs.Blocks.{rest_shorter}
-use borrow.Author.Rules.{rules}
-use native.Mathlib.Omega.{arith}
 use Rattle.desk.proofs.log.blocks.Given as goal
 
 abbrev pub invariant-loop-left : goal.invariant-loop-left

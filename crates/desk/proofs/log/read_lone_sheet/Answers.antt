@@ -1,6 +1,5 @@
 -- `read_opening` meets its contract: the log's sheet, with no drop. Assumes nothing.
 use Rattle.desk.proofs.Opened.{opened_read, opened_bad}
-use borrow.Author.Rules.{rules}
 use Rattle.desk.proofs.log.read_lone_sheet.Goals as goal
 
 pub returns-in-Read : goal.returns-in-Read

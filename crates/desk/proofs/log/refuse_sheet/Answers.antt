@@ -2,7 +2,6 @@
 use mathlib.Core.Path.{refl}
 use lib.ListN.{length}
 use borrow.Author.Tests.{lt-leb, le-leb}
-use borrow.Author.Rules.{rules}
 use Rattle.desk.proofs.log.refuse_sheet.Goals as goal
 
 pub returns-then-out-lt8 : goal.returns-then-out-lt8

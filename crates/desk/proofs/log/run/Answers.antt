@@ -1,5 +1,4 @@
 -- `run` meets its contract.
-use borrow.Author.Rules.{rules}
 use Rattle.desk.proofs.Whole.{run_bad, run_good}
 use Rattle.desk.proofs.Opened.{opened_is}
 use lib.ListN.{length}

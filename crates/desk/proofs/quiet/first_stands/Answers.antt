@@ -3,7 +3,6 @@ use native.Mathlib.Omega.{arith}
 use Rattle.table.proofs.Laws.{totals_within}
 use Rattle.table.specs.Settle.{pots_now, back_now}
 use Rattle.desk.proofs.SamePots.{now_shows}
-use borrow.Author.Rules.{rules}
 use Rattle.desk.proofs.quiet.first_stands.Goals as goal
 
 pub stand-requires : goal.stand-requires

@@ -1,5 +1,4 @@
 -- `keeps_pots` meets its contract.
-use borrow.Author.Rules.{rules}
 use Rattle.desk.proofs.quiet.keeps_pots.Goals as goal
 
 pub returns : goal.returns

@@ -1,5 +1,4 @@
 -- `quiet_block` meets its contract.
-use borrow.Author.Rules.{rules}
 use Rattle.desk.proofs.quiet.quiet_block.Goals as goal
 
 pub returns-in-Raw : goal.returns-in-Raw

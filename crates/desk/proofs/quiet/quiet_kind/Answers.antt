@@ -1,5 +1,4 @@
 -- `quiet_kind` meets its contract.
-use borrow.Author.Rules.{rules}
 use Rattle.desk.proofs.quiet.quiet_kind.Goals as goal
 
 pub returns : goal.returns

@@ -1,6 +1,5 @@
 -- `shown_with` meets its contract.
 use Rattle.desk.proofs.Laws.{made_shown}
-use borrow.Author.Rules.{rules}
 use Rattle.desk.proofs.quiet.shown_with.Goals as goal
 
 pub returns : goal.returns

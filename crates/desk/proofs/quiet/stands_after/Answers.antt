@@ -1,6 +1,5 @@
 -- `stands_after` meets its contract.
 use Rattle.desk.proofs.SamePots.{now_shows}
-use borrow.Author.Rules.{rules}
 use Rattle.desk.proofs.quiet.stands_after.Goals as goal
 
 pub returns-then-same : goal.returns-then-same

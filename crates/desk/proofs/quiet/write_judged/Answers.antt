@@ -1,7 +1,6 @@
 -- `write_judged` meets its contract: where there was no block nothing is written.
 use borrow.Author.Tests.{not-true, not-false}
 use Rattle.desk.proofs.SamePots.{none_written, shown_written}
-use borrow.Author.Rules.{rules}
 use Rattle.desk.proofs.quiet.write_judged.Goals as goal
 
 pub returns-then-not-j : goal.returns-then-not-j

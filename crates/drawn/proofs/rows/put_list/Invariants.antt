@@ -1,9 +1,7 @@
 -- `put_list` meets its contract: each pot has its place.
-use mathlib.Core.Path.{◌≡◌, refl}
+use mathlib.Core.Path.{◌≡◌}
 use Prim.Native.Nat.{◌-◌, ◌≤◌}
 use lib.ListN.{length}
-use native.Mathlib.Omega.{arith}
-use borrow.Author.Rules.{rules}
 use Rattle.drawn.proofs.rows.put_list.Given as goal
 
 abbrev pub invariant-loop-k : goal.invariant-loop-k

@@ -1,9 +1,7 @@
 -- `put_seats` meets its contract: each seat has its row.
-use mathlib.Core.Path.{◌≡◌, refl}
+use mathlib.Core.Path.{◌≡◌}
 use Prim.Native.Nat.{◌-◌, ◌≤◌}
 use lib.ListN.{length}
-use native.Mathlib.Omega.{arith}
-use borrow.Author.Rules.{rules}
 use Rattle.drawn.proofs.rows.put_seats.Given as goal
 
 abbrev pub invariant-loop-i : goal.invariant-loop-i

@@ -1,6 +1,5 @@
 -- `cells` meets its contract: its eleven dots are the definition's.
 use Rattle.figures.specs.Lamp.{cells_of}
-use borrow.Author.Rules.{rules}
 use Rattle.figures.proofs.font.cells.Goals as goal
 
 pub returns : goal.returns

@@ -1,7 +1,6 @@
 -- `dot` meets its contract, by its test.
 use Rattle.figures.specs.Lamp.{dot_of}
 use borrow.Author.Tests.{eq-eqb, ne_eqb}
-use borrow.Author.Rules.{rules}
 use Rattle.figures.proofs.font.dot.Goals as goal
 
 pub returns-then-row-p-eq1 : goal.returns-then-row-p-eq1

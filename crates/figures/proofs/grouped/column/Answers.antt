@@ -1,6 +1,5 @@
 -- `column` meets its contract, by its test.
 use Rattle.figures.specs.Grouped.{column_of}
-use borrow.Author.Rules.{rules}
 use Rattle.figures.proofs.grouped.column.Goals as goal
 
 pub returns-then-shown : goal.returns-then-shown

@@ -1,6 +1,5 @@
 -- `grouped` meets its contract: its eleven columns are the definition's.
 use Rattle.figures.specs.Grouped.{grouped_of}
-use borrow.Author.Rules.{rules}
 use Rattle.figures.proofs.grouped.grouped.Goals as goal
 
 pub returns : goal.returns

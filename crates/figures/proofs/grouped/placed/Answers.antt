@@ -1,7 +1,6 @@
 -- `placed` meets its contract, by its test.
 use Rattle.figures.specs.Grouped.{placed_at}
 use borrow.Author.Tests.{lt-ltb, le-ltb}
-use borrow.Author.Rules.{rules}
 use Rattle.figures.proofs.grouped.placed.Goals as goal
 
 pub returns-then-n-p : goal.returns-then-n-p

@@ -1,7 +1,6 @@
 -- `units` meets its contract.
 use mathlib.Core.Path.{refl}
 use Rattle.figures.specs.Grouped.{units_of}
-use borrow.Author.Rules.{rules}
 use Rattle.figures.proofs.grouped.units.Goals as goal
 
 pub returns : goal.returns

@@ -1,6 +1,5 @@
 -- `put` meets its contract: the part from the place on is lent to the writer of bytes.
 use Rattle.figures.proofs.Puts.{put_part}
-use borrow.Author.Rules.{rules}
 use Rattle.figures.proofs.put.put.Goals as goal
 
 pub returns : goal.returns

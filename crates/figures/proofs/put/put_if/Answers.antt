@@ -1,7 +1,6 @@
 -- `put_if` meets its contract, by its test.
 use native.Mathlib.Omega.{arith}
 use Rattle.figures.proofs.Puts.{put_when, put_unless}
-use borrow.Author.Rules.{rules}
 use Rattle.figures.proofs.put.put_if.Goals as goal
 
 pub returns-then-test : goal.returns-then-test

@@ -2,7 +2,6 @@
 use Rattle.figures.specs.ScreenRow.{counted_of}
 use borrow.Author.Tests.{eq-eqb, ne_eqb}
 use native.Mathlib.Omega.{arith}
-use borrow.Author.Rules.{rules}
 use Rattle.figures.proofs.row.counted.Goals as goal
 
 pub returns-then-pots-lt999999999 : goal.returns-then-pots-lt999999999

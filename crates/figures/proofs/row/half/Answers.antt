@@ -1,6 +1,5 @@
 -- `half` meets its contract.
 use Rattle.figures.specs.ScreenRow.{half_row}
-use borrow.Author.Rules.{rules}
 use Rattle.figures.proofs.row.half.Goals as goal
 
 pub returns : goal.returns

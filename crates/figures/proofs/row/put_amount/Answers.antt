@@ -1,6 +1,5 @@
 -- `put_amount` meets its contract.
 use Rattle.figures.specs.ScreenRow.{amount_of}
-use borrow.Author.Rules.{rules}
 use Rattle.figures.proofs.row.put_amount.Goals as goal
 
 pub returns : goal.returns

@@ -2,7 +2,6 @@
 use Rattle.figures.proofs.Puts.{next}
 use Rattle.figures.specs.ScreenRow.{cell_of}
 use native.Mathlib.Omega.{arith}
-use borrow.Author.Rules.{rules}
 use Rattle.figures.proofs.row.put_cell.Goals as goal
 
 pub returns : goal.returns

@@ -1,6 +1,5 @@
 -- `put_lamp_cell` meets its contract.
 use Rattle.figures.specs.ScreenRow.{lamp_cell}
-use borrow.Author.Rules.{rules}
 use Rattle.figures.proofs.row.put_lamp_cell.Goals as goal
 
 pub returns : goal.returns

@@ -4,7 +4,6 @@ use Rattle.figures.proofs.Tables.{words_row_law}
 use Rattle.figures.proofs.Puts.{next}
 use Rattle.figures.specs.ScreenRow.{words_row}
 use native.Mathlib.Omega.{arith}
-use borrow.Author.Rules.{rules}
 use Rattle.figures.proofs.row.put_words.Goals as goal
 
 pub slice_bounds-put_lit-end-2 : goal.slice_bounds-put_lit-end-2

@@ -1,6 +1,5 @@
 -- `held_back` meets its contract.
 use Rattle.ledger.proofs.Telling.{held_yes, held_no}
-use borrow.Author.Rules.{rules}
 use Rattle.ledger.proofs.judged.held_back.Goals as goal
 
 pub returns-then-both : goal.returns-then-both

@@ -1,6 +1,5 @@
 -- `is_full` meets its contract.
 use Rattle.ledger.specs.Entering.{is_full}
-use borrow.Author.Rules.{rules}
 use Rattle.ledger.proofs.judged.is_full.Goals as goal
 
 pub returns : goal.returns

@@ -2,7 +2,6 @@
 use Rattle.ledger.proofs.Telling.{entry_judged}
 use Prim.Native.Nat.{ℕ, ◌<◌, ◌^◌}
 use mathlib.Core.Path.{sym, subst}
-use borrow.Author.Rules.{rules}
 use Rattle.ledger.proofs.judged.judge_entry.Goals as goal
 
 pub judge_block-requires : goal.judge_block-requires

@@ -1,6 +1,5 @@
 -- `numbers_in` meets its contract.
 use Rattle.ledger.proofs.Telling.{numbers_raw, numbers_malformed, numbers_nothing}
-use borrow.Author.Rules.{rules}
 use Rattle.ledger.proofs.judged.numbers_in.Goals as goal
 
 pub returns-in-Raw : goal.returns-in-Raw

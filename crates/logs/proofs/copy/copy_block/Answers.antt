@@ -3,7 +3,6 @@ use Rattle.logs.proofs.Copies.{raw_copied, bad_copied}
 use Rattle.logs.specs.FairCopy.{form_copy, form_copied}
 use Rattle.blocks.specs.declared.Block.{Block}
 use mathlib.Core.Path.{ap}
-use borrow.Author.Rules.{rules}
 use Rattle.logs.proofs.copy.copy_block.Goals as goal
 
 pub returns-in-Raw : goal.returns-in-Raw

@@ -1,6 +1,5 @@
 -- `copy_entry` meets its contract: no entry, or what the writer says.
 use Rattle.logs.proofs.Copies.{entry_none, entry_put}
-use borrow.Author.Rules.{rules}
 use Rattle.logs.proofs.copy.copy_entry.Goals as goal
 
 pub returns-in-OutOfRange : goal.returns-in-OutOfRange

@@ -6,7 +6,6 @@ use Rattle.logs.specs.LogText.{sheet_text}
 use Rattle.paper.specs.Paper.{is_sheet}
 use native.Mathlib.Omega.{arith}
 use mathlib.Core.Path.{ap, ◌∙◌}
-use borrow.Author.Rules.{rules}
 use Rattle.logs.proofs.copy.copy_sheet.Goals as goal
 
 pub returns : goal.returns

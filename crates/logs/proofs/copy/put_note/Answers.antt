@@ -3,7 +3,6 @@ use Rattle.logs.proofs.Copies.{note_parts}
 use Rattle.logs.specs.FairCopy.{note_text}
 use Rattle.writing.proofs.Sheets.{then}
 use native.Mathlib.Omega.{arith}
-use borrow.Author.Rules.{rules}
 use Rattle.logs.proofs.copy.put_note.Goals as goal
 
 pub put_bytes-a-requires : goal.put_bytes-a-requires

@@ -1,5 +1,4 @@
 -- `told` meets its contract, answer by answer.
-use borrow.Author.Rules.{rules}
 use Rattle.logs.proofs.copy.told.Goals as goal
 
 pub returns-in-Bytes : goal.returns-in-Bytes

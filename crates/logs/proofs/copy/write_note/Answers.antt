@@ -1,7 +1,6 @@
 -- `write_note` meets its contract: no code, no room, or the line.
 use Rattle.logs.proofs.Copies.{note_most_law, note_none, note_short, note_done}
 use native.Mathlib.Omega.{arith}
-use borrow.Author.Rules.{rules}
 use Rattle.logs.proofs.copy.write_note.Goals as goal
 
 pub returns-then-code-eq-TAKEN : goal.returns-then-code-eq-TAKEN

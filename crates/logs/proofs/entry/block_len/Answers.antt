@@ -3,7 +3,6 @@ use mathlib.Core.Path.{refl}
 use native.Mathlib.Omega.{arith}
 use Rattle.text.proofs.Numbers.{count_most}
 use Rattle.logs.proofs.KindRows.{kind_row, block_said}
-use borrow.Author.Rules.{rules}
 use Rattle.logs.proofs.entry.block_len.Goals as goal
 
 pub overflow_add-result : goal.overflow_add-result

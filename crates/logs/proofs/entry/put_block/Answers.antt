@@ -3,7 +3,6 @@ use native.Mathlib.Omega.{arith}
 use Rattle.writing.proofs.Sheets.{then}
 use Rattle.logs.specs.LogText.{block_text}
 use Rattle.logs.proofs.KindRows.{block_parts}
-use borrow.Author.Rules.{rules}
 use Rattle.logs.proofs.entry.put_block.Goals as goal
 
 pub write_number_line-a-requires : goal.write_number_line-a-requires

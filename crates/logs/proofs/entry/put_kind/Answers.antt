@@ -1,6 +1,5 @@
 -- `put_kind` meets its contract: the row of the code's table is the paper's line.
 use Rattle.logs.proofs.KindRows.{kind_row}
-use borrow.Author.Rules.{rules}
 use Rattle.logs.proofs.entry.put_kind.Goals as goal
 
 pub slice_bounds-put_bytes-end : goal.slice_bounds-put_bytes-end

@@ -6,7 +6,6 @@ use Rattle.logs.proofs.EntryText.{entry_small}
 use Rattle.logs.specs.LogText.{block_text, entry_text, is_entry}
 use Rattle.paper.specs.declared.Numbers.{Numbers}
 use mathlib.Core.Path.{ap, ◌∙◌}
-use borrow.Author.Rules.{rules}
 use Rattle.logs.proofs.entry.write_entry.Goals as goal
 
 pub block_len-requires : goal.block_len-requires

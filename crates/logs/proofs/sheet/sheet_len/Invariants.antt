@@ -1,11 +1,9 @@
 -- `sheet_len` meets its contract: what is counted and the lines still to come make up the sheet.
-use borrow.Author.Rules.{rules}
-use native.Mathlib.Omega.{arith}
 use lib.ListN.{length}
 use Prim.Native.Nat.{◌+◌, ◌-◌, ◌*◌, ◌≤◌}
 use mathlib.Core.Path.{◌≡◌}
 use Rattle.text.specs.TableSheet.{sheet_lines}
-use Rattle.logs.proofs.Puts.{lines_from, values_count, count_on, count_done}
+use Rattle.logs.proofs.Puts.{lines_from}
 use Rattle.logs.proofs.sheet.sheet_len.Given as goal
 
 abbrev pub invariant-loop-k : goal.invariant-loop-k

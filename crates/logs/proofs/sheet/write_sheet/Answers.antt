@@ -4,7 +4,6 @@ use Rattle.logs.proofs.Puts.{put_refused, put_short, put_done}
 use Rattle.logs.specs.LogText.{sheet_text}
 use Rattle.paper.specs.Paper.{is_sheet}
 use mathlib.Core.Path.{sym, ◌∙◌}
-use borrow.Author.Rules.{rules}
 use Rattle.logs.proofs.sheet.write_sheet.Goals as goal
 
 pub sheet_len-requires : goal.sheet_len-requires

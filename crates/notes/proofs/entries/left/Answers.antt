@@ -1,6 +1,5 @@
 -- `left` meets its contract.
 use Rattle.notes.specs.Notes.{left_notes}
-use borrow.Author.Rules.{rules}
 use Rattle.notes.proofs.entries.left.Goals as goal
 
 pub returns : goal.returns

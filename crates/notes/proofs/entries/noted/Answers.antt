@@ -1,5 +1,4 @@
 -- `noted` meets its contract: kind by kind.
-use borrow.Author.Rules.{rules}
 use Rattle.notes.proofs.entries.noted.Goals as goal
 
 pub returns-in-Sit : goal.returns-in-Sit

@@ -1,6 +1,5 @@
 -- `opened` meets its contract.
 use Rattle.notes.specs.Notes.{opened_notes}
-use borrow.Author.Rules.{rules}
 use Rattle.notes.proofs.entries.opened.Goals as goal
 
 pub returns : goal.returns

@@ -1,6 +1,5 @@
 -- `refused` meets its contract.
 use Rattle.notes.specs.Notes.{refused_notes}
-use borrow.Author.Rules.{rules}
 use Rattle.notes.proofs.entries.refused.Goals as goal
 
 pub returns : goal.returns

@@ -1,5 +1,4 @@
 -- `sat` meets its contract.
-use borrow.Author.Rules.{rules}
 use Rattle.notes.proofs.entries.sat.Goals as goal
 
 pub returns : goal.returns

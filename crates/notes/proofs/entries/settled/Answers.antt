@@ -1,6 +1,5 @@
 -- `settled` meets its contract.
 use Rattle.notes.specs.Notes.{settled_notes}
-use borrow.Author.Rules.{rules}
 use Rattle.notes.proofs.entries.settled.Goals as goal
 
 pub returns : goal.returns

@@ -1,6 +1,5 @@
 -- `taken` meets its contract.
 use Rattle.notes.specs.Notes.{taken_notes}
-use borrow.Author.Rules.{rules}
 use Rattle.notes.proofs.entries.taken.Goals as goal
 
 pub returns : goal.returns

@@ -1,5 +1,5 @@
 -- `payments::paying::check_out` meets its contract: the checker's answer for the rows that are lent. Assumes nothing.
-use borrow.Author.Rules.{length_unmapped, rules}
+use borrow.Author.Rules.{length_unmapped}
 use Rattle.payments.proofs.Same.{wrote_as}
 use Rattle.payments.proofs.Deciding.{few_listed, checked-bad, checked-good}
 use Rattle.payments.proofs.SmallRows.{judged_small}

@@ -1,5 +1,5 @@
 -- `payments::paying::pay_out` meets its contract: the proposer's answer for the rows that are lent. Assumes nothing.
-use borrow.Author.Rules.{length_unmapped, rules}
+use borrow.Author.Rules.{length_unmapped}
 use Rattle.answers.proofs.Blocks.{length_mapped}
 use Rattle.payments.proofs.Same.{does_as}
 use Rattle.payments.proofs.Deciding.{few_listed, proposed-long, list-kept, list_written, list-front, code_is, list-is, out-bad, out-refused, out_paid}

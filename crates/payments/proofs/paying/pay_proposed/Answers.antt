@@ -1,5 +1,5 @@
 -- `payments::paying::pay_proposed` meets its contract: what is proposed is accepted, lowers the rows, and is written. Assumes nothing.
-use borrow.Author.Rules.{length_unmapped, rules}
+use borrow.Author.Rules.{length_unmapped}
 use Rattle.answers.proofs.Blocks.{length_mapped}
 use Rattle.payments.proofs.Same.{wrote_as}
 use Rattle.payments.proofs.Deciding.{proposed-long, proposed-small, paid-rows}

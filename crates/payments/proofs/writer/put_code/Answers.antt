@@ -2,7 +2,6 @@
 use Rattle.answers.proofs.Blocks.{line_most}
 use Rattle.answers.specs.Answer.{key_code}
 use native.Mathlib.Omega.{arith}
-use borrow.Author.Rules.{rules}
 use Rattle.payments.proofs.writer.put_code.Goals as goal
 
 pub write_number_line-requires : goal.write_number_line-requires

@@ -4,7 +4,6 @@ use Rattle.teller.specs.Lines.{key_worth, key_count}
 use Rattle.answers.proofs.Blocks.{line_most}
 use Rattle.writing.proofs.Sheets.{then}
 use native.Mathlib.Omega.{arith}
-use borrow.Author.Rules.{rules}
 use Rattle.payments.proofs.writer.put_row.Goals as goal
 
 pub write_number_line-at-requires : goal.write_number_line-at-requires

@@ -8,7 +8,7 @@ use Rattle.writing.specs.AnswerSheet.{Wrote}
 use borrow.Author.Rules.{rules}
 use native.Mathlib.Omega.{arith}
 use lib.ListN.{length, take}
-use Prim.Native.Nat.{ℕ, ◌-◌, ◌*◌, ◌≤◌}
+use Prim.Native.Nat.{ℕ, ◌-◌}
 use mathlib.Core.Path.{◌≡◌, refl, subst}
 use Rattle.payments.proofs.writer.put_rows.Goals as goal
 

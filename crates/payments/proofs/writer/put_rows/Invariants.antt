@@ -1,15 +1,10 @@
 -- `payments::writer::put_rows` meets its contract: the rows, one behind the other. Assumes nothing.
 use Rattle.payments.specs.Payments.{row_text}
-use Rattle.rows.specs.Rows.{no_row}
-use Rattle.answers.proofs.Blocks.{joined_more}
 use Rattle.answers.specs.Answer.{joined}
-use Rattle.writing.proofs.Sheets.{then}
 use Rattle.writing.specs.AnswerSheet.{Wrote}
-use borrow.Author.Rules.{rules}
-use native.Mathlib.Omega.{arith}
 use lib.ListN.{length, take}
-use Prim.Native.Nat.{ℕ, ◌-◌, ◌*◌, ◌≤◌}
-use mathlib.Core.Path.{◌≡◌, refl, subst}
+use Prim.Native.Nat.{◌-◌, ◌*◌, ◌≤◌}
+use mathlib.Core.Path.{◌≡◌}
 use Rattle.payments.proofs.writer.put_rows.Given as goal
 
 abbrev pub invariant-loop-i : goal.invariant-loop-i

@@ -6,8 +6,8 @@ use Rattle.writing.specs.AnswerSheet.{Wrote}
 use borrow.Rule.Slice.PartMut.{mid_len}
 use borrow.Author.Rules.{rules}
 use native.Mathlib.Omega.{arith}
-use lib.ListN.{length, drop}
-use Prim.Native.Nat.{ℕ, ◌+◌, ◌-◌, ◌*◌, ◌≤◌, ◌<◌, ◌^◌}
+use lib.ListN.{drop}
+use Prim.Native.Nat.{ℕ, ◌+◌, ◌-◌, ◌*◌, ◌<◌, ◌^◌}
 use mathlib.Core.Path.{◌≡◌, refl, subst}
 use Rattle.payments.proofs.writer.put_sittings.Goals as goal
 

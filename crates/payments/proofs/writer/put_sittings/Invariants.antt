@@ -1,14 +1,9 @@
 -- `payments::writer::put_sittings` meets its contract: each sitting with its part of the proposal. Assumes nothing.
-use Rattle.payments.proofs.Cutting.{part_within, part_most, part_long, sittings_turn}
-use Rattle.payments.proofs.SmallRows.{take_each, drop_each}
 use Rattle.payments.specs.Payments.{sittings_text}
 use Rattle.writing.specs.AnswerSheet.{Wrote}
-use borrow.Rule.Slice.PartMut.{mid_len}
-use borrow.Author.Rules.{rules}
-use native.Mathlib.Omega.{arith}
-use lib.ListN.{length, drop}
-use Prim.Native.Nat.{ℕ, ◌+◌, ◌-◌, ◌*◌, ◌≤◌, ◌<◌, ◌^◌}
-use mathlib.Core.Path.{◌≡◌, refl, subst}
+use lib.ListN.{length}
+use Prim.Native.Nat.{◌-◌, ◌*◌, ◌≤◌}
+use mathlib.Core.Path.{◌≡◌}
 use Rattle.payments.proofs.writer.put_sittings.Given as goal
 
 abbrev pub invariant-loop-s : goal.invariant-loop-s

@@ -1,12 +1,8 @@
 -- `after_zeros` meets its contract: what is left from i on has behind its zeros what the whole has.
-use borrow.Author.Rules.{rules}
-use mathlib.Core.Path.{◌≡◌, refl, sym, ◌∙◌}
+use mathlib.Core.Path.{◌≡◌}
 use Prim.Native.Nat.{◌-◌, ◌≤◌}
-use native.Mathlib.Omega.{arith}
 use lib.ListN.{length, drop}
-use Rattle.text.proofs.Parts.{part_is}
 use Rattle.picture.specs.Lines.{after_zeros}
-use Rattle.picture.proofs.Zeros.{leads_within, zero_passed, none_leads}
 use Rattle.picture.proofs.reading.after_zeros.Given as goal
 
 abbrev pub invariant-loop-i : goal.invariant-loop-i

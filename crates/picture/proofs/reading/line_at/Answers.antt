@@ -1,6 +1,5 @@
 -- `line_at` meets its contract: the row of the code's table is the definition's.
 use Rattle.picture.proofs.Tables.{key_row, line_said}
-use borrow.Author.Rules.{rules}
 use Rattle.picture.proofs.reading.line_at.Goals as goal
 
 pub slice_bounds-number_behind-end : goal.slice_bounds-number_behind-end

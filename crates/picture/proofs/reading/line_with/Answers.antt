@@ -1,7 +1,6 @@
 -- `line_with` meets its contract, by what the number is.
 use Rattle.picture.proofs.Tables.{answering, answering_none}
 use borrow.Author.Tests.{le-leb, lt-leb}
-use borrow.Author.Rules.{rules}
 use Rattle.picture.proofs.reading.line_with.Goals as goal
 
 pub returns-in_default : goal.returns-in_default

@@ -1,5 +1,4 @@
 -- `nine_in` meets its contract, by its test.
-use borrow.Author.Rules.{rules}
 use borrow.Author.Tests.{eq-eqb, ne_eqb}
 use Rattle.picture.specs.Lines.{nine_of}
 use Rattle.picture.proofs.reading.nine_in.Goals as goal

@@ -1,5 +1,4 @@
 -- `number_as` meets its contract, by its test.
-use borrow.Author.Rules.{rules}
 use borrow.Author.Tests.{eq-eqb, ne_eqb}
 use Rattle.picture.specs.Lines.{number_as}
 use Rattle.picture.proofs.reading.number_as.Goals as goal

@@ -1,5 +1,4 @@
 -- `number_behind` meets its contract: it is what the value is.
-use borrow.Author.Rules.{rules}
 use Rattle.picture.proofs.reading.number_behind.Goals as goal
 
 pub returns : goal.returns

@@ -1,12 +1,7 @@
 -- `read_line` meets its contract: the kinds from k on find what all kinds find.
-use borrow.Author.Rules.{rules}
-use Rattle.picture.proofs.Tables.{answering_none}
-use Rattle.picture.proofs.Finds.{found_here, found_on, found_none}
-use Rattle.picture.specs.declared.Line.{Line}
-use Rattle.picture.specs.Lines.{line_kinds, line_at, line_from, answer_line}
-use native.Mathlib.Omega.{arith}
-use mathlib.Core.Path.{◌≡◌, refl, sym, ap, ◌∙◌}
-use Prim.Native.Nat.{◌-◌, ◌≤◌, ◌<◌}
+use Rattle.picture.specs.Lines.{line_kinds, line_from, answer_line}
+use mathlib.Core.Path.{◌≡◌}
+use Prim.Native.Nat.{◌-◌, ◌≤◌}
 use Rattle.picture.proofs.reading.read_line.Given as goal
 
 abbrev pub invariant-loop-k : goal.invariant-loop-k

@@ -1,5 +1,4 @@
 -- `zero_at` meets its contract, by its test.
-use borrow.Author.Rules.{rules}
 use borrow.Author.Tests.{lt-ltb, le-ltb}
 use Rattle.picture.specs.Lines.{zero_leads}
 use Rattle.picture.proofs.reading.zero_at.Goals as goal

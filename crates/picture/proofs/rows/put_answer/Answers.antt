@@ -1,7 +1,6 @@
 -- `put_answer` meets its contract: start, rest and rule stand one behind the other.
 use Rattle.picture.proofs.Steps.{answer_drawn}
 use native.Mathlib.Omega.{arith}
-use borrow.Author.Rules.{rules}
 use Rattle.picture.proofs.rows.put_answer.Goals as goal
 
 pub returns : goal.returns

@@ -1,7 +1,6 @@
 -- `put_front` meets its contract: its three parts stand one behind the other.
 use Rattle.picture.proofs.Steps.{front_drawn}
 use native.Mathlib.Omega.{arith}
-use borrow.Author.Rules.{rules}
 use Rattle.picture.proofs.rows.put_front.Goals as goal
 
 pub returns : goal.returns

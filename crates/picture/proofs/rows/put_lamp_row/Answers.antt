@@ -2,7 +2,6 @@
 use Rattle.figures.proofs.Puts.{next}
 use Rattle.picture.specs.Rows.{lamp_row}
 use native.Mathlib.Omega.{arith}
-use borrow.Author.Rules.{rules}
 use Rattle.picture.proofs.rows.put_lamp_row.Goals as goal
 
 pub returns : goal.returns

@@ -4,7 +4,6 @@ use Rattle.picture.specs.Rows.{rest_row}
 use borrow.Author.Tests.{eq-eqb, ne_eqb}
 use native.Mathlib.Omega.{arith}
 use mathlib.Core.Path.{sym, ◌∙◌}
-use borrow.Author.Rules.{rules}
 use Rattle.picture.proofs.rows.put_rest.Goals as goal
 
 pub returns-then-half : goal.returns-then-half

@@ -1,7 +1,6 @@
 -- `put_start` meets its contract, by its test.
 use Rattle.picture.proofs.Steps.{start_none, start_drawn}
 use native.Mathlib.Omega.{arith}
-use borrow.Author.Rules.{rules}
 use Rattle.picture.proofs.rows.put_start.Goals as goal
 
 pub returns-then-either : goal.returns-then-either

@@ -3,7 +3,6 @@ use Rattle.figures.proofs.Puts.{next}
 use Rattle.picture.specs.Rows.{verdict_of}
 use borrow.Author.Tests.{eq-eqb, ne_eqb}
 use native.Mathlib.Omega.{arith}
-use borrow.Author.Rules.{rules}
 use Rattle.picture.proofs.rows.put_verdict.Goals as goal
 
 pub returns-then-code-eq0 : goal.returns-then-code-eq0

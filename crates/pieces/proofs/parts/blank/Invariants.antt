@@ -1,9 +1,7 @@
 -- `blank` meets its contract: every place that it writes is in the picture.
-use mathlib.Core.Path.{◌≡◌, refl}
+use mathlib.Core.Path.{◌≡◌}
 use Prim.Native.Nat.{◌-◌, ◌≤◌}
 use lib.ListN.{length}
-use native.Mathlib.Omega.{arith}
-use borrow.Author.Rules.{rules}
 use Rattle.pieces.proofs.parts.blank.Given as goal
 
 abbrev pub invariant-loop-i : goal.invariant-loop-i

@@ -1,9 +1,7 @@
 -- `put_mask` meets its contract: each of the ten seats has its columns.
-use mathlib.Core.Path.{◌≡◌, refl}
+use mathlib.Core.Path.{◌≡◌}
 use Prim.Native.Nat.{◌-◌, ◌≤◌}
 use lib.ListN.{length}
-use native.Mathlib.Omega.{arith}
-use borrow.Author.Rules.{rules}
 use Rattle.pieces.proofs.parts.put_mask.Given as goal
 
 abbrev pub invariant-loop-i : goal.invariant-loop-i

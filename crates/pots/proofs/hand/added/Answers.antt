@@ -1,11 +1,11 @@
 -- `added` meets its contract. The invariant: the first i places are those of the sum.
 -- Assumes nothing.
-use Prim.Native.Nat.{◌+◌, ◌≤◌, ◌-◌}
+use Prim.Native.Nat.{◌+◌}
 use mathlib.Core.Path.{◌≡◌, refl, sym, ap, ◌∙◌}
-use mathlib.Core.List.{◌∷◌, ◌++◌}
+use mathlib.Core.List.{◌∷◌}
 use native.Mathlib.Omega.{arith}
 use borrow.Author.Rules.{rules}
-use lib.ListN.{length, get_or, drop, take, length-set}
+use lib.ListN.{length, get_or, drop, length-set}
 use Rattle.pots.specs.Hand.{plus}
 use Rattle.laws.proofs.Places.{front_turn, front_done}
 use Rattle.pots.proofs.Hands.{plus_at, plus_length, at_most_sum}

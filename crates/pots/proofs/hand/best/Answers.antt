@@ -1,7 +1,6 @@
 -- `best` meets its contract.
 -- Assumes nothing.
 use mathlib.Core.Path.{ap, ◌∙◌}
-use borrow.Author.Rules.{rules}
 use Rattle.pots.specs.Heights.{live_of, mask_at}
 use Rattle.laws.specs.Lists.{max_of}
 use Rattle.pots.proofs.hand.best.Goals as goal

@@ -2,7 +2,6 @@
 -- Assumes nothing.
 use mathlib.Core.Path.{ap}
 use native.Mathlib.Omega.{arith}
-use borrow.Author.Rules.{rules}
 use Rattle.laws.specs.Lists.{sum_of}
 use Rattle.pots.proofs.Hands.{paid_and_unclaimed}
 use Rattle.pots.proofs.hand.pay_out.Goals as goal

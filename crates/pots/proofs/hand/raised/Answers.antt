@@ -1,11 +1,11 @@
 -- `raised` meets its contract. The invariant: what is written and the rest with 1 added are those of all.
 -- Assumes nothing.
-use Prim.Native.Nat.{suc, ◌+◌, ◌≤◌, ◌-◌}
-use mathlib.Core.Path.{◌≡◌, refl, sym, ap, ◌∙◌}
-use mathlib.Core.List.{◌∷◌, ◌++◌, map}
+use Prim.Native.Nat.{suc, ◌+◌}
+use mathlib.Core.Path.{refl, sym, ap, ◌∙◌}
+use mathlib.Core.List.{◌∷◌, map}
 use native.Mathlib.Omega.{arith}
 use borrow.Author.Rules.{rules}
-use lib.ListN.{length, get_or, drop, take, length-set}
+use lib.ListN.{get_or, drop, length-set}
 use native.Mathlib.Numerals.{add-one}
 use Rattle.laws.proofs.Places.{front_turn, front_done}
 use Rattle.pots.proofs.hand.raised.Goals as goal

@@ -1,13 +1,9 @@
 -- `raised` meets its contract. The invariant: what is written and the rest with 1 added are those of all.
 -- Assumes nothing.
-use Prim.Native.Nat.{suc, ◌+◌, ◌≤◌, ◌-◌}
-use mathlib.Core.Path.{◌≡◌, refl, sym, ap, ◌∙◌}
-use mathlib.Core.List.{◌∷◌, ◌++◌, map}
-use native.Mathlib.Omega.{arith}
-use borrow.Author.Rules.{rules}
-use lib.ListN.{length, get_or, drop, take, length-set}
-use native.Mathlib.Numerals.{add-one}
-use Rattle.laws.proofs.Places.{front_turn, front_done}
+use Prim.Native.Nat.{suc, ◌≤◌, ◌-◌}
+use mathlib.Core.Path.{◌≡◌}
+use mathlib.Core.List.{◌++◌, map}
+use lib.ListN.{length, drop, take}
 use Rattle.pots.proofs.hand.raised.Given as goal
 
 abbrev pub invariant-loop-i : goal.invariant-loop-i

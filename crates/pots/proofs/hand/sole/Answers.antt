@@ -1,7 +1,6 @@
 -- `pots::hand::sole` meets its contract.
 -- Assumes nothing.
 use mathlib.Core.Path.{ap}
-use borrow.Author.Rules.{rules}
 use lib.Dec.{eqb}
 use Rattle.pots.proofs.hand.sole.Goals as goal
 

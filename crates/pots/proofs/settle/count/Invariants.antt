@@ -1,11 +1,8 @@
 -- `count` meets its contract. The invariant: what is counted and the ones of the rest are those of the mask.
 -- Assumes nothing.
-use Prim.Native.Nat.{◌+◌, ◌≤◌, ◌-◌, ◌/◌}
-use mathlib.Core.Path.{◌≡◌, ap}
-use native.Mathlib.Omega.{arith}
-use borrow.Author.Rules.{rules}
+use Prim.Native.Nat.{◌+◌, ◌≤◌, ◌-◌}
+use mathlib.Core.Path.{◌≡◌}
 use Rattle.pots.specs.Settle.{ones}
-use Rattle.laws.proofs.Bits.{ones_step, ones_le, ones_none}
 use Rattle.pots.proofs.settle.count.Given as goal
 
 abbrev pub invariant-loop-i : goal.invariant-loop-i

@@ -4,7 +4,6 @@ use Prim.Native.Nat.{ℕ, ◌-◌, min}
 use mathlib.Core.Path.{ap, ◌∙◌}
 use native.Mathlib.Omega.{arith}
 use lib.Dec.{eqb}
-use borrow.Author.Rules.{rules}
 use Rattle.laws.specs.Tests.{pick}
 use Rattle.pots.proofs.Settling.{fee_within}
 use Rattle.pots.proofs.settle.dropped.Goals as goal

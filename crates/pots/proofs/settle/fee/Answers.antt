@@ -1,6 +1,5 @@
 -- `fee` meets its contract.
 -- Assumes nothing.
-use borrow.Author.Rules.{rules}
 use Rattle.pots.specs.Settle.{fee_of}
 use Rattle.pots.proofs.settle.fee.Goals as goal
 

@@ -1,7 +1,6 @@
 -- `less` meets its contract.
 -- Assumes nothing.
 use native.Mathlib.Omega.{arith}
-use borrow.Author.Rules.{rules}
 use Rattle.pots.proofs.Contest.{has_one, has_none}
 use Rattle.pots.proofs.settle.less.Goals as goal
 

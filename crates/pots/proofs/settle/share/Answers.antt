@@ -1,7 +1,6 @@
 -- `share` meets its contract.
 -- Assumes nothing.
 use native.Mathlib.Omega.{arith}
-use borrow.Author.Rules.{rules}
 use borrow.Author.Tests.{le-leb, lt-leb}
 use Rattle.pots.proofs.settle.share.Goals as goal
 

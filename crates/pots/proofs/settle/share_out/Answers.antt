@@ -1,10 +1,10 @@
 -- `share_out` meets its contract. The invariant: what is written and the shares still to come are those of all.
 -- Assumes nothing.
-use Prim.Native.Nat.{◌+◌, ◌≤◌, ◌-◌}
-use mathlib.Core.Path.{◌≡◌, refl, sym, ◌∙◌, ap₂}
-use mathlib.Core.List.{◌∷◌, ◌++◌}
+use Prim.Native.Nat.{◌+◌}
+use mathlib.Core.Path.{refl, sym, ◌∙◌, ap₂}
+use mathlib.Core.List.{◌∷◌}
 use borrow.Author.Rules.{rules}
-use lib.ListN.{length, drop, take, length-set}
+use lib.ListN.{drop, length-set}
 use Rattle.pots.specs.Settle.{share_out}
 use Rattle.laws.proofs.Places.{front_turn, front_done}
 use Rattle.pots.proofs.settle.share_out.Goals as goal

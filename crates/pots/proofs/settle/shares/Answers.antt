@@ -2,7 +2,6 @@
 -- Assumes nothing.
 use Prim.Native.Nat.{◌-◌, ◌%◌, ◌/◌}
 use mathlib.Core.Path.{ap, ◌∙◌, ap₂}
-use borrow.Author.Rules.{rules}
 use native.Mathlib.Nat.{le_trans, div-le_self}
 use Rattle.pots.specs.Settle.{turned, share_out, shares_of}
 use Rattle.pots.proofs.settle.shares.Goals as goal

@@ -1,6 +1,5 @@
 -- `uncut` meets its contract.
 -- Assumes nothing.
-use borrow.Author.Rules.{rules}
 use Rattle.pots.specs.Settle.{uncut_of}
 use Rattle.pots.proofs.settle.uncut.Goals as goal
 

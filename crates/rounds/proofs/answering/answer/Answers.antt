@@ -2,7 +2,6 @@
 use Rattle.rounds.proofs.Lengths.{line_most, answer_good, answer_bad}
 use Rattle.rounds.specs.RoundAnswer.{key_code}
 use native.Mathlib.Omega.{arith}
-use borrow.Author.Rules.{rules}
 use Rattle.rounds.proofs.answering.answer.Goals as goal
 
 pub put_outcome-requires : goal.put_outcome-requires

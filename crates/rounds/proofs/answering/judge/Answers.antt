@@ -1,7 +1,6 @@
 -- `rounds::answering::judge` meets its contract. Assumes nothing.
 use Rattle.rounds.specs.RoundText.{judged_of}
 use mathlib.Core.Path.{sym, ◌∙◌}
-use borrow.Author.Rules.{rules}
 use Rattle.rounds.proofs.answering.judge.Goals as goal
 
 pub returns-then-is_choice : goal.returns-then-is_choice

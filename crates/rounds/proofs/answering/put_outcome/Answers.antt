@@ -3,7 +3,6 @@ use Rattle.rounds.proofs.Lengths.{line_most, code_small, paid_bytes, two_bytes, 
 use Rattle.rounds.specs.RoundAnswer.{key_code}
 use Rattle.writing.proofs.Sheets.{then}
 use native.Mathlib.Omega.{arith}
-use borrow.Author.Rules.{rules}
 use Rattle.rounds.proofs.answering.put_outcome.Goals as goal
 
 pub write_number_line-a-requires : goal.write_number_line-a-requires

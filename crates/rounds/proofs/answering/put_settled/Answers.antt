@@ -2,7 +2,6 @@
 use Rattle.rounds.specs.RoundAnswer.{settled_bytes}
 use Rattle.writing.proofs.Sheets.{then}
 use native.Mathlib.Omega.{arith}
-use borrow.Author.Rules.{rules}
 use Rattle.rounds.proofs.answering.put_settled.Goals as goal
 
 pub put_seven-a-requires : goal.put_seven-a-requires

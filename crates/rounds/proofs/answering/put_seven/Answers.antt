@@ -3,7 +3,6 @@ use Rattle.rounds.proofs.Lengths.{line_most}
 use Rattle.rounds.specs.RoundAnswer.{seven_bytes, key_dealer}
 use Rattle.writing.proofs.Sheets.{then}
 use native.Mathlib.Omega.{arith}
-use borrow.Author.Rules.{rules}
 use Rattle.rounds.proofs.answering.put_seven.Goals as goal
 
 pub put_two-a-requires : goal.put_two-a-requires

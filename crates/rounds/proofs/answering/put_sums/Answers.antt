@@ -2,7 +2,6 @@
 use Rattle.rounds.specs.RoundAnswer.{sums_bytes}
 use Rattle.writing.proofs.Sheets.{then}
 use native.Mathlib.Omega.{arith}
-use borrow.Author.Rules.{rules}
 use Rattle.rounds.proofs.answering.put_sums.Goals as goal
 
 pub put_two-a-requires : goal.put_two-a-requires

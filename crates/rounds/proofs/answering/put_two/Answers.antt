@@ -3,7 +3,6 @@ use Rattle.rounds.proofs.Lengths.{line_most}
 use Rattle.rounds.specs.RoundAnswer.{two_bytes}
 use Rattle.writing.proofs.Sheets.{then}
 use native.Mathlib.Omega.{arith}
-use borrow.Author.Rules.{rules}
 use Rattle.rounds.proofs.answering.put_two.Goals as goal
 
 pub write_number_line-at-requires : goal.write_number_line-at-requires

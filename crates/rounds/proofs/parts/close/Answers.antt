@@ -2,7 +2,6 @@
 use Rattle.rounds.proofs.Keeps.{close_none, close_some}
 use native.Mathlib.Omega.{arith}
 use mathlib.Core.Path.{refl}
-use borrow.Author.Rules.{rules}
 use Rattle.rounds.proofs.parts.close.Goals as goal
 
 pub returns-then-e-eq0 : goal.returns-then-e-eq0

@@ -1,7 +1,6 @@
 -- `feed` meets its contract.
 use Rattle.rounds.proofs.InPlace.{here_left, here_kept, here_wrote, here_used}
 use mathlib.Core.Path.{sym, ◌∙◌}
-use borrow.Author.Rules.{rules}
 use Rattle.rounds.proofs.parts.feed.Goals as goal
 
 pub returns-then-s : goal.returns-then-s

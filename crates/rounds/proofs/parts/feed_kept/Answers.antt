@@ -1,7 +1,6 @@
 -- `rounds::parts::feed_kept` meets its contract. Assumes nothing.
 use Rattle.rounds.proofs.Keeps.{fed_kept, fed_whole}
 use native.Mathlib.Omega.{arith}
-use borrow.Author.Rules.{rules}
 use Rattle.rounds.proofs.parts.feed_kept.Goals as goal
 
 pub returns-then-n-lt16 : goal.returns-then-n-lt16

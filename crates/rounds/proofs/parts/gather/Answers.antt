@@ -1,11 +1,10 @@
 -- `rounds::parts::gather` meets its contract. Assumes nothing.
 use Rattle.rounds.proofs.Keeps.{turn_on, turn_stop, turn_end}
-use Rattle.rounds.specs.RoundParts.{state_of, gather_of, Held}
+use Rattle.rounds.specs.RoundParts.{state_of}
 use borrow.Author.Rules.{rules}
 use native.Mathlib.Omega.{arith}
-use lib.ListN.{length, drop}
-use Prim.Native.Nat.{◌-◌, ◌≤◌}
-use mathlib.Core.Path.{◌≡◌, refl}
+use Prim.Native.Nat.{◌-◌}
+use mathlib.Core.Path.{refl}
 use Rattle.rounds.proofs.parts.gather.Goals as goal
 
 pub loop-i-init : goal.loop-i-init

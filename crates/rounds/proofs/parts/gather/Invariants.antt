@@ -1,11 +1,8 @@
 -- `rounds::parts::gather` meets its contract. Assumes nothing.
-use Rattle.rounds.proofs.Keeps.{turn_on, turn_stop, turn_end}
 use Rattle.rounds.specs.RoundParts.{state_of, gather_of, Held}
-use borrow.Author.Rules.{rules}
-use native.Mathlib.Omega.{arith}
 use lib.ListN.{length, drop}
 use Prim.Native.Nat.{◌-◌, ◌≤◌}
-use mathlib.Core.Path.{◌≡◌, refl}
+use mathlib.Core.Path.{◌≡◌}
 use Rattle.rounds.proofs.parts.gather.Given as goal
 
 abbrev pub invariant-loop-i : goal.invariant-loop-i

@@ -1,5 +1,4 @@
 -- `is_empty` meets its contract.
-use borrow.Author.Rules.{rules}
 use Rattle.rounds.proofs.parts.is_empty.Goals as goal
 
 pub returns : goal.returns

@@ -1,7 +1,6 @@
 -- `rounds::parts::keep` meets its contract. Assumes nothing.
 use Rattle.rounds.proofs.Keeps.{keep_end, keep_on, keep_not}
 use native.Mathlib.Omega.{arith}
-use borrow.Author.Rules.{rules}
 use Rattle.rounds.proofs.parts.keep.Goals as goal
 
 pub returns-then-b-eq10 : goal.returns-then-b-eq10

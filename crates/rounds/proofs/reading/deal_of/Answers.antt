@@ -1,6 +1,5 @@
 -- `rounds::reading::deal_of` meets its contract. Assumes nothing.
 use Rattle.rounds.specs.RoundText.{deal_of}
-use borrow.Author.Rules.{rules}
 use Rattle.rounds.proofs.reading.deal_of.Goals as goal
 
 pub returns : goal.returns

@@ -1,6 +1,5 @@
 -- `rounds::reading::is_choice` meets its contract. Assumes nothing.
 use Rattle.rounds.specs.RoundText.{is_choice}
-use borrow.Author.Rules.{rules}
 use Rattle.rounds.proofs.reading.is_choice.Goals as goal
 
 pub returns : goal.returns

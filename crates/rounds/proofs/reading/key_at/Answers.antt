@@ -3,7 +3,6 @@ use Rattle.paper.proofs.Rows.{past, only}
 use native.Mathlib.Omega.{arith}
 use Prim.Native.Nat.{zero-le, ◌≤◌}
 use mathlib.Core.Path.{refl}
-use borrow.Author.Rules.{rules}
 use Rattle.rounds.proofs.reading.key_at.Goals as goal
 
 pub returns-in-0 : goal.returns-in-0

@@ -5,7 +5,6 @@ use lib.ListN.{length-drop, length, take, drop}
 use native.Mathlib.Omega.{arith}
 use mathlib.Core.Path.{ap}
 use Prim.Native.Nat.{◌-◌}
-use borrow.Author.Rules.{rules}
 use Rattle.rounds.proofs.reading.read_line.Goals as goal
 
 pub slice_bounds-number_of-end : goal.slice_bounds-number_of-end

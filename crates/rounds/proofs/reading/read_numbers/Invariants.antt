@@ -1,15 +1,12 @@
 -- `rounds::reading::read_numbers` meets its contract. Assumes nothing.
-use Rattle.rounds.proofs.Blocks.{good_turn, value_turn, used_turn, good_done, value_done, used_done}
 use Rattle.rounds.specs.RoundText.{keys, readings, all_values}
 use Rattle.text.specs.Line.{after_lines}
 use Rattle.text.specs.TableSheet.{value_in}
 use Rattle.laws.specs.Tests.{both}
-use borrow.Author.Rules.{rules}
 use lib.ListN.{length, take, drop}
-use native.Mathlib.Omega.{arith}
 use Prim.Native.Nat.{◌-◌, ◌≤◌}
 use mathlib.Core.List.{◌++◌, map}
-use mathlib.Core.Path.{◌≡◌, refl}
+use mathlib.Core.Path.{◌≡◌}
 use Rattle.rounds.proofs.reading.read_numbers.Given as goal
 
 abbrev pub invariant-loop-k : goal.invariant-loop-k

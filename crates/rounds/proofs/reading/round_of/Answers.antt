@@ -1,6 +1,5 @@
 -- `rounds::reading::round_of` meets its contract. Assumes nothing.
 use Rattle.rounds.specs.RoundText.{round_of}
-use borrow.Author.Rules.{rules}
 use Rattle.rounds.proofs.reading.round_of.Goals as goal
 
 pub returns : goal.returns

@@ -3,7 +3,6 @@ use mathlib.Core.Path.{ap}
 use native.Mathlib.Omega.{arith}
 use Rattle.lines.specs.declared.Fill.{Fill}
 use Rattle.seen.proofs.Feeds.{block_seen}
-use borrow.Author.Rules.{rules}
 use Rattle.seen.proofs.feed.after_block.Goals as goal
 
 pub returns : goal.returns

@@ -1,6 +1,5 @@
 -- `after_lines` meets its contract, by its test.
 use Rattle.seen.proofs.Feeds.{lines_block, lines_sheet}
-use borrow.Author.Rules.{rules}
 use Rattle.seen.proofs.feed.after_lines.Goals as goal
 
 pub returns-then-s : goal.returns-then-s

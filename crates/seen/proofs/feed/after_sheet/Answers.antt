@@ -2,7 +2,6 @@
 use mathlib.Core.Path.{sym, ap, ◌∙◌}
 use Rattle.desk.proofs.Opened.{opened_is}
 use Rattle.seen.specs.Seen.{opened_by, after_sheet}
-use borrow.Author.Rules.{rules}
 use Rattle.seen.proofs.feed.after_sheet.Goals as goal
 
 pub good_sheet-requires : goal.good_sheet-requires

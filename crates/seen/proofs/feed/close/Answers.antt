@@ -1,6 +1,5 @@
 -- `close` meets its contract: a bad sheet, nothing kept, a block that is not whole, and a sheet that is not whole.
 use Rattle.seen.proofs.Feeds.{close_shut, close_none, close_block, close_sheet}
-use borrow.Author.Rules.{rules}
 use Rattle.seen.proofs.feed.close.Goals as goal
 
 pub returns-then-s : goal.returns-then-s

@@ -1,6 +1,5 @@
 -- `ends_open` meets its contract, by its test.
 use Rattle.seen.proofs.Feeds.{ends_shut, ends_else}
-use borrow.Author.Rules.{rules}
 use Rattle.seen.proofs.feed.ends_open.Goals as goal
 
 pub returns-then-s : goal.returns-then-s

@@ -3,7 +3,6 @@ use mathlib.Core.Path.{sym, subst}
 use native.Mathlib.Omega.{arith}
 use Rattle.seen.specs.Seen.{Held}
 use Rattle.seen.proofs.Feeds.{fed_shut, buffer-is, fed_kept, fed_whole}
-use borrow.Author.Rules.{rules}
 use Rattle.seen.proofs.feed.feed.Goals as goal
 
 pub returns-then-s : goal.returns-then-s

@@ -3,7 +3,6 @@ use mathlib.Core.Path.{ap}
 use native.Mathlib.Omega.{arith}
 use Rattle.paper.proofs.Sheets.{stand_in_good}
 use Rattle.lines.specs.declared.Fill.{Fill}
-use borrow.Author.Rules.{rules}
 use Rattle.seen.proofs.feed.start.Goals as goal
 
 pub new_table-t-requires : goal.new_table-t-requires

@@ -1,7 +1,6 @@
 -- `least_for` meets its contract: none where the right to raise is spent or the whole stack is not above the mark; else the lesser of a full lift and the whole stack.
 use native.Mathlib.Omega.{arith}
 use Rattle.seen.proofs.Laws.{least_spent, least_short, least_is}
-use borrow.Author.Rules.{rules}
 use Rattle.seen.proofs.seat.least_for.Goals as goal
 
 pub returns-then-c : goal.returns-then-c

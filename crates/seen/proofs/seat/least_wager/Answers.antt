@@ -5,7 +5,6 @@ use native.Mathlib.Omega.{arith}
 use Rattle.chairs.specs.declared.Chair.{Chair}
 use Rattle.chairs.proofs.Laws.{chips_at}
 use Rattle.seen.specs.Seats.{least_wager}
-use borrow.Author.Rules.{rules}
 use Rattle.seen.proofs.seat.least_wager.Goals as goal
 
 pub least_for-requires : goal.least_for-requires

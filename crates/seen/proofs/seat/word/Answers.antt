@@ -1,6 +1,5 @@
 -- `word` meets its contract, by its tests.
 use Rattle.seen.specs.Seats.{word_of}
-use borrow.Author.Rules.{rules}
 use Rattle.seen.proofs.seat.word.Goals as goal
 
 pub returns : goal.returns

@@ -1,6 +1,5 @@
 -- `after` meets its contract, field by field.
 use Rattle.seen.specs.Told.{told_after}
-use borrow.Author.Rules.{rules}
 use Rattle.seen.proofs.told.after.Goals as goal
 
 pub returns : goal.returns

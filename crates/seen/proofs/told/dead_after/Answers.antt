@@ -1,7 +1,6 @@
 -- `dead_after` meets its contract, by its tests.
 use mathlib.Core.Path.{sym, ◌∙◌}
 use Rattle.seen.proofs.Laws.{dead_opens, dead_kills, dead_stays}
-use borrow.Author.Rules.{rules}
 use Rattle.seen.proofs.told.dead_after.Goals as goal
 
 pub returns-then-both : goal.returns-then-both

@@ -1,6 +1,5 @@
 -- `paid_after` meets its contract, by its tests.
 use Rattle.seen.proofs.Laws.{paid_settled, paid_opened, paid_old}
-use borrow.Author.Rules.{rules}
 use Rattle.seen.proofs.told.paid_after.Goals as goal
 
 pub returns-then-paid : goal.returns-then-paid

@@ -1,5 +1,4 @@
 -- `said` meets its contract, form by form of a block.
-use borrow.Author.Rules.{rules}
 use Rattle.seen.proofs.told.said.Goals as goal
 
 pub returns-in-Raw : goal.returns-in-Raw

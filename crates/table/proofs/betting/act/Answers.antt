@@ -5,14 +5,13 @@ use Rattle.table.proofs.Standing.{seat_within}
 use Rattle.table.specs.State.{seat_of}
 use Rattle.paper.specs.declared.Numbers.{Numbers}
 use Rattle.chairs.proofs.Above.{seats_put}
-use Rattle.chairs.proofs.Laws.{sweep_to, chips_at}
+use Rattle.chairs.proofs.Laws.{chips_at}
 use Rattle.chairs.specs.Sweep.{Again}
 use Rattle.chairs.specs.declared.Chair.{Chair}
 use Rattle.chairs.specs.Chairs.{again_of}
-use borrow.Author.Rules.{rules}
 use native.Mathlib.Omega.{arith}
 use mathlib.Core.Path.{◌≡◌, refl, ap, ◌∙◌}
-use Prim.Native.Nat.{◌+◌, ◌-◌, ◌≤◌}
+use Prim.Native.Nat.{◌+◌, ◌-◌}
 use Rattle.table.proofs.betting.act.Goals as goal
 
 pub place-i-requires : goal.place-i-requires

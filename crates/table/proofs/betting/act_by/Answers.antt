@@ -1,6 +1,5 @@
 -- `act_by` meets its contract.
 use mathlib.Core.Path.{refl}
-use borrow.Author.Rules.{rules}
 use Rattle.table.proofs.betting.act_by.Goals as goal
 
 pub returns-then-ok : goal.returns-then-ok

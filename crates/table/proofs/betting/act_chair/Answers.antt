@@ -1,7 +1,6 @@
 -- `act_chair` meets its contract.
 use borrow.Enum.Refused.{opened}
 use Rattle.table.proofs.Acts.{no_act, no_acted}
-use borrow.Author.Rules.{rules}
 use Rattle.table.proofs.betting.act_chair.Goals as goal
 
 pub returns-in-Fold : goal.returns-in-Fold

@@ -3,7 +3,6 @@ use borrow.Enum.Refused.{opened}
 use Rattle.table.proofs.Acts.{no_act}
 use mathlib.Core.Path.{sym, ◌∙◌}
 use mathlib.Core.Bool.{true≢false}
-use borrow.Author.Rules.{rules}
 use Rattle.table.proofs.betting.act_code.Goals as goal
 
 pub turn_code-requires : goal.turn_code-requires

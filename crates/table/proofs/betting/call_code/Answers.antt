@@ -1,6 +1,5 @@
 -- `call_code` meets its contract.
 use Rattle.table.specs.Betting.{call_code}
-use borrow.Author.Rules.{rules}
 use Rattle.table.proofs.betting.call_code.Goals as goal
 
 pub returns : goal.returns

@@ -1,6 +1,5 @@
 -- `check_code` meets its contract.
 use Rattle.table.specs.Betting.{check_code}
-use borrow.Author.Rules.{rules}
 use Rattle.table.proofs.betting.check_code.Goals as goal
 
 pub returns : goal.returns

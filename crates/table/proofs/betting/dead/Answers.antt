@@ -3,7 +3,6 @@ use Rattle.table.proofs.Arms.{refused_by, applied_by}
 use Rattle.table.proofs.Standing.{seat_within}
 use Rattle.paper.specs.declared.Entry.TheVariants.{Dead}
 use mathlib.Core.Path.{◌∙◌}
-use borrow.Author.Rules.{rules}
 use Rattle.table.proofs.betting.dead.Goals as goal
 
 pub returns-then-k-ne-TAKEN : goal.returns-then-k-ne-TAKEN

@@ -1,6 +1,5 @@
 -- `dead_code` meets its contract.
 use Rattle.table.specs.Betting.{dead_code}
-use borrow.Author.Rules.{rules}
 use Rattle.table.proofs.betting.dead_code.Goals as goal
 
 pub returns : goal.returns

@@ -2,7 +2,6 @@
 use mathlib.Core.Path.{◌∙◌}
 use Rattle.table.specs.Betting.{live_hands, only_with_chips}
 use Rattle.table.proofs.Acts.{owing_is}
-use borrow.Author.Rules.{rules}
 use Rattle.table.proofs.betting.first_owing.Goals as goal
 
 pub returns : goal.returns

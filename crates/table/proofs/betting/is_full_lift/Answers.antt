@@ -1,5 +1,4 @@
 -- `is_full_lift` meets its contract.
-use borrow.Author.Rules.{rules}
 use Rattle.table.proofs.betting.is_full_lift.Goals as goal
 
 pub returns : goal.returns

@@ -1,7 +1,6 @@
 -- `killed` meets its contract.
 use Rattle.table.specs.Betting.{dead_to}
 use Rattle.chairs.proofs.Above.{seats_put}
-use borrow.Author.Rules.{rules}
 use Rattle.table.proofs.betting.killed.Goals as goal
 
 pub turn_after-next-requires : goal.turn_after-next-requires

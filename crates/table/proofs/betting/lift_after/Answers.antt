@@ -1,5 +1,4 @@
 -- `lift_after` meets its contract.
-use borrow.Author.Rules.{rules}
 use Rattle.table.proofs.betting.lift_after.Goals as goal
 
 pub returns : goal.returns

@@ -1,6 +1,5 @@
 -- `lives` meets its contract.
 use Rattle.table.specs.Betting.{live_hands}
-use borrow.Author.Rules.{rules}
 use Rattle.table.proofs.betting.lives.Goals as goal
 
 pub returns : goal.returns

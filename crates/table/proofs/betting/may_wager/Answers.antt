@@ -1,6 +1,5 @@
 -- `may_wager` meets its contract.
 use Rattle.table.specs.Betting.{is_wager}
-use borrow.Author.Rules.{rules}
 use Rattle.table.proofs.betting.may_wager.Goals as goal
 
 pub returns : goal.returns

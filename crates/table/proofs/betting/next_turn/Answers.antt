@@ -3,7 +3,6 @@ use Rattle.table.proofs.Acts.{owing_is}
 use Rattle.table.specs.State.{with_chairs, with_mark}
 use Rattle.table.specs.Betting.{live_hands, only_with_chips}
 use mathlib.Core.Path.{◌∙◌}
-use borrow.Author.Rules.{rules}
 use Rattle.table.proofs.betting.next_turn.Goals as goal
 
 pub returns-then-ok : goal.returns-then-ok

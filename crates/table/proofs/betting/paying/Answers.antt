@@ -1,5 +1,4 @@
 -- `paying` meets its contract.
-use borrow.Author.Rules.{rules}
 use Rattle.table.proofs.betting.paying.Goals as goal
 
 pub returns : goal.returns

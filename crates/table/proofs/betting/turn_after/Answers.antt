@@ -1,6 +1,5 @@
 -- `turn_after` meets its contract.
 use Rattle.table.specs.Betting.{turn_after}
-use borrow.Author.Rules.{rules}
 use Rattle.table.proofs.betting.turn_after.Goals as goal
 
 pub returns : goal.returns

@@ -1,6 +1,5 @@
 -- `turn_code` meets its contract.
 use Rattle.table.specs.Betting.{turn_code}
-use borrow.Author.Rules.{rules}
 use Rattle.table.proofs.betting.turn_code.Goals as goal
 
 pub returns : goal.returns

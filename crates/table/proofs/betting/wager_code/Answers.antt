@@ -1,6 +1,5 @@
 -- `wager_code` meets its contract.
 use Rattle.table.specs.Betting.{wager_code}
-use borrow.Author.Rules.{rules}
 use Rattle.table.proofs.betting.wager_code.Goals as goal
 
 pub returns : goal.returns

@@ -3,13 +3,11 @@ use Rattle.table.proofs.Acts.{swept_by, sweep_turn, last_most, seats_by, board_t
 use Rattle.table.proofs.Sounds.{board_card}
 use Rattle.table.proofs.Laws.{board_room}
 use borrow.Author.Tests.{eqb-true}
-use Rattle.chairs.proofs.Laws.{sweep_to}
 use Rattle.chairs.specs.Sweep.{Round}
 use Rattle.chairs.specs.Chairs.{rounded_of}
-use borrow.Author.Rules.{rules}
 use native.Mathlib.Omega.{arith}
 use mathlib.Core.Path.{◌≡◌, refl, sym, ◌∙◌}
-use Prim.Native.Nat.{◌-◌, ◌≤◌}
+use Prim.Native.Nat.{◌-◌}
 use Rattle.table.proofs.dealing.board.Goals as goal
 
 pub board_by-d-requires : goal.board_by-d-requires

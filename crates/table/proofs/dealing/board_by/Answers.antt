@@ -1,5 +1,4 @@
 -- `board_by` meets its contract.
-use borrow.Author.Rules.{rules}
 use Rattle.table.proofs.dealing.board_by.Goals as goal
 
 pub card_added-requires : goal.card_added-requires

@@ -1,7 +1,6 @@
 -- `board_code` meets its contract.
 use Rattle.table.specs.Betting.{live_hands}
 use Rattle.table.specs.Dealing.{board_code, in_this_hand}
-use borrow.Author.Rules.{rules}
 use Rattle.table.proofs.dealing.board_code.Goals as goal
 
 pub returns : goal.returns

@@ -1,5 +1,4 @@
 -- `held_by` meets its contract.
-use borrow.Author.Rules.{rules}
 use Rattle.table.proofs.dealing.held_by.Goals as goal
 
 pub returns-then-ok : goal.returns-then-ok

@@ -9,7 +9,6 @@ use Rattle.paper.specs.Paper.{is_seat, is_card}
 use Rattle.laws.proofs.Tests.{both_true}
 use Rattle.laws.specs.Tests.{both}
 use mathlib.Core.Path.{refl}
-use borrow.Author.Rules.{rules}
 use Rattle.table.proofs.dealing.hole.Goals as goal
 
 pub place-i-requires : goal.place-i-requires

@@ -1,6 +1,5 @@
 -- `hole_code` meets its contract.
 use Rattle.table.specs.Dealing.{hole_code}
-use borrow.Author.Rules.{rules}
 use Rattle.table.proofs.dealing.hole_code.Goals as goal
 
 pub returns : goal.returns

@@ -1,5 +1,4 @@
 -- `lies` meets its contract.
-use borrow.Author.Rules.{rules}
 use Rattle.table.proofs.dealing.lies.Goals as goal
 
 pub returns : goal.returns

@@ -1,6 +1,5 @@
 -- `used` meets its contract.
 use Rattle.table.specs.Dealing.{in_this_hand}
-use borrow.Author.Rules.{rules}
 use Rattle.table.proofs.dealing.used.Goals as goal
 
 pub returns : goal.returns

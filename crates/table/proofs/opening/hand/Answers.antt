@@ -2,7 +2,6 @@
 use Rattle.table.proofs.Arms.{refused_by, applied_by}
 use Rattle.paper.specs.declared.Entry.TheVariants.{Hand}
 use mathlib.Core.Path.{sym, ◌∙◌}
-use borrow.Author.Rules.{rules}
 use Rattle.table.proofs.opening.hand.Goals as goal
 
 pub returns-then-k-ne-TAKEN : goal.returns-then-k-ne-TAKEN

@@ -1,6 +1,5 @@
 -- `hand_code` meets its contract.
 use Rattle.table.specs.Opening.{next_dealt_in, is_puck, hand_code}
-use borrow.Author.Rules.{rules}
 use Rattle.table.proofs.opening.hand_code.Goals as goal
 
 pub chip_seats-k-requires : goal.chip_seats-k-requires

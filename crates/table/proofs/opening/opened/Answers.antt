@@ -4,7 +4,6 @@ use native.Mathlib.Omega.{arith}
 use Rattle.table.specs.Opening.{next_dealt_in}
 use Rattle.table.proofs.Standing.{seat_within, next_within}
 use Rattle.table.proofs.Blinds.{dealt_fits, posts, two_seats, seats-are, opened_is}
-use borrow.Author.Rules.{rules}
 use Rattle.table.proofs.opening.opened.Goals as goal
 
 pub chip_seats-next-requires : goal.chip_seats-next-requires

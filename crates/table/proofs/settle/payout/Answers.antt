@@ -7,7 +7,6 @@ use mathlib.Core.List.{List, []}
 use native.Mathlib.Omega.{arith}
 use lib.ListN.{length, get_or, replicate}
 use borrow.Author.Tests.{eqb-true}
-use borrow.Author.Rules.{rules}
 use Rattle.laws.specs.Tests.{pick}
 use Rattle.laws.specs.Bits.{ones}
 use Rattle.laws.proofs.Sums.{map_length, zeros_at}

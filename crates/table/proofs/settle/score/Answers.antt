@@ -1,6 +1,5 @@
 -- `score` meets its contract: a hand that is not live with all its cards entered counts 0.
 use mathlib.Core.Path.{sym, ◌∙◌}
-use borrow.Author.Rules.{rules}
 use lib.Dec.{eqb}
 use borrow.Author.Tests.{eqb-true}
 use Rattle.laws.proofs.Tests.{both_true}

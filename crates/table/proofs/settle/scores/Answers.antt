@@ -1,10 +1,10 @@
 -- `scores` meets its contract.
 use borrow.Author.Rules.{rules}
-use Prim.Native.Nat.{◌+◌, ◌-◌, ◌≤◌}
+use Prim.Native.Nat.{◌+◌, ◌-◌}
 use mathlib.Core.Path.{◌≡◌, ap, ◌∙◌, refl, sym}
-use mathlib.Core.List.{◌∷◌, ◌++◌, map}
+use mathlib.Core.List.{◌∷◌, map}
 use native.Mathlib.Omega.{arith}
-use lib.ListN.{length, drop, take, length-set}
+use lib.ListN.{length, drop, length-set}
 use Rattle.laws.proofs.Places.{front_turn, front_done}
 use Rattle.chairs.proofs.Laws.{unread}
 use Rattle.table.specs.Settle.{score_of}

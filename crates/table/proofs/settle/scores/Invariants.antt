@@ -1,12 +1,8 @@
 -- `scores` meets its contract.
-use borrow.Author.Rules.{rules}
 use Prim.Native.Nat.{◌+◌, ◌-◌, ◌≤◌}
-use mathlib.Core.Path.{◌≡◌, ap, ◌∙◌, refl, sym}
-use mathlib.Core.List.{◌∷◌, ◌++◌, map}
-use native.Mathlib.Omega.{arith}
-use lib.ListN.{length, drop, take, length-set}
-use Rattle.laws.proofs.Places.{front_turn, front_done}
-use Rattle.chairs.proofs.Laws.{unread}
+use mathlib.Core.Path.{◌≡◌}
+use mathlib.Core.List.{◌++◌, map}
+use lib.ListN.{length, drop, take}
 use Rattle.table.specs.Settle.{score_of}
 use Rattle.table.proofs.settle.scores.Given as goal
 

@@ -4,7 +4,6 @@ use mathlib.Core.Path.{sym, ap, ◌∙◌}
 use mathlib.Core.Bool.{Bool}
 use mathlib.Core.List.{map}
 use lib.ListN.{replicate}
-use borrow.Author.Rules.{rules}
 use Rattle.laws.specs.Tests.{pick}
 use Rattle.table.specs.Settle.{score_of}
 use Rattle.table.proofs.settle.scores_needed.Goals as goal

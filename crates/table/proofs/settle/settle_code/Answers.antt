@@ -1,7 +1,6 @@
 -- `settle_code` meets its contract.
 use Rattle.table.specs.Betting.{live_hands}
 use Rattle.table.specs.Settle.{settle_code}
-use borrow.Author.Rules.{rules}
 use Rattle.table.proofs.settle.settle_code.Goals as goal
 
 pub returns : goal.returns

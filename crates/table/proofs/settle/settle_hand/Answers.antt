@@ -2,7 +2,6 @@
 use Rattle.table.proofs.Arms.{refused_by, applied_by}
 use Rattle.paper.specs.declared.Entry.TheVariants.{Settle}
 use mathlib.Core.Path.{refl}
-use borrow.Author.Rules.{rules}
 use Rattle.table.proofs.settle.settle_hand.Goals as goal
 
 pub returns-then-k-ne-TAKEN : goal.returns-then-k-ne-TAKEN

@@ -4,7 +4,6 @@ use Rattle.table.proofs.Laws.{room_at}
 use Rattle.table.proofs.Closing.{paid_above}
 use Rattle.table.specs.declared.table.Payout.{Payout}
 use Rattle.table.specs.Settle.{settled_to}
-use borrow.Author.Rules.{rules}
 use Rattle.table.proofs.settle.shut.Goals as goal
 
 pub close_all-ds-requires : goal.close_all-ds-requires

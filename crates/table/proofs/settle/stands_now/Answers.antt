@@ -2,7 +2,6 @@
 use native.Mathlib.Omega.{arith}
 use Rattle.table.proofs.Laws.{totals_within}
 use Rattle.table.specs.Settle.{pots_now, back_now}
-use borrow.Author.Rules.{rules}
 use Rattle.table.proofs.settle.stands_now.Goals as goal
 
 pub stand-requires : goal.stand-requires

@@ -8,7 +8,6 @@ use Rattle.paper.specs.Paper.{when}
 use Rattle.laws.specs.Tests.{either}
 use lib.Dec.{eqb}
 use mathlib.Core.Path.{refl, ap, ◌∙◌}
-use borrow.Author.Rules.{rules}
 use Rattle.table.proofs.sittings.leave.Goals as goal
 
 pub place-i-requires : goal.place-i-requires

@@ -1,5 +1,4 @@
 -- `leave_code` meets its contract.
-use borrow.Author.Rules.{rules}
 use Rattle.table.proofs.sittings.leave_code.Goals as goal
 
 pub returns : goal.returns

@@ -3,7 +3,6 @@ use Rattle.table.proofs.Arms.{seat_place, seat_read, sit_taken}
 use Rattle.paper.specs.Paper.{is_seat, between}
 use Rattle.laws.proofs.Tests.{both_true}
 use mathlib.Core.Path.{refl}
-use borrow.Author.Rules.{rules}
 use Rattle.table.proofs.sittings.sit.Goals as goal
 
 pub place-i-requires : goal.place-i-requires

@@ -1,6 +1,5 @@
 -- `sit_code` meets its contract.
 use Rattle.table.specs.Sittings.{sit_code}
-use borrow.Author.Rules.{rules}
 use Rattle.table.proofs.sittings.sit_code.Goals as goal
 
 pub returns : goal.returns

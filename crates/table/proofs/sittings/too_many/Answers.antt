@@ -3,7 +3,6 @@ use borrow.Author.Tests.{lt-ltb}
 use native.Mathlib.Omega.{arith}
 use mathlib.Core.Path.{sym}
 use Prim.Native.Nat.{◌+◌}
-use borrow.Author.Rules.{rules}
 use Rattle.table.proofs.sittings.too_many.Goals as goal
 
 pub returns-then-all-gt100000000 : goal.returns-then-all-gt100000000

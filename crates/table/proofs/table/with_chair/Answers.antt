@@ -1,5 +1,4 @@
 -- `with_chair` meets its contract.
-use borrow.Author.Rules.{rules}
 use Rattle.table.proofs.table.with_chair.Goals as goal
 
 pub returns : goal.returns

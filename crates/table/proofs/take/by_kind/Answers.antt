@@ -4,7 +4,6 @@ use Rattle.table.proofs.Arms.{refused_by}
 use native.Mathlib.Omega.{arith}
 use mathlib.Core.Path.{◌≡◌, refl}
 use Rattle.paper.specs.declared.Entry.TheVariants.{Void}
-use borrow.Author.Rules.{rules}
 use Rattle.table.proofs.take.by_kind.Goals as goal
 
 pub sit-requires : goal.sit-requires

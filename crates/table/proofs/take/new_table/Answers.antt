@@ -1,6 +1,5 @@
 -- `new_table` meets its contract.
 use Rattle.table.proofs.Standing.{sound_fresh}
-use borrow.Author.Rules.{rules}
 use Rattle.table.proofs.take.new_table.Goals as goal
 
 pub returns : goal.returns

@@ -1,7 +1,6 @@
 -- `teller::keys::has_key` meets its contract: a line's key. Assumes nothing.
 use Rattle.teller.proofs.Saying.{key_whole}
 use mathlib.Core.Path.{refl, sym, ◌∙◌}
-use borrow.Author.Rules.{rules}
 use Rattle.teller.proofs.keys.has_key.Goals as goal
 
 pub returns-then-k-line : goal.returns-then-k-line

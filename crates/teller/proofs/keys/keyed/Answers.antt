@@ -5,7 +5,6 @@ use Rattle.text.specs.TableSheet.{value_in}
 use lib.Dec.{lit<}
 use Prim.Native.Nat.{ℕ, ◌<◌, ◌^◌}
 use mathlib.Core.Path.{refl, sym, ap, ◌∙◌, subst}
-use borrow.Author.Rules.{rules}
 use Rattle.teller.proofs.keys.keyed.Goals as goal
 
 pub returns-then-has_key : goal.returns-then-has_key

@@ -6,7 +6,6 @@ use lib.Dec.{lit<}
 use lib.ListN.{length}
 use Prim.Native.Nat.{◌<◌, ◌^◌}
 use mathlib.Core.Path.{refl, sym, ◌∙◌, subst}
-use borrow.Author.Rules.{rules}
 use Rattle.teller.proofs.keys.said.Goals as goal
 
 pub returns-then-line-eq0 : goal.returns-then-line-eq0

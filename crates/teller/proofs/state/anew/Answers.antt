@@ -1,6 +1,5 @@
 -- `teller::state::anew` meets its contract: behind an answered block. Assumes nothing.
 use mathlib.Core.Path.{refl}
-use borrow.Author.Rules.{rules}
 use Rattle.teller.proofs.state.anew.Goals as goal
 
 pub returns : goal.returns

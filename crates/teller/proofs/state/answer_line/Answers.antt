@@ -2,7 +2,6 @@
 use Rattle.teller.specs.Keeping.{answer_line, listing}
 use borrow.Author.Tests.{eq-eqb, ne_eqb}
 use mathlib.Core.Path.{refl, ◌∙◌, ap}
-use borrow.Author.Rules.{rules}
 use Rattle.teller.proofs.state.answer_line.Goals as goal
 
 pub returns-then-l-eq-SITTING : goal.returns-then-l-eq-SITTING

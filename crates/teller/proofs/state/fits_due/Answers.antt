@@ -1,6 +1,5 @@
 -- `teller::state::fits_due` meets its contract: whether a line is the one that is due. Assumes nothing.
 use mathlib.Core.Path.{refl}
-use borrow.Author.Rules.{rules}
 use Rattle.teller.proofs.state.fits_due.Goals as goal
 
 pub returns : goal.returns

@@ -1,7 +1,6 @@
 -- `teller::state::give_line` meets its contract: a `give` line. Assumes nothing.
 use Rattle.teller.specs.Keeping.{give_line}
 use mathlib.Core.Path.{refl}
-use borrow.Author.Rules.{rules}
 use Rattle.teller.proofs.state.give_line.Goals as goal
 
 pub returns : goal.returns

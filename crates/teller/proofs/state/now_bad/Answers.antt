@@ -1,6 +1,5 @@
 -- `teller::state::now_bad` meets its contract: whether something is wrong. Assumes nothing.
 use mathlib.Core.Path.{refl}
-use borrow.Author.Rules.{rules}
 use Rattle.teller.proofs.state.now_bad.Goals as goal
 
 pub returns : goal.returns

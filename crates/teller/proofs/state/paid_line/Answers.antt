@@ -1,6 +1,5 @@
 -- `teller::state::paid_line` meets its contract: a `paid` line. Assumes nothing.
 use mathlib.Core.Path.{refl}
-use borrow.Author.Rules.{rules}
 use Rattle.teller.proofs.state.paid_line.Goals as goal
 
 pub returns : goal.returns

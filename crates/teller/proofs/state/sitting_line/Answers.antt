@@ -1,6 +1,5 @@
 -- `teller::state::sitting_line` meets its contract: a `sitting` line. Assumes nothing.
 use mathlib.Core.Path.{refl}
-use borrow.Author.Rules.{rules}
 use Rattle.teller.proofs.state.sitting_line.Goals as goal
 
 pub returns : goal.returns

@@ -1,7 +1,6 @@
 -- `teller::state::start` meets its contract: before the first line, which is sound. Assumes nothing.
 use Rattle.teller.proofs.Soundness.{sound_start}
 use mathlib.Core.Path.{refl}
-use borrow.Author.Rules.{rules}
 use Rattle.teller.proofs.state.start.Goals as goal
 
 pub returns : goal.returns

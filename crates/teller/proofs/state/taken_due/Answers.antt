@@ -2,7 +2,6 @@
 use Rattle.teller.specs.Keeping.{taken_due}
 use borrow.Author.Tests.{eq-eqb, ne_eqb}
 use mathlib.Core.Path.{refl, ◌∙◌}
-use borrow.Author.Rules.{rules}
 use Rattle.teller.proofs.state.taken_due.Goals as goal
 
 pub returns-then-s-eq-ROWS_DUE : goal.returns-then-s-eq-ROWS_DUE

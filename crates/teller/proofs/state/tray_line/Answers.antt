@@ -1,7 +1,6 @@
 -- `teller::state::tray_line` meets its contract: a line of the tray, or a fault. Assumes nothing.
 use Rattle.teller.specs.Keeping.{tray_line}
 use mathlib.Core.Path.{sym, ◌∙◌}
-use borrow.Author.Rules.{rules}
 use Rattle.teller.proofs.state.tray_line.Goals as goal
 
 pub returns-then-fits_due : goal.returns-then-fits_due

@@ -1,7 +1,6 @@
 -- `teller::state::within_due` meets its contract: its bounds. Assumes nothing.
 use borrow.Author.Tests.{eq-eqb, ne_eqb}
 use mathlib.Core.Path.{refl}
-use borrow.Author.Rules.{rules}
 use Rattle.teller.proofs.state.within_due.Goals as goal
 
 pub returns-then-due-eq-ROWS_DUE : goal.returns-then-due-eq-ROWS_DUE

@@ -1,12 +1,8 @@
 -- `digits_value` meets its contract: what is left, behind the value so far, is what the whole is.
-use borrow.Author.Rules.{rules}
-use mathlib.Core.Path.{◌≡◌, refl, sym, ◌∙◌}
+use mathlib.Core.Path.{◌≡◌}
 use Prim.Native.Nat.{◌-◌, ◌≤◌, ◌<◌, ◌^◌}
-use native.Mathlib.Numerals.{add-one}
 use lib.ListN.{length, drop}
 use Rattle.text.specs.Number.{digits_from}
-use Rattle.text.proofs.Numbers.{digits_stop, digits_on, digits_end, step_below, room}
-use native.Mathlib.Omega.{arith}
 use Rattle.text.proofs.decimal.digits_value.Given as goal
 
 abbrev pub invariant-loop-i : goal.invariant-loop-i

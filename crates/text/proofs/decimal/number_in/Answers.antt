@@ -1,6 +1,5 @@
 -- `number_in` meets its contract, by the count of the bytes and the first of them.
 -- `number_in` meets its contract, by the count of the bytes and the first of them.
-use borrow.Author.Rules.{rules}
 use mathlib.Core.Path.{sym, ◌∙◌}
 use Rattle.text.proofs.Numbers.{number_none, number_long, number_zero, number_led, number_digits}
 use native.Mathlib.Omega.{arith}

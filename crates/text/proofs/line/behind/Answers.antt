@@ -6,7 +6,6 @@ use lib.ListN.{length, drop, drop_of_length-le}
 use Prim.Native.Nat.{ℕ, suc, ◌+◌}
 use mathlib.Core.Path.{◌≡◌, sym, ap, ◌∙◌}
 use native.Mathlib.Omega.{arith}
-use borrow.Author.Rules.{rules}
 use Rattle.text.proofs.line.behind.Goals as goal
 
 pub returns-then-e-log : goal.returns-then-e-log

@@ -1,11 +1,8 @@
 -- `line_end` meets its contract: at each place passed, the place and the rest's line make the same end.
-use Rattle.text.proofs.Lines.{line_here, line_on, line_none}
 use Rattle.text.specs.Line.{line_len}
 use lib.ListN.{length, drop}
 use Prim.Native.Nat.{◌+◌, ◌-◌, ◌≤◌}
 use mathlib.Core.Path.{◌≡◌}
-use native.Mathlib.Omega.{arith}
-use borrow.Author.Rules.{rules}
 use Rattle.text.proofs.line.line_end.Given as goal
 
 abbrev pub invariant-loop-i : goal.invariant-loop-i

@@ -1,11 +1,8 @@
 -- `starts_with` meets its contract: what is left compares as the whole does.
-use borrow.Author.Rules.{rules}
-use mathlib.Core.Path.{◌≡◌, refl, sym, ◌∙◌}
+use mathlib.Core.Path.{◌≡◌}
 use Prim.Native.Nat.{◌-◌, ◌≤◌}
 use lib.ListN.{length, drop}
 use Rattle.text.specs.Line.{starts_with}
-use Rattle.text.proofs.Lines.{starts_end, starts_short, starts_differ, starts_on}
-use native.Mathlib.Omega.{arith}
 use Rattle.text.proofs.line.starts_with.Given as goal
 
 abbrev pub invariant-loop-i : goal.invariant-loop-i

@@ -1,7 +1,6 @@
 -- `value_of` meets its contract.
 use Rattle.text.proofs.Lines.{line_within, value_part}
 use native.Mathlib.Omega.{arith}
-use borrow.Author.Rules.{rules}
 use Rattle.text.proofs.line.value_of.Goals as goal
 
 pub value_start-v-requires : goal.value_start-v-requires

@@ -1,6 +1,5 @@
 -- `value_start` meets its contract.
 -- where the line was compared with the key: the line is ended, and what the test said
-use borrow.Author.Rules.{rules}
 use mathlib.Core.Path.{◌≡◌, sym, ap, ◌∙◌}
 use mathlib.Core.Bool.{true}
 use Prim.Native.Nat.{ℕ, ◌-◌}

@@ -1,6 +1,5 @@
 -- `after_sheet` meets its contract.
 use Rattle.text.specs.TableSheet.{sheet_end}
-use borrow.Author.Rules.{rules}
 use Rattle.text.proofs.sheet.after_sheet.Goals as goal
 
 pub returns : goal.returns

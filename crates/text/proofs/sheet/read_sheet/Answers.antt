@@ -4,7 +4,6 @@ use Rattle.paper.specs.Paper.{is_sheet}
 use Rattle.text.specs.TableSheet.{sheet_with}
 use mathlib.Core.Bool.{true, false}
 use mathlib.Core.Path.{◌≡◌, sym, ap, ◌∙◌}
-use borrow.Author.Rules.{rules}
 use Rattle.text.proofs.sheet.read_sheet.Goals as goal
 
 pub returns-then-is_sheet : goal.returns-then-is_sheet

@@ -1,6 +1,5 @@
 -- `sheet_number` meets its contract.
 use Rattle.text.proofs.SheetRows.{row, number_said}
-use borrow.Author.Rules.{rules}
 use Rattle.text.proofs.sheet.sheet_number.Goals as goal
 
 pub slice_bounds-read_key_number-end : goal.slice_bounds-read_key_number-end

@@ -1,5 +1,4 @@
 -- `value_at` meets its contract.
-use borrow.Author.Rules.{rules}
 use Rattle.text.proofs.sheet.value_at.Goals as goal
 
 pub returns : goal.returns

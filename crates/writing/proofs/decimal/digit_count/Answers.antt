@@ -1,11 +1,9 @@
 -- `digit_count` meets its contract: what was counted and what is left to count make the whole.
 use Rattle.text.proofs.Numbers.{count_last, count_none, count_on}
-use Rattle.text.specs.Number.{digits, digits_in}
-use lib.ListN.{length}
-use Prim.Native.Nat.{◌+◌, ◌-◌, ◌≤◌}
-use mathlib.Core.Path.{◌≡◌, refl}
+use Rattle.text.specs.Number.{digits}
+use Prim.Native.Nat.{◌+◌, ◌-◌}
+use mathlib.Core.Path.{refl}
 use native.Mathlib.Omega.{arith}
-use borrow.Author.Rules.{rules}
 use Rattle.writing.proofs.decimal.digit_count.Goals as goal
 
 pub loop-k-init : goal.loop-k-init

@@ -4,7 +4,6 @@ use native.Mathlib.Omega.{arith}
 use Rattle.writing.proofs.Pairs.{digits_four, digits_long, count_four, count_long}
 use Rattle.writing.proofs.Sheets.{then, same_bytes}
 use Rattle.text.proofs.Numbers.{count_most}
-use borrow.Author.Rules.{rules}
 use Rattle.writing.proofs.decimal.put_digits.Goals as goal
 
 pub put_four-requires : goal.put_four-requires

@@ -4,7 +4,6 @@ use native.Mathlib.Omega.{arith}
 use Rattle.writing.proofs.Pairs.{digits_two, count_two}
 use Rattle.writing.proofs.Sheets.{then, same_bytes}
 use Rattle.text.proofs.Numbers.{count_one, count_most}
-use borrow.Author.Rules.{rules}
 use Rattle.writing.proofs.decimal.put_five.Goals as goal
 
 pub put_one-requires : goal.put_one-requires

@@ -1,6 +1,5 @@
 -- `put_four` meets its contract: a pair behind a pair.
 use Rattle.writing.proofs.Sheets.{then}
-use borrow.Author.Rules.{rules}
 use Rattle.writing.proofs.decimal.put_four.Goals as goal
 
 pub returns : goal.returns

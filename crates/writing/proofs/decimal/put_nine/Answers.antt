@@ -5,7 +5,6 @@ use Rattle.text.proofs.Numbers.{count_most}
 use Rattle.writing.specs.Nine.{nine_digits}
 use Rattle.writing.proofs.Sheets.{then}
 use Rattle.writing.proofs.Nine.{zeros_wrote}
-use borrow.Author.Rules.{rules}
 use Rattle.writing.proofs.decimal.put_nine.Goals as goal
 
 pub overflow_sub-k : goal.overflow_sub-k

@@ -3,7 +3,6 @@ use Prim.Native.Nat.{◌+◌}
 use native.Mathlib.Omega.{arith}
 use Rattle.writing.proofs.Sheets.{push_first, same_bytes}
 use Rattle.text.proofs.Numbers.{digits_one}
-use borrow.Author.Rules.{rules}
 use Rattle.writing.proofs.decimal.put_one.Goals as goal
 
 pub returns : goal.returns

@@ -2,7 +2,6 @@
 use Prim.Native.Nat.{◌+◌, ◌/◌, ◌%◌}
 use native.Mathlib.Omega.{arith}
 use Rattle.writing.proofs.Sheets.{push, push_first}
-use borrow.Author.Rules.{rules}
 use Rattle.writing.proofs.decimal.put_pair.Goals as goal
 
 pub returns : goal.returns

@@ -4,7 +4,6 @@ use native.Mathlib.Omega.{arith}
 use Rattle.writing.proofs.Pairs.{digits_pair, digits_two, count_pair, count_two}
 use Rattle.writing.proofs.Sheets.{then, same_bytes}
 use Rattle.text.proofs.Numbers.{count_one}
-use borrow.Author.Rules.{rules}
 use Rattle.writing.proofs.decimal.put_three.Goals as goal
 
 pub put_one-requires : goal.put_one-requires

@@ -3,7 +3,6 @@ use mathlib.Core.Path.{refl}
 use native.Mathlib.Omega.{arith}
 use Rattle.text.proofs.Numbers.{count_most}
 use Rattle.text.proofs.SheetRows.{few_letters, line_long}
-use borrow.Author.Rules.{rules}
 use Rattle.writing.proofs.sheet.line_len.Goals as goal
 
 pub overflow_add-result : goal.overflow_add-result

@@ -1,6 +1,5 @@
 -- `put_line` meets its contract: the row of the code's table has the paper's key.
 use Rattle.text.proofs.SheetRows.{row}
-use borrow.Author.Rules.{rules}
 use Rattle.writing.proofs.sheet.put_line.Goals as goal
 
 pub slice_bounds-write_number_line-end : goal.slice_bounds-write_number_line-end

@@ -1,6 +1,5 @@
 -- `end_amount` meets its contract: one digit or two, or more of them, and the LF behind them.
 use Rattle.writing.proofs.Sheets.{then}
-use borrow.Author.Rules.{rules}
 use Rattle.writing.proofs.writer.end_amount.Goals as goal
 
 pub returns : goal.returns

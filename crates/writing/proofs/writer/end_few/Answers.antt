@@ -3,7 +3,6 @@ use Prim.Native.Nat.{◌<◌}
 use lib.ListN.{length, length-set}
 use native.Mathlib.Omega.{arith}
 use Rattle.writing.proofs.Pairs.{few_done, few_len}
-use borrow.Author.Rules.{rules}
 use Rattle.writing.proofs.writer.end_few.Goals as goal
 
 pub bounds-sheet-1 : goal.bounds-sheet-1

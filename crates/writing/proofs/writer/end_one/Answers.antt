@@ -2,7 +2,6 @@
 use native.Mathlib.Omega.{arith}
 use Rattle.writing.proofs.Sheets.{then}
 use Rattle.text.proofs.Numbers.{count_one}
-use borrow.Author.Rules.{rules}
 use Rattle.writing.proofs.writer.end_one.Goals as goal
 
 pub slice_bounds-put_byte-count : goal.slice_bounds-put_byte-count

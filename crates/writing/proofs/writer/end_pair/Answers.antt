@@ -1,7 +1,6 @@
 -- `end_pair` meets its contract: two digits and the LF.
 use Rattle.writing.proofs.Pairs.{digits_pair}
 use Rattle.writing.proofs.Sheets.{then, same_bytes}
-use borrow.Author.Rules.{rules}
 use Rattle.writing.proofs.writer.end_pair.Goals as goal
 
 pub returns : goal.returns

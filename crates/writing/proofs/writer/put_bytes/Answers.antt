@@ -2,8 +2,8 @@
 use borrow.Author.Rules.{rules}
 use mathlib.Core.Path.{◌≡◌, refl, ap, ◌∙◌}
 use mathlib.Core.List.{List}
-use Prim.Native.Nat.{ℕ, ◌-◌, ◌≤◌}
-use lib.ListN.{length, take, length-set}
+use Prim.Native.Nat.{ℕ, ◌-◌}
+use lib.ListN.{length, length-set}
 use lib.Seq.{take_all}
 use Rattle.writing.specs.AnswerSheet.{over}
 use Rattle.writing.proofs.Sheets.{copy_on}

@@ -3,7 +3,6 @@ use native.Mathlib.Omega.{arith}
 use Rattle.writing.proofs.Pairs.{count_pair}
 use Rattle.writing.proofs.Sheets.{then}
 use Rattle.text.proofs.Numbers.{count_one}
-use borrow.Author.Rules.{rules}
 use Rattle.writing.proofs.writer.put_end.Goals as goal
 
 pub end_one-requires : goal.end_one-requires

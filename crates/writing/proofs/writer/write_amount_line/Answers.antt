@@ -6,7 +6,6 @@ use Rattle.writing.proofs.Sheets.{then, same_bytes}
 use Rattle.text.proofs.Lines.{line_count}
 use Rattle.text.specs.Number.{digits}
 use Rattle.text.specs.Line.{number_line}
-use borrow.Author.Rules.{rules}
 use Rattle.writing.proofs.writer.write_amount_line.Goals as goal
 
 pub put_bytes-a-requires : goal.put_bytes-a-requires

@@ -1,5 +1,4 @@
 -- `write_nine_line` meets its contract: each writer writes behind the ones before it.
-use borrow.Author.Rules.{rules}
 use Rattle.writing.specs.Nine.{nine_line}
 use Rattle.writing.proofs.Nine.{nine_count, nine_is}
 use Rattle.writing.proofs.Sheets.{then}

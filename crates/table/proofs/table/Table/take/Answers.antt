@@ -1,7 +1,6 @@
 -- `take` meets its contract: what has a code already is judged as a void entry, which leaves the table; what is taken is applied and counted.
 use Rattle.table.proofs.Taking.{meant_kind, take_kept}
 use mathlib.Core.Path.{refl}
-use borrow.Author.Rules.{rules}
 use Rattle.table.proofs.table.Table.take.Goals as goal
 
 pub by_kind-done-requires : goal.by_kind-done-requires
