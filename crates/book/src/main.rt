@@ -9,11 +9,11 @@ ghost use Rattle.lines.specs.Kept.{kept_most};
 ghost use Rattle.ledger.specs.Keeping.{Held};
 ghost use Rattle.book.specs.Ready.{Ready};
 
+use argument::is_argument;
 use keeper::{Keeper, start, take_lines, take_one};
-use libc::{STDERR_FILENO, STDIN_FILENO, STDOUT_FILENO};
 use logs::copy::copy_sheet;
 use logs::{Put, write_entry};
-use output::flush;
+use output::{STDERR_FILENO, STDOUT_FILENO, flush, read_part};
 use paper::Sheet;
 use records::entry_in;
 use text::sheet::ROOM;
@@ -77,18 +77,24 @@ fn take_part(mut k: Keeper, buf: &mut [u8], log: &mut [u8], index: &mut [u8], pa
 }
 
 // One read, and the answers to it. A read that fails is no end of the input: then nothing more is said.
-fn read_some(mut k: Keeper, buf: &mut [u8], log: &mut [u8], index: &mut [u8]) -> Keeper
+fn read_some(
+    rt: &HostRuntime,
+    mut k: Keeper,
+    buf: &mut [u8],
+    log: &mut [u8],
+    index: &mut [u8],
+) -> Keeper
     requires { Ready k × (kept_most ≤ length buf.old) }
     ensures { Ready result }
 {
     let mut input = buffer();
-    let got = libc::read(STDIN_FILENO, &mut input);
-    if got <= 0 {
-        k.failed = got < 0;
+    let got = read_part(rt, &mut input);
+    if got.count == 0 {
+        k.failed = got.failed;
         k.more = false;
         return k;
     }
-    let n = io::count(got, &input);
+    let n = got.count;
     take_part(k, buf, log, index, &input[..n])
 }
 
@@ -104,14 +110,20 @@ fn turns_left(more: bool, turns: u64) -> u64
 }
 
 // Reads to the end of the input, or of a bad sheet. A proved loop has to end, so it counts its turns down from a number that no run uses up.
-fn read_all(as_log: bool, buf: &mut [u8], log: &mut [u8], index: &mut [u8]) -> Keeper
+fn read_all(
+    rt: &HostRuntime,
+    as_log: bool,
+    buf: &mut [u8],
+    log: &mut [u8],
+    index: &mut [u8],
+) -> Keeper
     requires { kept_most ≤ length buf.old }
     ensures { Ready result }
 {
     let mut k = start(as_log);
     let mut turns = u64::MAX;
     while turns > 0 {
-        k = read_some(k, buf, log, index);
+        k = read_some(rt, k, buf, log, index);
         turns = turns_left(k.more, turns);
     }
     k
@@ -187,18 +199,16 @@ fn end(k: Keeper, buf: &[u8], log: &mut [u8], index: &mut [u8])
 }
 
 // Whether the first argument is --log.
-fn asked_for_log() -> bool {
-    let mut word = [0u8; 16];
-    let n = os::arg(1, &mut word);
-    check::same(&word[..n], b"--log")
+fn asked_for_log(rt: &HostRuntime) -> bool {
+    is_argument(rt, 1, b"--log")
 }
 
 // The two lent buffers of the stored log: room for 4,096 records, and for 1,365 rows of 44 bytes, which is as many hands as so many entries can open.
-fn main() {
+fn main(rt: HostRuntime) {
     let mut buf = [0u8; ROOM];
     let mut log = log_buffer();
     let mut index = io::large_buffer();
-    let k = read_all(asked_for_log(), &mut buf, &mut log, &mut index);
+    let k = read_all(&rt, asked_for_log(&rt), &mut buf, &mut log, &mut index);
     if !k.failed {
         end(k, &buf, &mut log, &mut index);
     }

@@ -4,8 +4,7 @@
 ghost use Rattle.std.specs.Prelude.{◌≡◌, ◌≤◌, ◌<◌, length};
 ghost use Rattle.rounds.specs.RoundParts.{Held};
 
-use libc::{STDIN_FILENO, STDOUT_FILENO};
-use output::{ahead, flush};
+use output::{STDOUT_FILENO, ahead, flush, read_part};
 use rounds::{Fill, close, empty, feed};
 
 // Answers are written out where less than an answer's room, 216 bytes, is left behind them.
@@ -85,32 +84,32 @@ fn serve(m: Fill, buf: &mut [u8], part: &[u8]) -> Lap
 }
 
 // One read, and the answers to it.
-fn read_some(m: Fill, buf: &mut [u8]) -> Lap
+fn read_some(rt: &HostRuntime, m: Fill, buf: &mut [u8]) -> Lap
     requires { Held m × (544 ≤ length buf.old) }
     ensures { Held result.fill }
 {
     let mut input = io::large_buffer();
-    let got = libc::read(STDIN_FILENO, &mut input);
-    if got <= 0 {
+    let got = read_part(rt, &mut input);
+    if got.count == 0 {
         return Lap {
             fill: m,
             failed: false,
             more: false,
         };
     }
-    let n = io::count(got, &input);
+    let n = got.count;
     serve(m, buf, &input[..n])
 }
 
 // Reads to the end of the input. A proved loop has to end, so it counts its turns down from a number that no run uses up.
-fn read_all(buf: &mut [u8]) -> Lap
+fn read_all(rt: &HostRuntime, buf: &mut [u8]) -> Lap
     requires { 544 ≤ length buf.old }
     ensures { Held result.fill }
 {
     let mut fill = empty();
     let mut turns = u64::MAX;
     while turns > 0 {
-        let t = read_some(fill, buf);
+        let t = read_some(rt, fill, buf);
         let d = t.fill;
         fill = d;
         if !t.more {
@@ -134,9 +133,9 @@ fn end(m: Fill, buf: &[u8])
     io::write_all(STDOUT_FILENO, &out[0..n]);
 }
 
-fn main() {
+fn main(rt: HostRuntime) {
     let mut buf = [0u8; 544];
-    let t = read_all(&mut buf);
+    let t = read_all(&rt, &mut buf);
     if !t.failed {
         let m = t.fill;
         end(m, &buf);

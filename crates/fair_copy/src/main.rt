@@ -11,9 +11,8 @@ ghost use Rattle.renewal.specs.Renewing.{InSheet, given_most};
 
 use copier::{Copier, close, copy_on};
 use laws::both;
-use libc::{STDERR_FILENO, STDIN_FILENO, STDOUT_FILENO};
 use logs::copy::NOTE;
-use output::ahead;
+use output::{STDERR_FILENO, STDOUT_FILENO, ahead, read_part};
 use renewal::{ADDED_ROOM, MOST, Renewal, renew_on, write_added};
 use text::sheet::ROOM;
 
@@ -195,26 +194,26 @@ fn take_part(s: Renewal, c: Copier, buf: &mut [u8], part: &[u8]) -> Taken
 }
 
 // One read, and the copies of it. A read that fails is no end of the input: then nothing more is said.
-fn read_some(s: Renewal, c: Copier, buf: &mut [u8]) -> Taken
+fn read_some(rt: &HostRuntime, s: Renewal, c: Copier, buf: &mut [u8]) -> Taken
     requires { InSheet s × Held c × (kept_most ≤ length buf.old) }
     ensures { InSheet result.renewal × Held result.copier }
 {
     let mut input = io::large_buffer();
-    let got = libc::read(STDIN_FILENO, &mut input);
-    if got <= 0 {
+    let got = read_part(rt, &mut input);
+    if got.count == 0 {
         return Taken {
             renewal: s,
             copier: c,
-            failed: got < 0,
+            failed: got.failed,
             more: false,
         };
     }
-    let n = io::count(got, &input);
+    let n = got.count;
     take_part(s, c, buf, &input[..n])
 }
 
 // Reads to the end of the input. A proved loop has to end, so it counts its turns down from a number that no run uses up.
-fn read_all(buf: &mut [u8]) -> Taken
+fn read_all(rt: &HostRuntime, buf: &mut [u8]) -> Taken
     requires { kept_most ≤ length buf.old }
     ensures { InSheet result.renewal × Held result.copier }
 {
@@ -222,7 +221,7 @@ fn read_all(buf: &mut [u8]) -> Taken
     let mut copier = copier::start();
     let mut turns = u64::MAX;
     while turns > 0 {
-        let t = read_some(renewal, copier, buf);
+        let t = read_some(rt, renewal, copier, buf);
         let r = t.renewal;
         renewal = r;
         let d = t.copier;
@@ -277,9 +276,9 @@ fn end_sheet(s: Renewal, c: Copier, buf: &mut [u8]) -> Ended
     }
 }
 
-fn main() {
+fn main(rt: HostRuntime) {
     let mut buf = [0u8; ROOM];
-    let t = read_all(&mut buf);
+    let t = read_all(&rt, &mut buf);
     if !t.failed {
         let s = t.renewal;
         let c = t.copier;

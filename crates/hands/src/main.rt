@@ -12,8 +12,7 @@ ghost use Rattle.hands.specs.Answers.{WroteAt, number_bytes, rank_bytes, hand_by
 use argument::is_argument;
 use cards::{Hand, Reading, any_above, any_twice, best_hand};
 use laws::{both, either};
-use libc::{STDIN_FILENO, STDOUT_FILENO};
-use output::flush;
+use output::{STDOUT_FILENO, flush, read_part};
 
 // Answers are written out where less than an answer's room, 18 bytes, is left behind them.
 const ENOUGH: usize = 65500;
@@ -319,31 +318,31 @@ struct Lap {
 }
 
 // One read, and the answers to it.
-fn read_some(w: Wish, l: Line, cards: &mut [u8]) -> Lap
+fn read_some(rt: &HostRuntime, w: Wish, l: Line, cards: &mut [u8]) -> Lap
     requires { l.have ≤ length cards.old }
     ensures { result.line.have ≤ length cards.old }
 {
     let mut input = io::large_buffer();
-    let got = libc::read(STDIN_FILENO, &mut input);
-    if got <= 0 {
+    let got = read_part(rt, &mut input);
+    if got.count == 0 {
         return Lap {
             line: l,
             more: false,
         };
     }
-    let n = io::count(got, &input);
+    let n = got.count;
     let line = serve(w, l, cards, &input[..n]);
     Lap { line, more: true }
 }
 
 // Reads to the end of the input. A proved loop has to end, so it counts its turns down from a number that no run uses up.
-fn read_all(w: Wish, cards: &mut [u8]) -> Line
+fn read_all(rt: &HostRuntime, w: Wish, cards: &mut [u8]) -> Line
     ensures { result.have ≤ length cards.old }
 {
     let mut line = fresh();
     let mut turns = u64::MAX;
     while turns > 0 {
-        let t = read_some(w, line, cards);
+        let t = read_some(rt, w, line, cards);
         let d = t.line;
         line = d;
         if !t.more {
@@ -360,30 +359,30 @@ fn is_begun(l: Line) -> bool {
 }
 
 // Whether one of the three arguments is this word.
-fn is_given(word: &[u8]) -> bool {
+fn is_given(rt: &HostRuntime, word: &[u8]) -> bool {
     either(
-        is_argument(1, word),
-        either(is_argument(2, word), is_argument(3, word)),
+        is_argument(rt, 1, word),
+        either(is_argument(rt, 2, word), is_argument(rt, 3, word)),
     )
 }
 
 // The hands of the 32 cards have no places, and are of seven cards.
-fn wished() -> Wish {
-    let deck = if is_given(b"--short") { 32 } else { 52 };
+fn wished(rt: &HostRuntime) -> Wish {
+    let deck = if is_given(rt, b"--short") { 32 } else { 52 };
     Wish {
-        five: both(is_given(b"--five"), deck == 52),
+        five: both(is_given(rt, b"--five"), deck == 52),
         deck,
-        counted: is_given(b"--counted"),
-        place: both(is_given(b"--place"), deck == 52),
+        counted: is_given(rt, b"--counted"),
+        place: both(is_given(rt, b"--place"), deck == 52),
     }
 }
 
 // The last line may lack its LF.
-fn main() {
+fn main(rt: HostRuntime) {
     let mut cards = [0u8; 8];
     let mut out = [0u8; 18];
-    let w = wished();
-    let line = read_all(w, &mut cards);
+    let w = wished(&rt);
+    let line = read_all(&rt, w, &mut cards);
     if is_begun(line) {
         let n = answer(w, line, &mut cards, &mut out, 0);
         io::write_all(STDOUT_FILENO, &out[0..n]);

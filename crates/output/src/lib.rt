@@ -1,8 +1,41 @@
-// What the programs that go through their input part by part share: bytes that are gathered in a buffer and written out before it is full.
+// What the programs that go through their input part by part share: a part is read as it comes, and bytes are gathered in a buffer and written out before it is full.
 #![tactic(auto)]
 
-ghost use Rattle.std.specs.Prelude.{◌≡◌, ◌+◌, ◌≤◌, length, leb};
+ghost use Rattle.std.specs.Prelude.{◌≡◌, ◌+◌, ◌≤◌, length, leb, true};
 ghost use Rattle.laws.specs.Tests.{pick};
+
+use std::io::Read;
+
+// The numbers of the standard streams, by which the kit's `io` reads and writes.
+pub const STDIN_FILENO: i32 = 0;
+
+pub const STDOUT_FILENO: i32 = 1;
+
+pub const STDERR_FILENO: i32 = 2;
+
+// How many bytes one read gave, and whether it failed. At the end of the input, and where the read failed, there are none.
+#[derive(Clone, Copy)]
+pub struct Got {
+    pub count: usize,
+    pub failed: bool,
+}
+
+// One read of standard input, which puts what has come so far at the start of the buffer.
+pub fn read_part(rt: &HostRuntime, buf: &mut [u8]) -> Got
+    ensures within { result.count ≤ length buf.new }
+    ensures none { result.failed ≡ true → result.count ≡ 0 }
+{
+    match rt.stdin().read(buf) {
+        Ok(count) => Got {
+            count,
+            failed: false,
+        },
+        Err(_) => Got {
+            count: 0,
+            failed: true,
+        },
+    }
+}
 
 // How much is still to be written, and whether what was written could be.
 #[derive(Clone, Copy)]

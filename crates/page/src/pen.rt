@@ -2,7 +2,7 @@
 // written after the buffer was written out. So the page is as long as it likes, and the memory stays.
 ghost use Rattle.std.specs.Prelude.{◌≤◌, length};
 
-use libc::STDOUT_FILENO;
+use output::STDOUT_FILENO;
 use writing::put_bytes;
 
 #[derive(Clone, Copy)]

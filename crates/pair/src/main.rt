@@ -11,8 +11,7 @@ ghost use Rattle.pairs.specs.Pairs.{HeardTo};
 use argument::is_argument;
 use couple::{Pair, last_lines};
 use frames::Frame;
-use libc::{STDIN_FILENO, STDOUT_FILENO};
-use output::ahead;
+use output::{STDOUT_FILENO, ahead, read_part};
 use pairs::{close, feed_on};
 
 #[derive(Clone, Copy)]
@@ -94,26 +93,26 @@ fn serve(p: Pair, f: Frame, only: u8, buf: &mut [u8], part: &[u8]) -> Lap
 }
 
 // One read, and the answers to it. A read that fails is no end of the input: then nothing more is said.
-fn read_some(p: Pair, f: Frame, only: u8, buf: &mut [u8]) -> Lap
+fn read_some(rt: &HostRuntime, p: Pair, f: Frame, only: u8, buf: &mut [u8]) -> Lap
     requires { Good p × Held f × (only ≤ 2) × (kept_most ≤ length buf.old) }
     ensures { Good result.pair × Held result.frame }
 {
     let mut input = io::large_buffer();
-    let got = libc::read(STDIN_FILENO, &mut input);
-    if got <= 0 {
+    let got = read_part(rt, &mut input);
+    if got.count == 0 {
         return Lap {
             pair: p,
             frame: f,
-            failed: got < 0,
+            failed: got.failed,
             more: false,
         };
     }
-    let n = io::count(got, &input);
+    let n = got.count;
     serve(p, f, only, buf, &input[..n])
 }
 
 // Reads to the end of the input. A proved loop has to end, so it counts its turns down from a number that no run uses up.
-fn read_all(only: u8, buf: &mut [u8]) -> Lap
+fn read_all(rt: &HostRuntime, only: u8, buf: &mut [u8]) -> Lap
     requires { (only ≤ 2) × (kept_most ≤ length buf.old) }
     ensures { Good result.pair × Held result.frame }
 {
@@ -121,7 +120,7 @@ fn read_all(only: u8, buf: &mut [u8]) -> Lap
     let mut frame = frames::start();
     let mut turns = u64::MAX;
     while turns > 0 {
-        let t = read_some(pair, frame, only, buf);
+        let t = read_some(rt, pair, frame, only, buf);
         let q = t.pair;
         pair = q;
         let g = t.frame;
@@ -140,11 +139,11 @@ fn read_all(only: u8, buf: &mut [u8]) -> Lap
 }
 
 // The table whose screen is written, 0 for both tables.
-fn only_table() -> u8
+fn only_table(rt: &HostRuntime) -> u8
     ensures { result ≤ 2 }
 {
-    if is_argument(1, b"--table") {
-        if is_argument(2, b"1") {
+    if is_argument(rt, 1, b"--table") {
+        if is_argument(rt, 2, b"1") {
             return 1;
         }
         return 2;
@@ -174,10 +173,10 @@ fn end(p: Pair, f: Frame, only: u8)
     }
 }
 
-fn main() {
+fn main(rt: HostRuntime) {
     let mut buf = [0u8; text::sheet::ROOM];
-    let only = only_table();
-    let t = read_all(only, &mut buf);
+    let only = only_table(&rt);
+    let t = read_all(&rt, only, &mut buf);
     if !t.failed {
         let p = t.pair;
         let f = t.frame;

@@ -7,9 +7,8 @@ ghost use Rattle.lines.specs.Kept.{kept_most, Room};
 ghost use Rattle.teller.specs.Keeping.{Sound};
 
 use argument::is_argument;
-use libc::{STDIN_FILENO, STDOUT_FILENO};
 use lines::{Fill, gather};
-use output::{ahead, flush};
+use output::{STDOUT_FILENO, ahead, flush, read_part};
 use payments::{close, ended, take_line};
 use teller::{Teller, said, start};
 
@@ -105,25 +104,32 @@ fn take_part(check: bool, s: Teller, m: Fill, buf: &mut [u8], gives: &mut [u32],
 }
 
 // One read, and what it says.
-fn read_some(check: bool, s: Teller, m: Fill, buf: &mut [u8], gives: &mut [u32]) -> Lap
+fn read_some(
+    rt: &HostRuntime,
+    check: bool,
+    s: Teller,
+    m: Fill,
+    buf: &mut [u8],
+    gives: &mut [u32],
+) -> Lap
     requires { Sound s × Room m × (m.lines ≡ 0) × (kept_most ≤ length buf.old) × (length gives.old ≡ 160) }
     ensures { Sound result.teller × Room result.fill × (result.fill.lines ≡ 0) }
 {
     let mut input = io::large_buffer();
-    let got = libc::read(STDIN_FILENO, &mut input);
-    if got <= 0 {
+    let got = read_part(rt, &mut input);
+    if got.count == 0 {
         return Lap {
             teller: s,
             fill: m,
             more: false,
         };
     }
-    let n = io::count(got, &input);
+    let n = got.count;
     take_part(check, s, m, buf, gives, &input[..n])
 }
 
 // Reads to the end of the input, or of the payer. A proved loop has to end, so it counts its turns down from a number that no run uses up.
-fn read_all(check: bool, buf: &mut [u8], gives: &mut [u32]) -> Teller
+fn read_all(rt: &HostRuntime, check: bool, buf: &mut [u8], gives: &mut [u32]) -> Teller
     requires { (kept_most ≤ length buf.old) × (length gives.old ≡ 160) }
     ensures { Sound result }
 {
@@ -131,7 +137,7 @@ fn read_all(check: bool, buf: &mut [u8], gives: &mut [u32]) -> Teller
     let mut fill = lines::empty();
     let mut turns = u64::MAX;
     while turns > 0 {
-        let t = read_some(check, teller, fill, buf, gives);
+        let t = read_some(rt, check, teller, fill, buf, gives);
         let next = t.teller;
         teller = next;
         if !t.more {
@@ -153,9 +159,9 @@ fn end(s: Teller, gives: &[u32])
     io::write_all(STDOUT_FILENO, &out[0..n]);
 }
 
-fn main() {
+fn main(rt: HostRuntime) {
     let mut buf = [0u8; text::sheet::ROOM];
     let mut gives = [0u32; 160];
-    let t = read_all(is_argument(1, b"--check"), &mut buf, &mut gives);
+    let t = read_all(&rt, is_argument(&rt, 1, b"--check"), &mut buf, &mut gives);
     end(t, &gives);
 }

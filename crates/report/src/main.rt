@@ -6,10 +6,9 @@ ghost use Rattle.lines.specs.Kept.{kept_most, Room};
 ghost use Rattle.table.specs.Take.{Sound};
 
 use desk::log::read_lone_sheet;
-use libc::STDIN_FILENO;
 use lines::{Fill, gather, lines_of};
 use notes::{Notes, no_notes};
-use output::ahead;
+use output::{ahead, read_part};
 use page::pen::{Pen, written_out};
 use page::words::put_head;
 use paper::STAND_IN;
@@ -171,20 +170,20 @@ fn take_part(g: Page, m: Fill, buf: &mut [u8], part: &[u8]) -> Lap
 }
 
 // One read, and what it says. A read that fails is taken for the end of the input.
-fn read_some(g: Page, m: Fill, buf: &mut [u8]) -> Lap
+fn read_some(rt: &HostRuntime, g: Page, m: Fill, buf: &mut [u8]) -> Lap
     requires { Sound g.table × Room m × (kept_most ≤ length buf.old) }
     ensures { Sound result.page.table × Room result.fill }
 {
     let mut input = io::large_buffer();
-    let got = libc::read(STDIN_FILENO, &mut input);
-    if got <= 0 {
+    let got = read_part(rt, &mut input);
+    if got.count == 0 {
         return Lap {
             page: g,
             fill: m,
             more: false,
         };
     }
-    let n = io::count(got, &input);
+    let n = got.count;
     take_part(g, m, buf, &input[..n])
 }
 
@@ -208,7 +207,7 @@ fn start() -> Page
 }
 
 // Reads to the end of the input. A proved loop has to end, so it counts its turns down from a number that no run uses up.
-fn read_all(buf: &mut [u8]) -> Lap
+fn read_all(rt: &HostRuntime, buf: &mut [u8]) -> Lap
     requires { kept_most ≤ length buf.old }
     ensures { Sound result.page.table × Room result.fill }
 {
@@ -216,7 +215,7 @@ fn read_all(buf: &mut [u8]) -> Lap
     let mut fill = lines::empty();
     let mut turns = u64::MAX;
     while turns > 0 {
-        let t = read_some(page, fill, buf);
+        let t = read_some(rt, page, fill, buf);
         let h = t.page;
         page = h;
         let k = t.fill;
@@ -264,9 +263,9 @@ fn end(g: Page, m: Fill, buf: &[u8])
     written_out(&out, c);
 }
 
-fn main() {
+fn main(rt: HostRuntime) {
     let mut buf = [0u8; text::sheet::ROOM];
-    let t = read_all(&mut buf);
+    let t = read_all(&rt, &mut buf);
     let g = t.page;
     let m = t.fill;
     end(g, m, &buf);

@@ -7,9 +7,9 @@ ghost use Rattle.picture.specs.Screen.{Held, line_room, drawn_most};
 ghost use Rattle.picture.specs.Parts.{DrawnTo};
 
 use argument::is_argument;
-use libc::{STDIN_FILENO, STDOUT_FILENO};
-use output::ahead;
+use output::{STDOUT_FILENO, ahead, read_part};
 use picture::{CLOSE_MOST, LINE_ROOM, Screen, close, draw_on, start};
+use std::io::IsTerminal;
 
 #[derive(Clone, Copy)]
 struct Shown {
@@ -80,32 +80,32 @@ fn show(colour: bool, s: Screen, buf: &mut [u8], part: &[u8]) -> Lap
 }
 
 // One read, and the picture of it. A read that fails is no end of the input: then nothing more is drawn.
-fn read_some(colour: bool, s: Screen, buf: &mut [u8]) -> Lap
+fn read_some(rt: &HostRuntime, colour: bool, s: Screen, buf: &mut [u8]) -> Lap
     requires { Held s × (line_room ≤ length buf.old) }
     ensures { Held result.screen }
 {
     let mut input = io::large_buffer();
-    let got = libc::read(STDIN_FILENO, &mut input);
-    if got <= 0 {
+    let got = read_part(rt, &mut input);
+    if got.count == 0 {
         return Lap {
             screen: s,
-            failed: got < 0,
+            failed: got.failed,
             more: false,
         };
     }
-    let n = io::count(got, &input);
+    let n = got.count;
     show(colour, s, buf, &input[..n])
 }
 
 // Reads to the end of the input. A proved loop has to end, so it counts its turns down from a number that no run uses up.
-fn read_all(colour: bool, buf: &mut [u8]) -> Lap
+fn read_all(rt: &HostRuntime, colour: bool, buf: &mut [u8]) -> Lap
     requires { line_room ≤ length buf.old }
     ensures { Held result.screen }
 {
     let mut screen = start();
     let mut turns = u64::MAX;
     while turns > 0 {
-        let t = read_some(colour, screen, buf);
+        let t = read_some(rt, colour, screen, buf);
         let next = t.screen;
         screen = next;
         if !t.more {
@@ -130,16 +130,16 @@ fn end(s: Screen, buf: &[u8])
 }
 
 // Whether to draw in colour: on a terminal, unless the first argument is --plain.
-fn coloured() -> bool {
-    if is_argument(1, b"--plain") {
+fn coloured(rt: &HostRuntime) -> bool {
+    if is_argument(rt, 1, b"--plain") {
         return false;
     }
-    libc::isatty(STDOUT_FILENO) == 1
+    rt.stdout().is_terminal()
 }
 
-fn main() {
+fn main(rt: HostRuntime) {
     let mut buf = [0u8; LINE_ROOM];
-    let t = read_all(coloured(), &mut buf);
+    let t = read_all(&rt, coloured(&rt), &mut buf);
     if !t.failed {
         let s = t.screen;
         end(s, &buf);

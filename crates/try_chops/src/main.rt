@@ -9,8 +9,9 @@ ghost use Rattle.std.specs.Prelude.{◌≤◌, length};
 ghost use Rattle.lines.specs.Kept.{kept_most};
 ghost use Rattle.stream.specs.Feeding.{Held};
 
+use argument::is_argument;
 use laws::both;
-use libc::{STDIN_FILENO, STDOUT_FILENO};
+use output::{STDIN_FILENO, STDOUT_FILENO};
 use packed::{FIELDS, pack};
 use served::{Ended, end, kept, longest, serve};
 use stream::Clerk;
@@ -237,23 +238,21 @@ fn tell(t: Tally) {
 }
 
 // With the argument --spoilt the whole log gets one byte more room than the cut one, so that places differ and the counts show it.
-fn spoilt() -> usize
+fn spoilt(rt: &HostRuntime) -> usize
     ensures { result ≤ 1 }
 {
-    let mut word = [0u8; 16];
-    let n = os::arg(1, &mut word);
-    if check::same(&word[..n], b"--spoilt") {
+    if is_argument(rt, 1, b"--spoilt") {
         return 1;
     }
     0
 }
 
-fn main() {
+fn main(rt: HostRuntime) {
     let mut space = io::large_buffer();
     let n = io::read_full(STDIN_FILENO, &mut space);
     let log = &space[0..n];
     let mut trace = io::large_buffer();
     let mut buf = [0u8; ROOM];
     let most = longest(log, &mut buf, &mut trace);
-    tell(try_rooms(log, most, spoilt(), &mut trace));
+    tell(try_rooms(log, most, spoilt(&rt), &mut trace));
 }

@@ -9,8 +9,7 @@ mod lines;
 ghost use Rattle.std.specs.Prelude.{◌≤◌, length};
 
 use crate::line::Scan;
-use libc::{STDIN_FILENO, STDOUT_FILENO};
-use output::flush;
+use output::{STDOUT_FILENO, flush, read_part};
 
 // The room for an answer line, and how much may stand in the large buffer before it is written out, so that a line has room behind it.
 const LINE: usize = 600;
@@ -65,16 +64,16 @@ struct Lap {
 }
 
 // One read, and the answers to it.
-fn read_some(s: Scan, nums: &mut [u32]) -> Lap {
+fn read_some(rt: &HostRuntime, s: Scan, nums: &mut [u32]) -> Lap {
     let mut input = io::large_buffer();
-    let got = libc::read(STDIN_FILENO, &mut input);
-    if got <= 0 {
+    let got = read_part(rt, &mut input);
+    if got.count == 0 {
         return Lap {
             scan: s,
             more: false,
         };
     }
-    let n = io::count(got, &input);
+    let n = got.count;
     Lap {
         scan: serve(s, nums, &input[..n]),
         more: true,
@@ -82,11 +81,11 @@ fn read_some(s: Scan, nums: &mut [u32]) -> Lap {
 }
 
 // Reads to the end of the input. A proved loop has to end, so it counts its turns down from a number that no run uses up.
-fn read_all(nums: &mut [u32]) -> Scan {
+fn read_all(rt: &HostRuntime, nums: &mut [u32]) -> Scan {
     let mut scan = line::fresh();
     let mut turns = u64::MAX;
     while turns > 0 {
-        let t = read_some(scan, nums);
+        let t = read_some(rt, scan, nums);
         scan = t.scan;
         if !t.more {
             return scan;
@@ -96,9 +95,9 @@ fn read_all(nums: &mut [u32]) -> Scan {
     scan
 }
 
-fn main() {
+fn main(rt: HostRuntime) {
     let mut nums = [0u32; 47];
-    let scan = read_all(&mut nums);
+    let scan = read_all(&rt, &mut nums);
     if line::begun(scan) {
         let mut out = [0u8; LINE];
         let end = line::with_number(&mut nums, scan);

@@ -9,7 +9,7 @@ use answers::LONGEST;
 use blocks::rest;
 use desk::log::read_lone_sheet;
 use desk::{answer, answer_room};
-use libc::{STDIN_FILENO, STDOUT_FILENO};
+use output::{STDIN_FILENO, STDOUT_FILENO};
 use table::table::Table;
 use table::take::new_table;
 use text::sheet::{SheetRead, after_sheet};

@@ -8,7 +8,7 @@ ghost use Rattle.seen.specs.Seen.{Held};
 
 use argument::is_argument;
 use drawn::{MOST, draw};
-use libc::{STDIN_FILENO, STDOUT_FILENO};
+use output::{STDOUT_FILENO, ahead, read_part};
 use seen::feed::{Seen, close, ends_open, feed, start};
 use text::sheet::ROOM;
 
@@ -41,7 +41,7 @@ fn hear(s: Seen, buf: &mut [u8], part: &[u8], from: usize) -> Heard
     ensures { Held result.seen × (from < result.from) × (result.from ≤ length part.now) }
 {
     let f = feed(s, buf, &part[from..]);
-    let next = output::ahead(from, f.used, part);
+    let next = ahead(from, f.used, part);
     let after = f.seen;
     Heard {
         seen: after,
@@ -90,32 +90,32 @@ fn show(form: Form, s: Seen, buf: &mut [u8], part: &[u8]) -> Lap
 }
 
 // One read, and its pictures. A read that fails is no end of the input: then nothing more is drawn.
-fn read_some(form: Form, s: Seen, buf: &mut [u8]) -> Lap
+fn read_some(rt: &HostRuntime, form: Form, s: Seen, buf: &mut [u8]) -> Lap
     requires { Held s × (kept_most ≤ length buf.old) }
     ensures { Held result.seen }
 {
     let mut input = io::large_buffer();
-    let got = libc::read(STDIN_FILENO, &mut input);
-    if got <= 0 {
+    let got = read_part(rt, &mut input);
+    if got.count == 0 {
         return Lap {
             seen: s,
-            failed: got < 0,
+            failed: got.failed,
             more: false,
         };
     }
-    let n = io::count(got, &input);
+    let n = got.count;
     show(form, s, buf, &input[..n])
 }
 
 // Reads to the end of the input. A proved loop has to end, so it counts its turns down from a number that no run uses up.
-fn read_all(form: Form, buf: &mut [u8]) -> Lap
+fn read_all(rt: &HostRuntime, form: Form, buf: &mut [u8]) -> Lap
     requires { kept_most ≤ length buf.old }
     ensures { Held result.seen }
 {
     let mut seen = start();
     let mut turns = u64::MAX;
     while turns > 0 {
-        let t = read_some(form, seen, buf);
+        let t = read_some(rt, form, seen, buf);
         let next = t.seen;
         seen = next;
         if !t.more {
@@ -143,17 +143,17 @@ fn end(form: Form, s: Seen, buf: &[u8])
 }
 
 // Whether one of the first two arguments is this word.
-fn has_word(want: &[u8]) -> bool {
-    laws::either(is_argument(1, want), is_argument(2, want))
+fn has_word(rt: &HostRuntime, want: &[u8]) -> bool {
+    laws::either(is_argument(rt, 1, want), is_argument(rt, 2, want))
 }
 
-fn main() {
+fn main(rt: HostRuntime) {
     let form = Form {
-        standing: has_word(b"--standing"),
-        colour: !has_word(b"--plain"),
+        standing: has_word(&rt, b"--standing"),
+        colour: !has_word(&rt, b"--plain"),
     };
     let mut buf = [0u8; ROOM];
-    let t = read_all(form, &mut buf);
+    let t = read_all(&rt, form, &mut buf);
     if !t.failed {
         let s = t.seen;
         end(form, s, &buf);
