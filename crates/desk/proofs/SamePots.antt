@@ -8,7 +8,7 @@ use Prim.Native.Nat.{ℕ, zero, suc, ◌+◌, ◌≤◌}
 use lib.ListN.{length, get_or, set}
 use lib.Dec.{eqb, leb}
 use native.Mathlib.Omega.{arith}
-use borrow.Author.Tests.{eqb-false, ne_eqb, le-ltb}
+use borrow.Author.Tests.{eqb-false}
 use Rattle.laws.specs.Tests.{pick, either, one}
 use Rattle.laws.proofs.Tests.{test}
 use Rattle.blocks.specs.Entry.{entry_at, parsed_of}
@@ -40,6 +40,7 @@ use Rattle.desk.specs.declared.Judged.{Judged}
 use Rattle.desk.specs.Desk.{shown_of, judge_parsed, judge_block, judged_bytes}
 use Rattle.desk.specs.Quiet.{ShowsPots, quiet_kind, quiet_block, keeps_pots}
 use Rattle.desk.proofs.Laws.{block_same, writes_none, keeps_all}
+use Rattle.desk.proofs.Loud.{loud}
 use Rattle.chairs.specs.What as what
 
 -- what was put in and what is live is the same at both
@@ -99,10 +100,6 @@ boarded_alike t k = go (leb 3 (t.board.count + 1))
     go : (b : Bool) → Alike (pick b (new_round (with_card t k)) (with_card t k)).chairs t.chairs
     go true = round_alike (with_card t k)
     go false = (refl, refl)
-
--- no later kind is quiet
-loud : (k : ℕ) → 9 ≤ k → quiet_kind k ≡ false
-loud k h = rw (le-ltb k 2 (omega arith), ne_eqb k 3 (λ e. omega arith), ne_eqb k 5 (λ e. omega arith), ne_eqb k 8 (λ e. omega arith))
 
 -- an entry of a quiet kind that is taken
 at_alike : (t : Table) (k s a b : ℕ) → quiet_kind k ≡ true → Alike (applied_to t (entry_at k s a b)).chairs t.chairs
