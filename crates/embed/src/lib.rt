@@ -96,12 +96,7 @@ fn feed_in(state: &mut [u8], part: &[u8], out: &mut [u8]) -> Did
 }
 
 // A part of the log, as far as one call goes: its answers at the front of `out`, and into `counts` how many bytes they are and how many of the part are used up.
-pub fn clerk_feed(
-    state: &mut [u8],
-    part: &[u8],
-    out: &mut [u8],
-    counts: &mut [usize],
-) -> u32
+pub fn clerk_feed(state: &mut [u8], part: &[u8], out: &mut [u8], counts: &mut [usize]) -> u32
     requires { KeptState state.old }
     ensures { FedIn state.old part.now out.old counts.old state.new out.new counts.new result }
 {
