@@ -11,6 +11,8 @@ SECOND = "second/target/release/second"
 GEN = "second/target/release/gen"
 COUNT = "second/target/release/count"
 SECONDS_ALLOWED = 120
+# what a test leaves to be looked at
+pathlib.Path("target").mkdir(exist_ok=True)
 SHEET_LINES = 9
 
 # Each profile of the generator with the length of its logs: a table needs

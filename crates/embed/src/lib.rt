@@ -1,5 +1,5 @@
-// The box for makers of boxes: what C and Rust on x86-64 link (`rt staticlib embed`; include/clerk.h is its header). A slice is two parameters in C, a pointer
-// and how many elements there are. What nothing here can prove stands in that header: the pointer is to so many elements, and no lent array overlaps another.
+// The box for makers of boxes: what C and Rust on x86-64 link through crates/embed_c (include/clerk.h is its header). What nothing here can prove stands in that
+// header: a pointer is to so many elements as are said, and no lent array overlaps another.
 #![tactic(auto)]
 
 ghost use Rattle.std.specs.Prelude.{◌≡◌, ◌≤◌, length};
@@ -15,8 +15,7 @@ use text::sheet::ROOM;
 
 // A whole log, sheet and entries: its answers at the front of the lent bytes, and how many bytes they are. A block whose answer finds no room is refused with 12:
 // nothing is written for it and the table stays.
-#[unsafe(no_mangle)]
-pub extern "C" fn clerk_run(log: &[u8], out: &mut [u8]) -> usize
+pub fn clerk_run(log: &[u8], out: &mut [u8]) -> usize
     ensures { Wrote (output_in log.now (length out.old)) out.old out.new result }
 {
     run(log, out)
@@ -62,8 +61,7 @@ fn call_code(state: usize, out: usize, counts: usize, want: usize) -> u32
 }
 
 // Before the first byte of a log.
-#[unsafe(no_mangle)]
-pub extern "C" fn clerk_start(state: &mut [u8]) -> u32
+pub fn clerk_start(state: &mut [u8]) -> u32
     ensures { StartedIn state.old state.new result }
 {
     let code = start_code(state.len());
@@ -98,13 +96,7 @@ fn feed_in(state: &mut [u8], part: &[u8], out: &mut [u8]) -> Did
 }
 
 // A part of the log, as far as one call goes: its answers at the front of `out`, and into `counts` how many bytes they are and how many of the part are used up.
-#[unsafe(no_mangle)]
-pub extern "C" fn clerk_feed(
-    state: &mut [u8],
-    part: &[u8],
-    out: &mut [u8],
-    counts: &mut [usize],
-) -> u32
+pub fn clerk_feed(state: &mut [u8], part: &[u8], out: &mut [u8], counts: &mut [usize]) -> u32
     requires { KeptState state.old }
     ensures { FedIn state.old part.now out.old counts.old state.new out.new counts.new result }
 {
@@ -129,8 +121,7 @@ fn close_in(state: &[u8], out: &mut [u8]) -> usize
 }
 
 // The end of the log: the answer to what is unfinished, if there is one, and into `counts` how many bytes it is. The state stays.
-#[unsafe(no_mangle)]
-pub extern "C" fn clerk_close(state: &[u8], out: &mut [u8], counts: &mut [usize]) -> u32
+pub fn clerk_close(state: &[u8], out: &mut [u8], counts: &mut [usize]) -> u32
     requires { KeptState state.now }
     ensures { ClosedIn state.now out.old counts.old out.new counts.new result }
 {
