@@ -205,14 +205,14 @@ pub struct RecordRead<'a> {
 impl<'a> Reader<'a> {
     // At the log's start.
     pub fn new(log: &'a [u8]) -> Reader<'a>
-        ensures { (result.log ≡ log) × (result.at ≡ 0) }
+        ensures { (result.log ≡ log.entry) × (result.at ≡ 0) }
     {
         Reader { log, at: 0 }
     }
 
     // The record at its place, and the reader behind it.
     pub fn next(self) -> RecordRead<'a>
-        ensures { result ≡ after self }
+        ensures { result ≡ after self.entry }
     {
         let got = record_at(self.log, self.at);
         let next = got.next;
@@ -227,7 +227,7 @@ impl<'a> Reader<'a> {
 
     // The same log at another place.
     pub fn moved(self, at: usize) -> Reader<'a>
-        ensures { result ≡ moved_to self at }
+        ensures { result ≡ moved_to self.entry at }
     {
         Reader { log: self.log, at }
     }
