@@ -24,7 +24,7 @@ read_one-p-requires c =
     let log = c.args.log.now in
     let s = c.args.start in
     let more : (read_to s log i).more ≡ true = sym (ap (λ (p : Rereading). p.more) v.1.0) ∙ c.loop-p-test.true in
-    (v.1.2, subst (λ (p : Rereading). p.k < p.count) (sym v.1.0) (within s log c.requires.2 i more))
+    (v.1.2, subst (λ (p : Rereading). p.k < p.count) (sym v.1.0) (within s log c.requires.1 c.requires.2 i more))
 
 pub loop-p-smaller : goal.loop-p-smaller
 loop-p-smaller c =
@@ -36,11 +36,11 @@ loop-p-smaller c =
     let next : c.read_one-p.result ≡ read_to s log (suc i) = c.read_one-p.ensures.0 ∙ ap₂ read_one v.1.0 v.1.3 in
     omega (
       arith,
-      below s log c.requires.2 i more,
+      below s log c.requires.1 c.requires.2 i more,
       ap (λ (p : Rereading). p.k) v.1.0 ∙ k_is s log c.requires.1 i,
-      ap (λ (p : Rereading). p.count) v.1.0 ∙ count_is s log i,
+      ap (λ (p : Rereading). p.count) v.1.0 ∙ count_is s log c.requires.1 i,
       ap (λ (p : Rereading). p.k) next ∙ k_is s log c.requires.1 (suc i),
-      ap (λ (p : Rereading). p.count) next ∙ count_is s log (suc i),
+      ap (λ (p : Rereading). p.count) next ∙ count_is s log c.requires.1 (suc i),
     )
 
 pub loop-p-preserved : goal.loop-p-preserved
@@ -56,7 +56,7 @@ loop-p-preserved c =
       suc i,
       (
         next,
-        omega (arith, below s log c.requires.2 i more),
+        omega (arith, below s log c.requires.1 c.requires.2 i more),
         c.read_one-p.ensures.1,
         got,
         ap (λ (g : RecordRead). g.rest.log.now) n ∙ v.1.4,
@@ -70,5 +70,5 @@ returns c =
     let i = v.0 in
     let log = c.args.log.now in
     let s = c.args.start in
-    let end = all s log c.requires.2 i (sym (ap (λ (p : Rereading). p.more) v.1.0) ∙ c.loop-p-test.false) v.1.1 in
+    let end = all s log c.requires.1 c.requires.2 i (sym (ap (λ (p : Rereading). p.more) v.1.0) ∙ c.loop-p-test.false) v.1.1 in
     (v.1.0 ∙ ap (read_to s log) end, v.1.2)
