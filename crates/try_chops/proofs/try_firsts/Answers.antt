@@ -13,7 +13,7 @@ pub try_seconds-u-requires : goal.try_seconds-u-requires
 try_seconds-u-requires c = let s = c in (c.loop-first-test.true, s.requires.0, s.requires.1)
 
 pub overflow_add-first : goal.overflow_add-first
-overflow_add-first c = omega (arith, c.well-formed, c.loop-first-test.true)
+overflow_add-first c = omega (arith, c.well_formed, c.loop-first-test.true)
 
 pub loop-first-smaller : goal.loop-first-smaller
 loop-first-smaller c = omega (arith, c.loop-first-test.true)

@@ -13,7 +13,7 @@ pub try_cut-good-requires : goal.try_cut-good-requires
 try_cut-good-requires c = let s = c in (c.loop-second.invariant.1, c.loop-second-test.true, s.requires.1, s.requires.2)
 
 pub overflow_add-second : goal.overflow_add-second
-overflow_add-second c = omega (arith, c.well-formed, c.loop-second-test.true)
+overflow_add-second c = omega (arith, c.well_formed, c.loop-second-test.true)
 
 pub loop-second-smaller : goal.loop-second-smaller
 loop-second-smaller c = omega (arith, c.loop-second-test.true)

@@ -27,7 +27,7 @@ pub hear_one-r-requires : goal.hear_one-r-requires
 hear_one-r-requires c = let i = c.loop-buf.invariant in (i.2, omega (arith, c.requires.1, i.0), (c.goes_on.ensures c.loop-buf-test.true).1)
 
 pub overflow_add-used : goal.overflow_add-used
-overflow_add-used c = let g = c.loop-buf in omega (arith, c.well-formed, g.invariant.4, c.hear_one-r.ensures.1, ap length (part_is g.used c.args.part.now), length-drop g.used c.args.part.now)
+overflow_add-used c = let g = c.loop-buf in omega (arith, c.well_formed, g.invariant.4, c.hear_one-r.ensures.1, ap length (part_is g.used c.args.part.now), length-drop g.used c.args.part.now)
 
 pub loop-buf-smaller : goal.loop-buf-smaller
 loop-buf-smaller c = let g = c.loop-buf in

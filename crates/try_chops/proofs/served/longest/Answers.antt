@@ -14,7 +14,7 @@ pub hear_one-r-requires : goal.hear_one-r-requires
 hear_one-r-requires c = let i = c.loop-i.invariant in (i.2, omega (arith, c.requires.0, i.0), omega (arith, c.requires.1, i.1))
 
 pub overflow_add-i : goal.overflow_add-i
-overflow_add-i c = omega (arith, c.well-formed, c.loop-i-test.true)
+overflow_add-i c = omega (arith, c.well_formed, c.loop-i-test.true)
 
 pub loop-i-preserved : goal.loop-i-preserved
 loop-i-preserved c = let i = c.loop-i.invariant in (search rules, search rules, c.hear_one-r.ensures.0, omega (arith, c.greater-most.ensures, i.3, i.1, c.hear_one-r.ensures.3))
