@@ -1,5 +1,4 @@
 -- `payments::paying::check_out` meets its contract: the checker's answer for the rows that are lent. Assumes nothing.
-use borrow.Author.Rules.{length_unmapped}
 use Rattle.payments.proofs.Same.{wrote_as}
 use Rattle.payments.proofs.Deciding.{few_listed, checked-bad, checked-good}
 use Rattle.payments.proofs.SmallRows.{judged_small}
@@ -24,7 +23,7 @@ returns-then-either c = let e : either (faulty c.args.s.listed) (ltb 160 c.args.
 
 pub slice_bounds-accept_from-end : goal.slice_bounds-accept_from-end
 slice_bounds-accept_from-end c = let e : either (faulty c.args.s.listed) (ltb 160 c.args.s.given) ≡ false = sym (c.either.ensures ∙ rw c.faulty.ensures refl) ∙ c.if-either.false in
-    let n : length c.args.s.listed.paid ≡ 10 = length_unmapped ℕ c.args.s.listed.paid 10 c.well_formed.0.1.1.1.1.1.0.1.1.1.1.1.1.0.1.0.1 in
+    let n : length c.args.s.listed.paid ≡ 10 = c.well_formed.0.1.1.1.1.1.0.1.1.1.1.1.1.0.1.0.1 in
     omega (arith, n, few_listed c.args.s (either_false (faulty c.args.s.listed) (ltb 160 c.args.s.given) e).0)
 
 pub slice_bounds-accept_from-end-2 : goal.slice_bounds-accept_from-end-2

@@ -1,6 +1,4 @@
 -- `payments::paying::pay_out` meets its contract: the proposer's answer for the rows that are lent. Assumes nothing.
-use borrow.Author.Rules.{length_unmapped}
-use Rattle.answers.proofs.Blocks.{length_mapped}
 use Rattle.payments.proofs.Same.{does_as}
 use Rattle.payments.proofs.Deciding.{few_listed, proposed-long, list-kept, list_written, list-front, code_is, list-is, out-bad, out-refused, out_paid}
 use Rattle.payments.proofs.SmallRows.{proposing_small}
@@ -11,7 +9,6 @@ use lib.ListN.{length}
 use native.Mathlib.Nat.{mul-le-mul}
 use Prim.Native.Nat.{ℕ, ◌-◌, ◌≤◌, ◌<◌, ◌^◌}
 use mathlib.Core.Path.{◌≡◌, refl, sym, ap, ◌∙◌, subst}
-use Rattle.rows.specs.contracts.Row as R
 use Rattle.payments.proofs.paying.pay_out.Goals as goal
 
 pub returns-then-faulty : goal.returns-then-faulty
@@ -22,7 +19,7 @@ pub overflow_mul-long : goal.overflow_mul-long
 overflow_mul-long c = let f = few_listed c.args.s (sym c.faulty.ensures ∙ c.if-faulty.false) in omega (arith, mul-le-mul f c.requires.0.few)
 
 pub slice_bounds-propose_from-end : goal.slice_bounds-propose_from-end
-slice_bounds-propose_from-end c = let n : length c.args.s.listed.paid ≡ 10 = length_unmapped ℕ c.args.s.listed.paid 10 c.well_formed.0.1.1.1.1.1.0.1.1.1.1.1.1.0.1.0.1 in omega (arith, n, few_listed c.args.s (sym c.faulty.ensures ∙ c.if-faulty.false))
+slice_bounds-propose_from-end c = let n : length c.args.s.listed.paid ≡ 10 = c.well_formed.0.1.1.1.1.1.0.1.1.1.1.1.1.0.1.0.1 in omega (arith, n, few_listed c.args.s (sym c.faulty.ensures ∙ c.if-faulty.false))
 
 pub slice_bounds-propose_from-end-2 : goal.slice_bounds-propose_from-end-2
 slice_bounds-propose_from-end-2 c = let f = few_listed c.args.s (sym c.faulty.ensures ∙ c.if-faulty.false) in omega (arith, c.requires.1, mul-le-mul f c.requires.0.few)
@@ -47,8 +44,8 @@ slice_bounds-pay_proposed-end c = let f = few_listed c.args.s (sym c.faulty.ensu
 
 pub pay_proposed-requires : goal.pay_proposed-requires
 pay_proposed-requires c = let f = few_listed c.args.s (sym c.faulty.ensures ∙ c.if-faulty.false) in
-    let n : length c.args.s.listed.paid ≡ 10 = length_unmapped ℕ c.args.s.listed.paid 10 c.well_formed.0.1.1.1.1.1.0.1.1.1.1.1.1.0.1.0.1 in
-    let r : length c.args.s.tray.row ≡ 16 = length_mapped (R.the_field).into c.args.s.tray.row 16 c.well_formed.0.1.1.1.1.0.1.1.1.1.1.0.1.0.1 in
+    let n : length c.args.s.listed.paid ≡ 10 = c.well_formed.0.1.1.1.1.1.0.1.1.1.1.1.1.0.1.0.1 in
+    let r : length c.args.s.tray.row ≡ 16 = c.well_formed.0.1.1.1.1.0.1.1.1.1.1.0.1.0.1 in
     let m : long c.args.s ≤ length c.args.gives.now = omega (arith, c.requires.1, mul-le-mul f c.requires.0.few) in
     let k = code_is c.args.s c.args.gives.now c.propose_from-code.result m c.propose_from-code.ensures.0 in
     let z = c.if-code-ne0.false in
