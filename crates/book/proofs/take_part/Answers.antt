@@ -36,7 +36,7 @@ pub loop-from-smaller : goal.loop-from-smaller
 loop-from-smaller c = nearer c.next_place-from.ensures.0 c.next_place-from.ensures.1
 
 pub loop-from-preserved : goal.loop-from-preserved
-loop-from-preserved c = (c.buf-1.given ∙ c.loop-from.invariant.0, c.log-1.given ∙ c.loop-from.invariant.1, c.index-1.given ∙ c.loop-from.invariant.2, same_len_mid c.flush-w.result.at (16384 - c.flush-w.result.at) c.loop-from.out c.take_one-k.new.1.1.1.1.1.0 c.out-1.given ∙ c.loop-from.invariant.3, c.take_one-k.ensures.0, c.next_place-from.ensures.1, at_within c.loop-from.out c.flush-w.ensures.within.1 c.take_one-k.ensures.3)
+loop-from-preserved c = (search rules, search rules, search rules, same_len_mid c.flush-w.result.at (16384 - c.flush-w.result.at) c.loop-from.out c.take_one-k.new.out c.take_one-k.auto.out ∙ c.loop-from.invariant.3, c.take_one-k.ensures.0, c.next_place-from.ensures.1, at_within c.loop-from.out c.flush-w.ensures.within.1 c.take_one-k.ensures.3)
 
 pub shape_of-buf : goal.shape_of-buf
 shape_of-buf c = c.loop-from.invariant.0
