@@ -12,5 +12,5 @@ pub returns : goal.returns
 returns c =
     let s = c in
     let hear = c.hear_on-h in
-    let h = (hear.ensures.heard, hear.ensures.held) in
-    let t = c.take_piece-s.ensures in record { fed = fed_one s.args.only s.args.p s.args.f s.args.buf.now s.args.part.now s.args.out.now hear.result _ h.0 t.gave; held = (t.good.0, h.1.0, h.1.1, h.1.2, t.good.1) }
+    let h = hear.ensures in
+    let t = c.take_piece-s.ensures in record { fed = fed_one s.args.only s.args.p s.args.f s.args.buf.now s.args.part.now s.args.out.now hear.result _ h.heard t.gave; held = (t.good.0, h.held.0, h.held.1, h.held.2, t.good.1) }
