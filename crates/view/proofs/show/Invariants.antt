@@ -8,7 +8,7 @@ use Rattle.seen.specs.Seen.{Held}
 use Rattle.view.proofs.show.Given as goal
 
 abbrev pub invariant-loop-from : goal.invariant-loop-from
-invariant-loop-from l = (length l.buf ≡ length l.initial.buf) × (length l.out ≡ 2300) × Held l.seen × (l.from ≤ length l.part)
+invariant-loop-from l = (length l.buf ≡ length l.initial.buf) × (2300 ≤ length l.out) × Held l.seen × (l.from ≤ length l.part)
 
 abbrev pub decreases-loop-from : goal.decreases-loop-from
 decreases-loop-from l = length l.part - l.from
