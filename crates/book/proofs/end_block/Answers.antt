@@ -1,5 +1,4 @@
 -- `end_block` meets its contract: the book holds behind a block that is not whole, and where there is none. Assumes nothing.
-use borrow.Author.Rules.{rules}
 use Rattle.book.proofs.end_block.Goals as goal
 
 pub returns-then-e-eq0 : goal.returns-then-e-eq0

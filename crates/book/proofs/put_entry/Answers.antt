@@ -2,7 +2,6 @@
 use Rattle.book.proofs.Fronts.{put_within}
 use Rattle.logs.specs.LogText.{is_entry, entry_text}
 use Prim.Native.Nat.{◌+◌}
-use borrow.Author.Rules.{rules}
 use Rattle.book.proofs.put_entry.Goals as goal
 
 pub returns-in-Bytes : goal.returns-in-Bytes

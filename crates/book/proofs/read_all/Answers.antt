@@ -1,10 +1,7 @@
 -- `read_all` meets its contract: the loop over the input ends, and the book is ready behind it. Assumes nothing.
-use borrow.Author.Rules.{rules}
 use Prim.Native.Nat.{ℕ, ◌≤◌}
-use mathlib.Core.Path.{◌≡◌, refl, sym, subst, ◌∙◌}
-use lib.ListN.{length}
+use mathlib.Core.Path.{refl, sym, subst, ◌∙◌}
 use Rattle.lines.specs.Kept.{kept_most}
-use Rattle.book.specs.Ready.{Ready}
 use Rattle.book.proofs.read_all.Goals as goal
 
 pub loop-turns-init : goal.loop-turns-init

@@ -1,9 +1,6 @@
 -- `read_all` meets its contract: the loop over the input ends, and the book is ready behind it. Assumes nothing.
-use borrow.Author.Rules.{rules}
-use Prim.Native.Nat.{ℕ, ◌≤◌}
-use mathlib.Core.Path.{◌≡◌, refl, sym, subst, ◌∙◌}
+use mathlib.Core.Path.{◌≡◌}
 use lib.ListN.{length}
-use Rattle.lines.specs.Kept.{kept_most}
 use Rattle.book.specs.Ready.{Ready}
 use Rattle.book.proofs.read_all.Given as goal
 

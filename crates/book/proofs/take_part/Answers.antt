@@ -1,13 +1,11 @@
 -- `take_part` meets its contract: every block of a part is taken, each within the room that is left. Assumes nothing.
 use borrow.Author.Rules.{rules}
 use Prim.Native.Nat.{ℕ, ◌-◌, ◌≤◌}
-use mathlib.Core.Path.{◌≡◌, refl, sym, subst, ◌∙◌}
+use mathlib.Core.Path.{refl, sym, subst, ◌∙◌}
 use native.Mathlib.Nat.{le_refl}
 use native.Mathlib.Omega.{arith}
-use lib.ListN.{length}
 use borrow.Rule.Slice.PartMut.{same_len_mid}
 use Rattle.lines.specs.Kept.{kept_most}
-use Rattle.book.specs.Ready.{Ready}
 use Rattle.book.proofs.Fronts.{mid_most, at_within, some_left, used_within, nearer}
 use Rattle.book.proofs.take_part.Goals as goal
 

@@ -1,8 +1,6 @@
 -- `book::write_log` meets its contract: the loop over the entries ends, each within the room that is left. Assumes nothing.
-use borrow.Author.Rules.{rules}
 use Prim.Native.Nat.{◌-◌, ◌≤◌}
 use mathlib.Core.Path.{◌≡◌}
-use native.Mathlib.Omega.{arith}
 use lib.ListN.{length}
 use Rattle.book.proofs.write_log.Given as goal
 

@@ -1,8 +1,6 @@
 -- `read_all` meets its contract.
-use mathlib.Core.Path.{◌≡◌, refl}
-use Rattle.stream.specs.Feeding.{Held}
+use mathlib.Core.Path.{refl}
 use native.Mathlib.Omega.{arith}
-use lib.ListN.{length}
 use borrow.Author.Rules.{rules}
 use Rattle.clerk.proofs.read_all.Goals as goal
 

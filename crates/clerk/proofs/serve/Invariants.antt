@@ -1,12 +1,8 @@
 -- `serve` meets its contract: at each turn the clerk has heard the part so far.
-use mathlib.Core.Bool.{true≢false}
-use mathlib.Core.Path.{◌≡◌, refl}
+use mathlib.Core.Path.{◌≡◌}
 use Prim.Native.Nat.{◌-◌, ◌≤◌}
-use native.Mathlib.Omega.{arith}
 use lib.ListN.{length}
 use Rattle.stream.specs.Feeding.{Held, HeardTo}
-use Rattle.stream.proofs.Hears.{hears_none, hears_on, hears_all}
-use borrow.Author.Rules.{rules}
 use Rattle.clerk.proofs.serve.Given as goal
 
 abbrev pub invariant-loop-from : goal.invariant-loop-from

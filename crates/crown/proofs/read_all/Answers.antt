@@ -1,8 +1,6 @@
 -- `crown::read_all` meets its contract. Assumes nothing.
-use mathlib.Core.Path.{◌≡◌, refl}
-use Rattle.rounds.specs.RoundParts.{Held}
+use mathlib.Core.Path.{refl}
 use native.Mathlib.Omega.{arith}
-use lib.ListN.{length}
 use borrow.Author.Rules.{rules}
 use Rattle.crown.proofs.read_all.Goals as goal
 

@@ -1,10 +1,7 @@
 -- `crown::serve` meets its contract. Assumes nothing.
 use borrow.Author.Rules.{rules}
-use Prim.Native.Nat.{◌-◌, ◌≤◌}
-use lib.ListN.{length}
 use native.Mathlib.Omega.{arith}
-use Rattle.rounds.specs.RoundParts.{Held}
-use mathlib.Core.Path.{◌≡◌, refl}
+use mathlib.Core.Path.{refl}
 use Rattle.crown.proofs.serve.Goals as goal
 
 pub loop-from-init : goal.loop-from-init

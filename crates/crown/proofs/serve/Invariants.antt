@@ -1,10 +1,8 @@
 -- `crown::serve` meets its contract. Assumes nothing.
-use borrow.Author.Rules.{rules}
 use Prim.Native.Nat.{◌-◌, ◌≤◌}
 use lib.ListN.{length}
-use native.Mathlib.Omega.{arith}
 use Rattle.rounds.specs.RoundParts.{Held}
-use mathlib.Core.Path.{◌≡◌, refl}
+use mathlib.Core.Path.{◌≡◌}
 use Rattle.crown.proofs.serve.Given as goal
 
 abbrev pub invariant-loop-from : goal.invariant-loop-from

@@ -3,7 +3,6 @@ use Prim.Native.Nat.{◌≤◌, ◌-◌}
 use lib.ListN.{length}
 use Rattle.crown.proofs.Parts.{ahead_within, ahead_moves, front_within}
 use native.Mathlib.Omega.{arith}
-use borrow.Author.Rules.{rules}
 use Rattle.crown.proofs.serve_one.Goals as goal
 
 pub returns : goal.returns

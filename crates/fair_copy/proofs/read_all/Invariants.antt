@@ -1,10 +1,8 @@
 -- `read_all` meets its contract: what is kept between two reads has its bounds.
-use mathlib.Core.Path.{◌≡◌, refl}
+use mathlib.Core.Path.{◌≡◌}
 use Rattle.copier.specs.Feeding.{Held}
 use Rattle.renewal.specs.Renewing.{InSheet}
-use native.Mathlib.Omega.{arith}
 use lib.ListN.{length}
-use borrow.Author.Rules.{rules}
 use Rattle.fair_copy.proofs.read_all.Given as goal
 
 abbrev pub invariant-loop-turns : goal.invariant-loop-turns

@@ -1,10 +1,7 @@
 -- `serve` meets its contract: at each turn the copier has heard the part so far.
 use Rattle.copier.proofs.On.{hears_none, hears_on, hears_all}
-use Rattle.copier.specs.Feeding.{Held, HeardTo}
-use lib.ListN.{length}
 use native.Mathlib.Omega.{arith}
-use Prim.Native.Nat.{◌-◌, ◌≤◌}
-use mathlib.Core.Path.{◌≡◌, refl}
+use mathlib.Core.Path.{refl}
 use mathlib.Core.Bool.{true≢false}
 use borrow.Author.Rules.{rules}
 use Rattle.fair_copy.proofs.serve.Goals as goal

@@ -1,7 +1,6 @@
 -- `serve_one` meets its contract: the copier has heard the bytes that it used up, and the part goes on behind them.
 use Rattle.text.proofs.Parts.{goes_further}
 use Rattle.copier.proofs.On.{hears_one}
-use borrow.Author.Rules.{rules}
 use Rattle.fair_copy.proofs.serve_one.Goals as goal
 
 pub returns : goal.returns

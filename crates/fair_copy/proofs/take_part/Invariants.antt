@@ -1,13 +1,9 @@
 -- `take_part` meets its contract: what is kept has its bounds, and each turn of the renewal uses up some of the part.
-use Rattle.renewal.proofs.Parts.{opens_when}
-use Rattle.renewal.proofs.Steps.{most_is}
 use Rattle.renewal.specs.Renewing.{InSheet}
 use Rattle.copier.specs.Feeding.{Held}
 use lib.ListN.{length}
-use native.Mathlib.Omega.{arith}
 use Prim.Native.Nat.{◌-◌, ◌≤◌}
-use mathlib.Core.Path.{◌≡◌, refl}
-use borrow.Author.Rules.{rules}
+use mathlib.Core.Path.{◌≡◌}
 use Rattle.fair_copy.proofs.take_part.Given as goal
 
 abbrev pub invariant-loop-fresh : goal.invariant-loop-fresh

@@ -1,7 +1,6 @@
 -- `hands::answer` meets its contract. Assumes nothing.
 use Rattle.hands.proofs.Ended.{answer_is}
 use native.Mathlib.Omega.{arith}
-use borrow.Author.Rules.{rules}
 use Rattle.hands.proofs.answer.Goals as goal
 
 pub slice_bounds-read_by-end : goal.slice_bounds-read_by-end

@@ -1,6 +1,5 @@
 -- `hands::end_word` meets its contract. Assumes nothing.
 use native.Mathlib.Omega.{arith}
-use borrow.Author.Rules.{rules}
 use Rattle.hands.proofs.Ended.{ended_none, ended_kept, ended_full}
 use Rattle.hands.proofs.end_word.Goals as goal
 

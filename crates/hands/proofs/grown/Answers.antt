@@ -2,7 +2,6 @@
 use Rattle.hands.specs.Lines.{grown_of}
 use borrow.Author.Tests.{le-leb, lt-leb}
 use native.Mathlib.Omega.{arith}
-use borrow.Author.Rules.{rules}
 use Rattle.hands.proofs.grown.Goals as goal
 
 pub returns-then-b-lt48 : goal.returns-then-b-lt48

@@ -1,7 +1,6 @@
 -- `hands::put` meets its contract. Assumes nothing.
 use Rattle.hands.specs.Answers.{written}
 use mathlib.Core.Path.{refl}
-use borrow.Author.Rules.{rules}
 use Rattle.hands.proofs.put.Goals as goal
 
 pub returns : goal.returns

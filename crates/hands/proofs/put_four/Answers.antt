@@ -3,7 +3,6 @@ use native.Mathlib.Omega.{arith}
 use Rattle.hands.proofs.Written.{next}
 use borrow.Author.Tests.{lt-ltb, le-ltb}
 use Rattle.hands.specs.Answers.{four_bytes}
-use borrow.Author.Rules.{rules}
 use Rattle.hands.proofs.put_four.Goals as goal
 
 pub returns-then-n-lt100 : goal.returns-then-n-lt100

@@ -1,7 +1,6 @@
 -- `hands::put_key` meets its contract. Assumes nothing.
 use native.Mathlib.Omega.{arith}
 use Rattle.hands.proofs.Written.{next}
-use borrow.Author.Rules.{rules}
 use Rattle.hands.proofs.put_key.Goals as goal
 
 pub returns : goal.returns

@@ -1,7 +1,6 @@
 -- `hands::put_known` meets its contract. Assumes nothing.
 use native.Mathlib.Omega.{arith}
 use Rattle.hands.proofs.Ended.{known_place, known_hand}
-use borrow.Author.Rules.{rules}
 use Rattle.hands.proofs.put_known.Goals as goal
 
 pub returns-then-place : goal.returns-then-place

@@ -3,7 +3,6 @@ use Rattle.hands.proofs.Written.{next}
 use Rattle.hands.specs.Answers.{number_bytes}
 use borrow.Author.Tests.{lt-ltb, le-ltb}
 use native.Mathlib.Omega.{arith}
-use borrow.Author.Rules.{rules}
 use Rattle.hands.proofs.put_number.Goals as goal
 
 pub returns-then-n-lt10 : goal.returns-then-n-lt10

@@ -5,7 +5,6 @@ use mathlib.Core.Path.{sym, subst}
 use Prim.Native.Nat.{ℕ, ◌<◌}
 use Rattle.hands.specs.Answers.{place_bytes}
 use Rattle.hands.proofs.Ended.{place_small}
-use borrow.Author.Rules.{rules}
 use Rattle.hands.proofs.put_place.Goals as goal
 
 pub put_four-requires : goal.put_four-requires

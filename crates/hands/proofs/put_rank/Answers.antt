@@ -2,7 +2,6 @@
 use Rattle.hands.proofs.Written.{next}
 use Rattle.hands.specs.Answers.{rank_bytes}
 use native.Mathlib.Omega.{arith}
-use borrow.Author.Rules.{rules}
 use Rattle.hands.proofs.put_rank.Goals as goal
 
 pub returns : goal.returns

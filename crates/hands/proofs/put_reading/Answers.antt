@@ -1,7 +1,6 @@
 -- `hands::put_reading` meets its contract. Assumes nothing.
 use mathlib.Core.Path.{refl}
 use native.Mathlib.Omega.{arith}
-use borrow.Author.Rules.{rules}
 use Rattle.cards.specs.declared.asked.Reading.TheVariants.{NotSeven, NoCard, Repeat}
 use Rattle.hands.specs.Answers.{reading_bytes}
 use Rattle.hands.proofs.Ended.{known_bytes_law, refused_bytes}

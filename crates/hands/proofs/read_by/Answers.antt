@@ -1,6 +1,5 @@
 -- `hands::read_by` meets its contract. Assumes nothing.
 use Rattle.hands.proofs.Ended.{read_five, read_seven}
-use borrow.Author.Rules.{rules}
 use Rattle.hands.proofs.read_by.Goals as goal
 
 pub returns-then-w : goal.returns-then-w

@@ -1,7 +1,6 @@
 -- `hands::read_cards` meets its contract: both readers give the same answer about the 52 cards. Assumes nothing.
 use mathlib.Core.Path.{sym, ◌∙◌}
 use Rattle.hands.proofs.Ended.{counted_deck}
-use borrow.Author.Rules.{rules}
 use Rattle.hands.proofs.read_cards.Goals as goal
 
 pub returns-then-both : goal.returns-then-both

@@ -1,6 +1,5 @@
 -- `hands::read_counted` meets its contract: the second reader's answer is the first's (counts/proofs/Agree). Assumes nothing.
 use Rattle.hands.proofs.Ended.{counted_as, not_seven}
-use borrow.Author.Rules.{rules}
 use Rattle.hands.proofs.read_counted.Goals as goal
 
 pub returns-then-cards-ne7 : goal.returns-then-cards-ne7

@@ -1,7 +1,6 @@
 -- `hands::read_five` meets its contract, by a law for each return. Assumes nothing.
 use Rattle.hands.proofs.Ended.{five_none, five_twice, five_known, fives_are}
 use mathlib.Core.Path.{sym, ◌∙◌}
-use borrow.Author.Rules.{rules}
 use Rattle.hands.proofs.read_five.Goals as goal
 
 pub returns-then-any_twice : goal.returns-then-any_twice

@@ -1,9 +1,7 @@
 -- `hands::serve` meets its contract. Assumes nothing.
-use mathlib.Core.Path.{◌≡◌, refl}
+use mathlib.Core.Path.{◌≡◌}
 use Prim.Native.Nat.{◌-◌, ◌≤◌}
-use native.Mathlib.Omega.{arith}
 use lib.ListN.{length}
-use borrow.Author.Rules.{rules}
 use Rattle.hands.proofs.serve.Given as goal
 
 abbrev pub invariant-loop-i : goal.invariant-loop-i

@@ -1,5 +1,4 @@
 -- `hands::serve_byte` meets its contract. Assumes nothing.
-use borrow.Author.Rules.{rules}
 use Rattle.hands.proofs.serve_byte.Goals as goal
 
 pub returns-then-b-ne10 : goal.returns-then-b-ne10

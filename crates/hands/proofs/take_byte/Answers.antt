@@ -1,7 +1,6 @@
 -- `hands::take_byte` meets its contract. Assumes nothing.
 use Rattle.hands.specs.Lines.{taken_to, cards_with}
 use borrow.Author.Tests.{eq-eqb, ne_eqb}
-use borrow.Author.Rules.{rules}
 use Rattle.hands.proofs.take_byte.Goals as goal
 
 pub returns-then-b-eq32 : goal.returns-then-b-eq32

@@ -1,7 +1,6 @@
 -- `flush` meets its contract.
 use native.Mathlib.Omega.{arith}
 use borrow.Author.Tests.{le-leb, lt-leb}
-use borrow.Author.Rules.{rules}
 use Rattle.output.proofs.flush.Goals as goal
 
 pub returns-then-at-most : goal.returns-then-at-most

@@ -1,11 +1,8 @@
 -- `pay::read_all` meets its contract: the loop over the input ends, and the teller is sound behind it. Assumes nothing.
 use Rattle.teller.specs.Keeping.{Sound}
 use Rattle.lines.specs.Kept.{Room}
-use Rattle.lines.specs.declared.Fill.{Fill}
-use borrow.Author.Rules.{rules}
-use native.Mathlib.Omega.{arith}
 use lib.ListN.{length}
-use mathlib.Core.Path.{◌≡◌, refl, ap}
+use mathlib.Core.Path.{◌≡◌}
 use Rattle.pay.proofs.read_all.Given as goal
 
 abbrev pub invariant-loop-turns : goal.invariant-loop-turns

@@ -3,7 +3,6 @@ use Rattle.lines.specs.declared.Fill.{Fill}
 use mathlib.Core.Path.{ap}
 use Rattle.output.proofs.Rest.{rest_some}
 use native.Mathlib.Omega.{arith}
-use borrow.Author.Rules.{rules}
 use Rattle.pay.proofs.take_one.Goals as goal
 
 pub gather-g-requires : goal.gather-g-requires

@@ -1,11 +1,7 @@
 -- `pay::take_part` meets its contract: every line of a part is taken, each within the room that is left. Assumes nothing.
-use Rattle.teller.specs.Keeping.{Sound}
-use Rattle.lines.specs.Kept.{Room}
 use borrow.Author.Rules.{rules}
 use native.Mathlib.Omega.{arith}
-use lib.ListN.{length}
-use Prim.Native.Nat.{◌-◌, ◌≤◌}
-use mathlib.Core.Path.{◌≡◌, refl}
+use mathlib.Core.Path.{refl}
 use Rattle.pay.proofs.take_part.Goals as goal
 
 pub loop-from-init : goal.loop-from-init

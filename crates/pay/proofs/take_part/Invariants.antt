@@ -1,11 +1,9 @@
 -- `pay::take_part` meets its contract: every line of a part is taken, each within the room that is left. Assumes nothing.
 use Rattle.teller.specs.Keeping.{Sound}
 use Rattle.lines.specs.Kept.{Room}
-use borrow.Author.Rules.{rules}
-use native.Mathlib.Omega.{arith}
 use lib.ListN.{length}
 use Prim.Native.Nat.{◌-◌, ◌≤◌}
-use mathlib.Core.Path.{◌≡◌, refl}
+use mathlib.Core.Path.{◌≡◌}
 use Rattle.pay.proofs.take_part.Given as goal
 
 abbrev pub invariant-loop-from : goal.invariant-loop-from

@@ -1,9 +1,6 @@
 -- `read_all` meets its contract.
-use mathlib.Core.Path.{◌≡◌, refl}
+use mathlib.Core.Path.{refl}
 use native.Mathlib.Omega.{arith}
-use lib.ListN.{length}
-use Rattle.lines.specs.Kept.{Room}
-use Rattle.table.specs.Take.{Sound}
 use borrow.Author.Rules.{rules}
 use Rattle.report.proofs.read_all.Goals as goal
 

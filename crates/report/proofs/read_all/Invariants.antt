@@ -1,10 +1,8 @@
 -- `read_all` meets its contract.
-use mathlib.Core.Path.{◌≡◌, refl}
-use native.Mathlib.Omega.{arith}
+use mathlib.Core.Path.{◌≡◌}
 use lib.ListN.{length}
 use Rattle.lines.specs.Kept.{Room}
 use Rattle.table.specs.Take.{Sound}
-use borrow.Author.Rules.{rules}
 use Rattle.report.proofs.read_all.Given as goal
 
 abbrev pub invariant-loop-turns : goal.invariant-loop-turns

@@ -1,6 +1,5 @@
 -- `start` meets its contract.
 use Rattle.paper.proofs.Sheets.{stand_in_good}
-use borrow.Author.Rules.{rules}
 use Rattle.report.proofs.start.Goals as goal
 
 pub new_table-table-requires : goal.new_table-table-requires

@@ -1,7 +1,6 @@
 -- `take_one` meets its contract.
 use native.Mathlib.Omega.{arith}
 use Rattle.output.proofs.Rest.{rest_some}
-use borrow.Author.Rules.{rules}
 use Rattle.report.proofs.take_one.Goals as goal
 
 pub returns-then-fill-want : goal.returns-then-fill-want

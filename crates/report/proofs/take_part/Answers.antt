@@ -1,10 +1,6 @@
 -- `take_part` meets its contract.
-use mathlib.Core.Path.{◌≡◌, refl}
-use Prim.Native.Nat.{◌-◌, ◌≤◌}
+use mathlib.Core.Path.{refl}
 use native.Mathlib.Omega.{arith}
-use lib.ListN.{length}
-use Rattle.lines.specs.Kept.{Room}
-use Rattle.table.specs.Take.{Sound}
 use borrow.Author.Rules.{rules}
 use Rattle.report.proofs.take_part.Goals as goal
 

@@ -1,11 +1,9 @@
 -- `take_part` meets its contract.
-use mathlib.Core.Path.{◌≡◌, refl}
+use mathlib.Core.Path.{◌≡◌}
 use Prim.Native.Nat.{◌-◌, ◌≤◌}
-use native.Mathlib.Omega.{arith}
 use lib.ListN.{length}
 use Rattle.lines.specs.Kept.{Room}
 use Rattle.table.specs.Take.{Sound}
-use borrow.Author.Rules.{rules}
 use Rattle.report.proofs.take_part.Given as goal
 
 abbrev pub invariant-loop-from : goal.invariant-loop-from

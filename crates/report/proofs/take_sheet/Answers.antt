@@ -1,7 +1,6 @@
 -- `take_sheet` meets its contract.
 use Rattle.desk.proofs.Opened.{opened_is}
 use mathlib.Core.Path.{sym, ◌∙◌}
-use borrow.Author.Rules.{rules}
 use Rattle.report.proofs.take_sheet.Goals as goal
 
 pub new_table-requires : goal.new_table-requires

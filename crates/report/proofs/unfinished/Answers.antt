@@ -2,7 +2,6 @@
 use mathlib.Core.Path.{ap}
 use native.Mathlib.Omega.{arith}
 use Rattle.lines.specs.declared.Fill.{Fill}
-use borrow.Author.Rules.{rules}
 use Rattle.report.proofs.unfinished.Goals as goal
 
 pub returns : goal.returns

@@ -1,11 +1,7 @@
 -- `show` meets its contract: at each turn the part is drawn so far.
 use mathlib.Core.Bool.{true≢false}
-use mathlib.Core.Path.{◌≡◌, refl}
-use Prim.Native.Nat.{◌-◌, ◌≤◌}
+use mathlib.Core.Path.{refl}
 use native.Mathlib.Omega.{arith}
-use lib.ListN.{length}
-use Rattle.picture.specs.Screen.{Held}
-use Rattle.picture.specs.Parts.{DrawnTo}
 use Rattle.picture.proofs.Parts.{draws_none, draws_on, draws_all}
 use borrow.Author.Rules.{rules}
 use Rattle.screen.proofs.show.Goals as goal

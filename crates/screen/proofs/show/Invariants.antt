@@ -1,13 +1,9 @@
 -- `show` meets its contract: at each turn the part is drawn so far.
-use mathlib.Core.Bool.{true≢false}
-use mathlib.Core.Path.{◌≡◌, refl}
+use mathlib.Core.Path.{◌≡◌}
 use Prim.Native.Nat.{◌-◌, ◌≤◌}
-use native.Mathlib.Omega.{arith}
 use lib.ListN.{length}
 use Rattle.picture.specs.Screen.{Held}
 use Rattle.picture.specs.Parts.{DrawnTo}
-use Rattle.picture.proofs.Parts.{draws_none, draws_on, draws_all}
-use borrow.Author.Rules.{rules}
 use Rattle.screen.proofs.show.Given as goal
 
 abbrev pub invariant-loop-from : goal.invariant-loop-from

@@ -1,6 +1,5 @@
 -- `show_one` meets its contract: the bytes that it used up are drawn, and the part goes on behind them.
 use Rattle.picture.proofs.Parts.{draws_one, draws_moves}
-use borrow.Author.Rules.{rules}
 use Rattle.screen.proofs.show_one.Goals as goal
 
 pub returns : goal.returns

@@ -1,9 +1,7 @@
 -- `try_firsts` meets its contract.
 use lib.ListN.{length}
-use native.Mathlib.Omega.{arith}
 use Prim.Native.Nat.{◌+◌, ◌-◌}
-use mathlib.Core.Path.{◌≡◌, refl}
-use borrow.Author.Rules.{rules}
+use mathlib.Core.Path.{◌≡◌}
 use Rattle.try_chops.proofs.try_firsts.Given as goal
 
 -- `try_firsts` meets its contract: each first place lies within the log.

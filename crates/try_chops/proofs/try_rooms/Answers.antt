@@ -1,9 +1,6 @@
 -- `try_rooms` meets its contract.
-use lib.ListN.{length}
 use native.Mathlib.Omega.{arith}
-use Prim.Native.Nat.{◌+◌, ◌-◌}
-use mathlib.Core.Path.{◌≡◌, refl}
-use borrow.Author.Rules.{rules}
+use mathlib.Core.Path.{refl}
 use Rattle.try_chops.proofs.try_rooms.Goals as goal
 
 pub loop-room-init : goal.loop-room-init

@@ -1,9 +1,7 @@
 -- `try_seconds` meets its contract.
 use lib.ListN.{length}
-use native.Mathlib.Omega.{arith}
 use Prim.Native.Nat.{◌+◌, ◌-◌, ◌≤◌}
-use mathlib.Core.Path.{◌≡◌, refl}
-use borrow.Author.Rules.{rules}
+use mathlib.Core.Path.{◌≡◌}
 use Rattle.try_chops.proofs.try_seconds.Given as goal
 
 -- `try_seconds` meets its contract: each second place lies behind the first and within the log.

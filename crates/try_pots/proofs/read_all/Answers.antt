@@ -1,8 +1,6 @@
 -- `read_all` meets its contract: it is safe, and ends.
 -- Assumes nothing.
-use mathlib.Core.Path.{◌≡◌, refl}
-use borrow.Author.Rules.{rules}
-use lib.ListN.{length}
+use mathlib.Core.Path.{refl}
 use Rattle.try_pots.proofs.read_all.Goals as goal
 
 pub loop-turns-init : goal.loop-turns-init

@@ -1,7 +1,6 @@
 -- `read_all` meets its contract: it is safe, and ends.
 -- Assumes nothing.
-use mathlib.Core.Path.{◌≡◌, refl}
-use borrow.Author.Rules.{rules}
+use mathlib.Core.Path.{◌≡◌}
 use lib.ListN.{length}
 use Rattle.try_pots.proofs.read_all.Given as goal
 

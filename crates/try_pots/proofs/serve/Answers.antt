@@ -1,9 +1,7 @@
 -- `serve` meets its contract: it is safe, and ends. The invariant: the places within the part and the answers' room.
 -- Assumes nothing.
-use Prim.Native.Nat.{◌≤◌, ◌-◌}
-use mathlib.Core.Path.{◌≡◌, refl}
+use mathlib.Core.Path.{refl}
 use borrow.Author.Rules.{rules}
-use lib.ListN.{length}
 use Rattle.try_pots.proofs.serve.Goals as goal
 
 pub loop-i-init : goal.loop-i-init

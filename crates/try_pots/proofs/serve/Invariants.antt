@@ -1,8 +1,7 @@
 -- `serve` meets its contract: it is safe, and ends. The invariant: the places within the part and the answers' room.
 -- Assumes nothing.
 use Prim.Native.Nat.{◌≤◌, ◌-◌}
-use mathlib.Core.Path.{◌≡◌, refl}
-use borrow.Author.Rules.{rules}
+use mathlib.Core.Path.{◌≡◌}
 use lib.ListN.{length}
 use Rattle.try_pots.proofs.serve.Given as goal
 

@@ -1,7 +1,6 @@
 -- `blank_from` meets its contract.
 use Prim.Native.Nat.{◌-◌}
 use Rattle.answers.specs.Answer.{longest}
-use borrow.Author.Rules.{rules}
 use Rattle.try_rooms.proofs.blank_from.Given as goal
 
 abbrev pub invariant-loop-i : goal.invariant-loop-i

@@ -1,7 +1,6 @@
 -- `main` meets its contract.
 use Rattle.desk.proofs.Opened.{opened_is}
 use mathlib.Core.Path.{sym, ◌∙◌}
-use borrow.Author.Rules.{rules}
 use Rattle.try_rooms.proofs.main.Goals as goal
 
 pub new_table-requires : goal.new_table-requires

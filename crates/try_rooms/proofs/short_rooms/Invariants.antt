@@ -1,6 +1,5 @@
 -- `short_rooms` meets its contract.
 use Prim.Native.Nat.{◌-◌}
-use borrow.Author.Rules.{rules}
 use Rattle.try_rooms.proofs.short_rooms.Given as goal
 
 abbrev pub invariant-loop-room : goal.invariant-loop-room

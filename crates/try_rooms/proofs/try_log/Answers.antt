@@ -2,10 +2,8 @@
 use Rattle.desk.proofs.Whole.{whole_part}
 use Rattle.blocks.proofs.Blocks.{rest_shorter}
 use mathlib.Core.Path.{ap, ◌∙◌}
-use Rattle.table.specs.Take.{Sound}
 use native.Mathlib.Omega.{arith}
 use lib.ListN.{length}
-use borrow.Author.Rules.{rules}
 use Rattle.try_rooms.proofs.try_log.Goals as goal
 
 pub loop-left-smaller : goal.loop-left-smaller

@@ -1,11 +1,6 @@
 -- `try_log` meets its contract.
-use Rattle.desk.proofs.Whole.{whole_part}
-use Rattle.blocks.proofs.Blocks.{rest_shorter}
-use mathlib.Core.Path.{ap, ◌∙◌}
 use Rattle.table.specs.Take.{Sound}
-use native.Mathlib.Omega.{arith}
 use lib.ListN.{length}
-use borrow.Author.Rules.{rules}
 use Rattle.try_rooms.proofs.try_log.Given as goal
 
 abbrev pub invariant-loop-left : goal.invariant-loop-left

@@ -1,7 +1,6 @@
 -- `start` meets its contract: the stand-in opens a book, and nothing is kept. Assumes nothing.
 use native.Mathlib.Omega.{arith}
 use Rattle.paper.proofs.Sheets.{stand_in_good}
-use borrow.Author.Rules.{rules}
 use Rattle.book.proofs.keeper.start.Goals as goal
 
 pub opened-b-requires : goal.opened-b-requires

@@ -1,6 +1,5 @@
 -- `take_lines` meets its contract: whole lines are a block, or the sheet, about which nothing is said. Assumes nothing.
 use Rattle.book.proofs.Fronts.{none_written}
-use borrow.Author.Rules.{rules}
 use Rattle.book.proofs.keeper.take_lines.Goals as goal
 
 pub take_block-requires : goal.take_block-requires

@@ -4,7 +4,6 @@ use Rattle.blocks.specs.declared.front.Front.{Front}
 use Prim.Native.Nat.{ℕ, ◌≤◌, ◌<◌}
 use mathlib.Core.Path.{sym, subst, ap}
 use lib.ListN.{length}
-use borrow.Author.Rules.{rules}
 use Rattle.book.proofs.keeper.take_one.Goals as goal
 
 pub take_block-requires : goal.take_block-requires

@@ -6,7 +6,6 @@ use mathlib.Core.Bool.{true}
 use Rattle.paper.specs.Paper.{is_sheet}
 use Rattle.paper.specs.declared.Sheet.{Sheet}
 use Rattle.desk.proofs.Opened.{lone_is}
-use borrow.Author.Rules.{rules}
 use Rattle.book.proofs.keeper.take_sheet.Goals as goal
 
 pub opened-b-requires : goal.opened-b-requires

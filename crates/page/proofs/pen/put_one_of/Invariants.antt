@@ -1,6 +1,5 @@
 -- `put_one_of` comes to an end.
 use Prim.Native.Nat.{◌-◌}
-use borrow.Author.Rules.{rules}
 use Rattle.page.proofs.pen.put_one_of.Given as goal
 
 abbrev pub invariant-loop-i : goal.invariant-loop-i

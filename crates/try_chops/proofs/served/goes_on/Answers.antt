@@ -4,7 +4,6 @@ use borrow.Author.Tests.{ltb-true}
 use mathlib.Core.Path.{sym}
 use mathlib.Core.Bool.{true≢false}
 use native.Mathlib.Omega.{arith}
-use borrow.Author.Rules.{rules}
 use Rattle.try_chops.proofs.served.goes_on.Goals as goal
 
 pub returns-then-used-size : goal.returns-then-used-size

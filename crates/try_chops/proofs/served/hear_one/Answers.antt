@@ -3,7 +3,6 @@ use lib.Seq.{length-take-le}
 use lib.ListN.{drop, length-drop}
 use native.Mathlib.Omega.{arith}
 use Prim.Native.Nat.{◌+◌, ◌-◌}
-use borrow.Author.Rules.{rules}
 use Rattle.try_chops.proofs.served.hear_one.Goals as goal
 
 pub overflow_add-n : goal.overflow_add-n

@@ -1,10 +1,8 @@
 -- `hear_part` meets its contract.
-use mathlib.Core.Path.{ap, ◌≡◌, refl}
+use mathlib.Core.Path.{ap, refl}
 use Rattle.text.proofs.Parts.{part_is}
-use Rattle.stream.specs.Feeding.{Held}
 use lib.ListN.{length, length-drop}
 use native.Mathlib.Omega.{arith}
-use Prim.Native.Nat.{◌-◌, ◌≤◌}
 use borrow.Author.Rules.{rules}
 use Rattle.try_chops.proofs.served.hear_part.Goals as goal
 

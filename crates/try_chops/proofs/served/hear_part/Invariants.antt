@@ -1,11 +1,8 @@
 -- `hear_part` meets its contract.
-use mathlib.Core.Path.{ap, ◌≡◌, refl}
-use Rattle.text.proofs.Parts.{part_is}
+use mathlib.Core.Path.{◌≡◌}
 use Rattle.stream.specs.Feeding.{Held}
-use lib.ListN.{length, length-drop}
-use native.Mathlib.Omega.{arith}
+use lib.ListN.{length}
 use Prim.Native.Nat.{◌-◌, ◌≤◌}
-use borrow.Author.Rules.{rules}
 use Rattle.try_chops.proofs.served.hear_part.Given as goal
 
 -- `hear_part` meets its contract: what is kept has its bounds, and each call uses up a byte at least.

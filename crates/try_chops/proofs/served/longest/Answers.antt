@@ -1,9 +1,6 @@
 -- `longest` meets its contract.
-use Rattle.stream.specs.Feeding.{Held}
-use lib.ListN.{length}
 use native.Mathlib.Omega.{arith}
-use Prim.Native.Nat.{◌-◌, ◌≤◌}
-use mathlib.Core.Path.{◌≡◌, refl}
+use mathlib.Core.Path.{refl}
 use borrow.Author.Rules.{rules}
 use Rattle.try_chops.proofs.served.longest.Goals as goal
 

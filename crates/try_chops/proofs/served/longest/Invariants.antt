@@ -1,10 +1,8 @@
 -- `longest` meets its contract.
 use Rattle.stream.specs.Feeding.{Held}
 use lib.ListN.{length}
-use native.Mathlib.Omega.{arith}
 use Prim.Native.Nat.{◌-◌, ◌≤◌}
-use mathlib.Core.Path.{◌≡◌, refl}
-use borrow.Author.Rules.{rules}
+use mathlib.Core.Path.{◌≡◌}
 use Rattle.try_chops.proofs.served.longest.Given as goal
 
 -- `longest` meets its contract: what any call writes lies in the trace.

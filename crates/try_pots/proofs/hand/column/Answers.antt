@@ -1,13 +1,10 @@
 -- `column` meets its contract. The invariant: in front of the place the numbers are written, behind it they are still to come.
 -- Assumes nothing.
 use Rattle.try_pots.proofs.Made.{listed_turn, listed_done}
-use Rattle.try_pots.specs.MadeHands.{listed, number_for, column_of}
-use borrow.Author.Rules.{rules}
+use Rattle.try_pots.specs.MadeHands.{column_of}
 use native.Mathlib.Omega.{arith}
-use lib.ListN.{length, take, length-set}
-use Prim.Native.Nat.{◌≤◌, ◌-◌}
-use mathlib.Core.List.{◌++◌}
-use mathlib.Core.Path.{◌≡◌, refl}
+use lib.ListN.{length-set}
+use mathlib.Core.Path.{refl}
 use Rattle.try_pots.proofs.hand.column.Goals as goal
 
 pub loop-i-init : goal.loop-i-init

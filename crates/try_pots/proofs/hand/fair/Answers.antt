@@ -1,7 +1,6 @@
 -- `fair` meets its contract.
 -- Assumes nothing.
 use Rattle.try_pots.specs.MadeHands.{is_fair}
-use borrow.Author.Rules.{rules}
 use Rattle.try_pots.proofs.hand.fair.Goals as goal
 
 pub returns : goal.returns

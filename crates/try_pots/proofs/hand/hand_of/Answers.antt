@@ -1,7 +1,6 @@
 -- `hand_of` meets its contract: the hand that the line's numbers say.
 -- Assumes nothing.
 use Rattle.try_pots.specs.MadeHands.{hand_of}
-use borrow.Author.Rules.{rules}
 use Rattle.try_pots.proofs.hand.hand_of.Goals as goal
 
 pub returns : goal.returns

@@ -2,7 +2,6 @@
 -- Assumes nothing.
 use lib.ListN.{get_or-eq_default}
 use mathlib.Core.Path.{sym}
-use borrow.Author.Rules.{rules}
 use Rattle.try_pots.proofs.hand.number_at.Goals as goal
 
 pub returns-else-i-nums : goal.returns-else-i-nums

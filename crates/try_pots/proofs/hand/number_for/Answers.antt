@@ -1,7 +1,6 @@
 -- `number_for` meets its contract.
 -- Assumes nothing.
 use borrow.Author.Tests.{lt-ltb, le-ltb}
-use borrow.Author.Rules.{rules}
 use Rattle.try_pots.proofs.hand.number_for.Goals as goal
 
 pub returns-then-i-seats : goal.returns-then-i-seats

@@ -1,6 +1,5 @@
 -- `rule_of` meets its contract.
 -- Assumes nothing.
-use borrow.Author.Rules.{rules}
 use Rattle.try_pots.proofs.hand.rule_of.Goals as goal
 
 pub returns : goal.returns

@@ -2,7 +2,6 @@
 -- Assumes nothing.
 use Rattle.try_pots.proofs.Made.{seats_most}
 use Rattle.try_pots.specs.MadeHands.{seats_of}
-use borrow.Author.Rules.{rules}
 use Rattle.try_pots.proofs.hand.seats_of.Goals as goal
 
 pub returns : goal.returns

@@ -1,10 +1,8 @@
 -- `sum` meets its contract. The invariant: s is the sum of the numbers from place i on, each of 32 bits.
 -- Assumes nothing.
-use Prim.Native.Nat.{◌+◌, ◌*◌, ◌≤◌}
-use mathlib.Core.Path.{◌≡◌, sym, ◌∙◌}
+use mathlib.Core.Path.{sym, ◌∙◌}
 use native.Mathlib.Omega.{arith}
 use borrow.Author.Rules.{rules}
-use lib.ListN.{drop}
 use Rattle.laws.specs.Lists.{sum_of}
 use Rattle.laws.proofs.Places.{last_start, last_turn, last_done}
 use Rattle.try_pots.proofs.hand.sum.Goals as goal

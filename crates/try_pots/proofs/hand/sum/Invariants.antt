@@ -1,12 +1,9 @@
 -- `sum` meets its contract. The invariant: s is the sum of the numbers from place i on, each of 32 bits.
 -- Assumes nothing.
 use Prim.Native.Nat.{◌+◌, ◌*◌, ◌≤◌}
-use mathlib.Core.Path.{◌≡◌, sym, ◌∙◌}
-use native.Mathlib.Omega.{arith}
-use borrow.Author.Rules.{rules}
+use mathlib.Core.Path.{◌≡◌}
 use lib.ListN.{drop}
 use Rattle.laws.specs.Lists.{sum_of}
-use Rattle.laws.proofs.Places.{last_start, last_turn, last_done}
 use Rattle.try_pots.proofs.hand.sum.Given as goal
 
 abbrev pub invariant-loop-i : goal.invariant-loop-i

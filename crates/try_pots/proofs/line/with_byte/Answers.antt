@@ -1,7 +1,6 @@
 -- `with_byte` meets its contract, by a law for each return.
 -- Assumes nothing.
 use Rattle.try_pots.proofs.Scanned.{taken_blank, taken_other}
-use borrow.Author.Rules.{rules}
 use Rattle.try_pots.proofs.line.with_byte.Goals as goal
 
 pub returns-then-b-eq32 : goal.returns-then-b-eq32

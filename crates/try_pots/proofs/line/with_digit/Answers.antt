@@ -2,7 +2,6 @@
 -- Assumes nothing.
 use Rattle.try_pots.proofs.Scanned.{digit_one, digit_none, grows_is, grows_by}
 use native.Mathlib.Omega.{arith}
-use borrow.Author.Rules.{rules}
 use Rattle.try_pots.proofs.line.with_digit.Goals as goal
 
 pub overflow_mul-result : goal.overflow_mul-result

@@ -2,7 +2,6 @@
 -- Assumes nothing.
 use borrow.Author.Tests.{not-true, not-false}
 use Rattle.try_pots.proofs.Scanned.{ended_none, ended_kept, ended_full}
-use borrow.Author.Rules.{rules}
 use Rattle.try_pots.proofs.line.with_number.Goals as goal
 
 pub returns-then-not-s : goal.returns-then-not-s

@@ -1,8 +1,7 @@
 -- `put` meets its contract. The invariant: what is written lies within its room.
 -- Assumes nothing.
 use Prim.Native.Nat.{◌≤◌, ◌-◌}
-use mathlib.Core.Path.{◌≡◌, refl}
-use borrow.Author.Rules.{rules}
+use mathlib.Core.Path.{◌≡◌}
 use lib.ListN.{length}
 use Rattle.try_pots.proofs.lines.put.Given as goal
 

@@ -1,9 +1,7 @@
 -- `put_pots` meets its contract. The invariant: what is written lies within its room.
 -- Assumes nothing.
-use Prim.Native.Nat.{◌≤◌, ◌-◌}
-use mathlib.Core.Path.{◌≡◌, refl}
+use mathlib.Core.Path.{refl}
 use borrow.Author.Rules.{rules}
-use lib.ListN.{length}
 use Rattle.try_pots.proofs.lines.put_pots.Goals as goal
 
 pub loop-i-init : goal.loop-i-init
