@@ -1,10 +1,7 @@
 -- `read_all` meets its contract: the loop over the input ends, and the pair is good behind it.
-use mathlib.Core.Path.{◌≡◌, refl}
+use mathlib.Core.Path.{refl}
 use native.Mathlib.Omega.{arith}
-use lib.ListN.{length}
 use borrow.Author.Rules.{rules}
-use Rattle.couple.specs.Couple.{Good}
-use Rattle.frames.specs.Frames.{Held}
 use Rattle.pair.proofs.read_all.Goals as goal
 
 pub loop-turns-init : goal.loop-turns-init

@@ -1,8 +1,6 @@
 -- `read_all` meets its contract: the loop over the input ends, and the pair is good behind it.
-use mathlib.Core.Path.{◌≡◌, refl}
-use native.Mathlib.Omega.{arith}
+use mathlib.Core.Path.{◌≡◌}
 use lib.ListN.{length}
-use borrow.Author.Rules.{rules}
 use Rattle.couple.specs.Couple.{Good}
 use Rattle.frames.specs.Frames.{Held}
 use Rattle.pair.proofs.read_all.Given as goal

@@ -1,14 +1,9 @@
 -- `serve` meets its contract: at each turn the pair has heard the part so far.
 use mathlib.Core.Bool.{true≢false}
-use Rattle.frames.specs.Frames.{Held}
-use Rattle.couple.specs.Couple.{Good}
-use Rattle.pairs.specs.Pairs.{HeardTo}
 use Rattle.pairs.proofs.Hears.{hears_none, hears_on, hears_all}
 use borrow.Author.Rules.{rules}
-use lib.ListN.{length}
 use native.Mathlib.Omega.{arith}
-use Prim.Native.Nat.{◌-◌, ◌≤◌}
-use mathlib.Core.Path.{◌≡◌, refl}
+use mathlib.Core.Path.{refl}
 use Rattle.pair.proofs.serve.Goals as goal
 
 pub loop-from-init : goal.loop-from-init

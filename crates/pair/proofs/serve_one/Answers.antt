@@ -1,7 +1,6 @@
 -- `serve_one` meets its contract: the pair has heard the bytes that were used up, at least one, and the part goes on behind them.
 use Rattle.text.proofs.Parts.{goes_further}
 use Rattle.pairs.proofs.Hears.{hears_one}
-use borrow.Author.Rules.{rules}
 use Rattle.pair.proofs.serve_one.Goals as goal
 
 pub returns : goal.returns

@@ -3,7 +3,6 @@ use mathlib.Core.Path.{ap}
 use lib.ListN.{length, length-drop}
 use native.Mathlib.Omega.{arith}
 use Rattle.text.proofs.Parts.{part_is}
-use borrow.Author.Rules.{rules}
 use Rattle.view.proofs.hear.Goals as goal
 
 pub returns : goal.returns

@@ -1,8 +1,6 @@
 -- `read_all` meets its contract: what is kept between two reads has its bounds.
-use mathlib.Core.Path.{◌≡◌, refl}
-use Rattle.seen.specs.Seen.{Held}
+use mathlib.Core.Path.{refl}
 use native.Mathlib.Omega.{arith}
-use lib.ListN.{length}
 use borrow.Author.Rules.{rules}
 use Rattle.view.proofs.read_all.Goals as goal
 

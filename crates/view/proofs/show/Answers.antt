@@ -1,10 +1,7 @@
 -- `show` meets its contract: what is seen between two blocks has its bounds.
-use mathlib.Core.Path.{◌≡◌, refl}
-use Prim.Native.Nat.{◌-◌, ◌≤◌}
-use lib.ListN.{length}
+use mathlib.Core.Path.{refl}
 use native.Mathlib.Omega.{arith}
 use borrow.Author.Rules.{rules}
-use Rattle.seen.specs.Seen.{Held}
 use Rattle.view.proofs.show.Goals as goal
 
 pub loop-from-init : goal.loop-from-init

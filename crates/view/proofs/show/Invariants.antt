@@ -1,9 +1,7 @@
 -- `show` meets its contract: what is seen between two blocks has its bounds.
-use mathlib.Core.Path.{◌≡◌, refl}
+use mathlib.Core.Path.{◌≡◌}
 use Prim.Native.Nat.{◌-◌, ◌≤◌}
 use lib.ListN.{length}
-use native.Mathlib.Omega.{arith}
-use borrow.Author.Rules.{rules}
 use Rattle.seen.specs.Seen.{Held}
 use Rattle.view.proofs.show.Given as goal
 
