@@ -4,6 +4,7 @@
 usage: tools/answers_from_proofs.py NAMES CRATE [FUNCTION..]
 
 NAMES is a names.json of `rt check --generated NAMES --old-names`. A FUNCTION is the folder of its proof below proofs/, as settle/count; none: all.
+With KEEPNOT=1 in the environment the lemmas not-true and not-false stay at the tests of `!x`: a field's test still wants them.
 A Proof.antt that walks the code itself (with no tie.close) stays. What is turned is checked by nobody here: rt check decides.
 """
 import json
@@ -175,29 +176,21 @@ class Function:
 
 
 def blocks(text):
-    """The file's declarations, each with the comments above it."""
-    out, comments, current = [], [], []
+    """The file's declarations: the name, the comments above it, and its lines."""
+    out, comments = [], []
     for line in text.split("\n"):
-        if line.startswith("--") or not line.strip():
-            if current and (line.startswith("--") or not line.strip()):
-                pass
-        if re.match(r"[^\s)\]]", line) and not line.startswith("--"):
-            name = HEAD.match(line)[1]
-            word = line.split()[0]
-            same = current and (word == "unfolding" or (current[0][0] == name and ":" not in line.split()[1:2]) or (word not in ("use", "module", "abbrev", "pub", "unfoldable") and current[0][0] == name))
-            if same:
-                current[1].append(line)
-                continue
-            current = (name, [line])
-            out.append([name, comments, current[1]])
-            current = (current, )
-            current = (out[-1], )
-            current = ((name,), out[-1][2])
-            comments = []
-        elif line.startswith("--"):
+        if line.startswith("--"):
             comments.append(line)
-        elif current:
-            current[1].append(line)
+        elif re.match(r"[^\s)\]]", line):
+            name, word = HEAD.match(line)[1], line.split()[0]
+            own = out and out[-1][0] == name and (":" not in line.split()[1:2] or word not in ("use", "module", "abbrev", "pub", "unfoldable"))
+            if out and (word == "unfolding" or own):
+                out[-1][2].append(line)
+            else:
+                out.append([name, comments, [line]])
+                comments = []
+        elif out:
+            out[-1][2].append(line)
     return out
 
 
