@@ -7,13 +7,13 @@ ghost use Rattle.laws.specs.Tests.{both, either, pick, one};
 pub fn both(a: bool, b: bool) -> bool
     ensures { result ≡ both a b }
 {
-    if a { b } else { false }
+    a && b
 }
 
 pub fn either(a: bool, b: bool) -> bool
     ensures { result ≡ either a b }
 {
-    if a { true } else { b }
+    a || b
 }
 
 // One of two numbers, by a test.
@@ -27,30 +27,30 @@ pub fn chosen(b: bool, x: u32, y: u32) -> u32
 pub fn one(b: bool) -> u32
     ensures { result ≡ one b }
 {
-    if b { 1 } else { 0 }
+    u32::from(b)
 }
 
 pub fn least(a: u32, b: u32) -> u32
     ensures { result ≡ min a b }
 {
-    if a < b { a } else { b }
+    a.min(b)
 }
 
 pub fn most(a: u32, b: u32) -> u32
     ensures { result ≡ max a b }
 {
-    if a < b { b } else { a }
+    a.max(b)
 }
 
 // How much b is short of a; 0 where it is not.
 pub fn short_of(a: u32, b: u32) -> u32
     ensures { result ≡ a - b }
 {
-    if b <= a { a - b } else { 0 }
+    a.saturating_sub(b)
 }
 
 pub fn sum(a: u32, b: u32) -> u64
     ensures { result ≡ a + b }
 {
-    a as u64 + b as u64
+    u64::from(a) + u64::from(b)
 }
