@@ -1,27 +1,26 @@
 // Document 01, "Hand order", its last sentence: what the box answers when it is asked directly about cards.
-ghost use Rattle.std.specs.Prelude.{◌≡◌, ◌≤◌, length, drop};
-ghost use Rattle.cards.specs.Reading.{any_above, any_below, any_outside, is_among, any_twice, code_of_reading, reading_of, code_asked};
+ghost use Rattle.std.specs.Prelude.{◌≡◌};
+ghost use Rattle.cards.specs.Reading.{any_above, any_outside, is_among, any_twice, least_card, number_of, code_of_reading, reading_of, code_asked};
 
 use crate::{Hand, best_hand};
 
-// What the box answers when it is asked about cards: a hand, or why it names none.
-#[derive(Clone, Copy)]
-pub enum Reading {
-    Known(Hand),
+// Why the box names no hand of the cards that it is asked about.
+#[derive(Clone, Copy, Debug, PartialEq, Eq)]
+pub enum NoHand {
     NotSeven,
     NoCard,
     Repeat,
 }
 
-// The paper's number for an answer.
-pub fn code_of(r: Reading) -> u8
-    ensures { result ≡ code_of_reading r }
-{
-    match r {
-        Reading::Known(_) => 0,
-        Reading::NotSeven => 2,
-        Reading::NoCard => 2,
-        Reading::Repeat => 8,
+impl NoHand {
+    // The paper's number for it.
+    pub fn number(self) -> u8
+        ensures { result ≡ number_of self }
+    {
+        match self {
+            NoHand::NotSeven | NoHand::NoCard => 2,
+            NoHand::Repeat => 8,
+        }
     }
 }
 
@@ -29,84 +28,55 @@ pub fn code_of(r: Reading) -> u8
 pub fn any_above(cards: &[u8]) -> bool
     ensures { result ≡ any_above cards.now }
 {
-    let mut i = 0;
-    while i < cards.len() {
-        if 51 < cards[i] {
-            return true;
-        }
-        i += 1;
-    }
-    false
+    cards.iter().any(|c| 51 < *c)
 }
 
-// Whether a card is below the least.
-fn any_below(least: u8, cards: &[u8]) -> bool
-    ensures { result ≡ any_below least cards.now }
+// The lowest card of a deck: the 32 cards go from 20 to 51, and of the 52 none is too low.
+fn least_card(deck: u32) -> u8
+    ensures { result ≡ least_card deck }
 {
-    let mut i = 0;
-    while i < cards.len() {
-        if cards[i] < least {
-            return true;
-        }
-        i += 1;
-    }
-    false
+    if deck == 32 { 20 } else { 0 }
 }
 
-// Whether a card is not of the deck: the 32 cards go from 20 to 51, and of the 52 none is too low.
+// Whether a card is not of the deck.
 pub fn any_outside(deck: u32, cards: &[u8]) -> bool
     ensures { result ≡ any_outside deck cards.now }
 {
-    if any_above(cards) {
-        return true;
-    }
-    if deck == 32 {
-        return any_below(20, cards);
-    }
-    false
+    let least = least_card(deck);
+    cards.iter().any(|c| 51 < *c || *c < least)
 }
 
-// Whether x is among the cards from `from` on.
-fn among(cards: &[u8], from: usize, x: u8) -> bool
-    requires { from ≤ length cards.now }
-    ensures { result ≡ is_among x (drop from cards.now) }
+// Whether x is among some cards.
+fn is_among(x: u8, cards: &[u8]) -> bool
+    ensures { result ≡ is_among x cards.now }
 {
-    let mut i = from;
-    while i < cards.len() {
-        if x == cards[i] {
-            return true;
-        }
-        i += 1;
-    }
-    false
+    cards.iter().any(|c| x == *c)
 }
 
 // Whether a card comes twice.
 pub fn any_twice(cards: &[u8]) -> bool
     ensures { result ≡ any_twice cards.now }
 {
-    let mut i = 0;
-    while i < cards.len() {
-        if among(cards, i + 1, cards[i]) {
+    for (i, c) in cards.iter().enumerate() {
+        if is_among(*c, &cards[i + 1..]) {
             return true;
         }
-        i += 1;
     }
     false
 }
 
 // The best hand of seven cards of the deck: any other number of cards is refused, then a card that is not of the deck, then a card that comes twice.
-pub fn read_hand(deck: u32, cards: &[u8]) -> Reading
+pub fn read_hand(deck: u32, cards: &[u8]) -> Result<Hand, NoHand>
     ensures { (result ≡ reading_of deck cards.now) × (code_of_reading result ≡ code_asked deck cards.now) }
 {
     if cards.len() != 7 {
-        return Reading::NotSeven;
+        return Err(NoHand::NotSeven);
     }
     if any_outside(deck, cards) {
-        return Reading::NoCard;
+        return Err(NoHand::NoCard);
     }
     if any_twice(cards) {
-        return Reading::Repeat;
+        return Err(NoHand::Repeat);
     }
-    Reading::Known(best_hand(deck, cards))
+    Ok(best_hand(deck, cards))
 }

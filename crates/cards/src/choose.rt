@@ -51,10 +51,8 @@ fn packed(cards: &[u8], at: usize) -> u64
     ensures is { lows (length cards.now - at) result ≡ drop at cards.now }
     ensures small { result < units (length cards.now - at) }
 {
-    let mut i = cards.len();
     let mut n = 0;
-    while at < i {
-        i -= 1;
+    for i in (at..cards.len()).rev() {
         n = behind(n, cards[i]);
     }
     n

@@ -10,6 +10,7 @@ use native.Mathlib.Decide.{dec_lt}
 use lib.Dec.{eqb, ltb}
 use lib.ListN.{length, length-map}
 use borrow.Author.Tests.{eq-eqb, ltb-true, ltb-false, lt-ltb, le-ltb}
+use Rattle.std.specs.Prelude.{Ok, Err}
 use Rattle.laws.specs.Tests.{both, pick}
 use Rattle.laws.specs.Lists.{All}
 use Rattle.laws.specs.Often.{count, SameNumbers}
@@ -21,10 +22,9 @@ use Rattle.cards.specs.Hands.{hand}
 use Rattle.cards.specs.Order.{ranking52, ranking_of, choices, best_of}
 use Rattle.cards.proofs.Outside.{outside52}
 use Rattle.cards.specs.Falls.{fall}
-use Rattle.cards.specs.Reading.{any_above, any_outside, any_twice, reading_of}
+use Rattle.cards.specs.Reading.{Reading, any_above, any_outside, any_twice, reading_of}
 use Rattle.cards.specs.declared.Hand.{Hand}
-use Rattle.cards.specs.declared.asked.Reading.{Reading}
-use Rattle.cards.specs.declared.asked.Reading.TheVariants.{Known, NotSeven, NoCard, Repeat}
+use Rattle.cards.specs.declared.asked.NoHand.TheVariants.{NotSeven, NoCard, Repeat}
 use Rattle.cards.proofs.Kept.{placed52}
 use Rattle.cards.proofs.Mixing.{choice_within, best_same}
 use Rattle.cards.proofs.Falls.{Falling, fall_falling, fall_same, falling_map}
@@ -236,28 +236,28 @@ counted_best cards n high twice =
 
 -- ---- what the code answers
 module _ (l : List ℕ) where
-  pub reads_high : any_above l ≡ true → NoCard ≡ counted_reading l
+  pub reads_high : any_above l ≡ true → Err NoCard ≡ counted_reading l
   unfolding counted_reading
-  reads_high e = sym (ap (λ (b : Bool). pick b NoCard (pick (any_twice l) Repeat (Known (counted_hand l)))) e)
+  reads_high e = sym (ap (λ (b : Bool). pick b (Err NoCard) (pick (any_twice l) (Err Repeat) (Ok (counted_hand l)))) e)
 
-  pub reads_twice : any_above l ≡ false → any_twice l ≡ true → Repeat ≡ counted_reading l
+  pub reads_twice : any_above l ≡ false → any_twice l ≡ true → Err Repeat ≡ counted_reading l
   unfolding counted_reading
-  reads_twice e f = sym (ap₂ (λ (b d : Bool). pick b NoCard (pick d Repeat (Known (counted_hand l)))) e f)
+  reads_twice e f = sym (ap₂ (λ (b d : Bool). pick b (Err NoCard) (pick d (Err Repeat) (Ok (counted_hand l)))) e f)
 
-  pub reads_hand : (h : Hand) → any_above l ≡ false → any_twice l ≡ false → h ≡ counted_hand l → Known h ≡ counted_reading l
+  pub reads_hand : (h : Hand) → any_above l ≡ false → any_twice l ≡ false → h ≡ counted_hand l → Ok h ≡ counted_reading l
   unfolding counted_reading
-  reads_hand h e f g = ap Known g ∙ sym (ap₂ (λ (b d : Bool). pick b NoCard (pick d Repeat (Known (counted_hand l)))) e f)
+  reads_hand h e f g = ap Ok g ∙ sym (ap₂ (λ (b d : Bool). pick b (Err NoCard) (pick d (Err Repeat) (Ok (counted_hand l)))) e f)
 
-alike : (a t : Bool) (h g : Hand) → (a ≡ false → t ≡ false → h ≡ g) → pick a NoCard (pick t Repeat (Known h)) ≡ pick a NoCard (pick t Repeat (Known g))
+alike : (a t : Bool) (h g : Hand) → (a ≡ false → t ≡ false → h ≡ g) → pick a (Err NoCard) (pick t (Err Repeat) (Ok h)) ≡ pick a (Err NoCard) (pick t (Err Repeat) (Ok g))
 alike true t h g e = refl
 alike false true h g e = refl
-alike false false h g e = ap Known (e refl refl)
+alike false false h g e = ap Ok (e refl refl)
 
 -- the two readers agree on every seven numbers, refusals too
 pub readers_agree : (cards : List ℕ) → length cards ≡ 7 → counted_reading cards ≡ reading_of 52 cards
 unfolding counted_reading reading_of ranking_of
 readers_agree cards n =
-    let rest : Bool → Reading = λ (b : Bool). pick b NoCard (pick (any_twice cards) Repeat (Known (best_of ranking52 cards))) in
+    let rest : Bool → Reading = λ (b : Bool). pick b (Err NoCard) (pick (any_twice cards) (Err Repeat) (Ok (best_of ranking52 cards))) in
     alike (any_above cards) (any_twice cards) (counted_hand cards) (best_of ranking52 cards) (λ p q. counted_best cards n p q)
     ∙ ap rest (sym (outside52 cards))
-    ∙ sym (ap (λ (b : Bool). pick (not b) NotSeven (rest (any_outside 52 cards))) (eq-eqb (length cards) 7 n))
+    ∙ sym (ap (λ (b : Bool). pick (not b) (Err NotSeven) (rest (any_outside 52 cards))) (eq-eqb (length cards) 7 n))

@@ -1,14 +1,13 @@
 -- Document 01, "Hand order", by counting: how often each rank is held among all the cards and which ranks each suit has, and from that the class and the
 -- ranks of the best five. No choice of five is looked at. proofs/Agree.antt: of seven different cards this is the best hand. Assumes nothing.
-use Rattle.std.specs.Prelude.{Bool, List, [], ◌∷◌, map, ℕ, zero, suc, ◌+◌, eqb, ltb, leb, length, get_or}
+use Rattle.std.specs.Prelude.{Bool, List, [], ◌∷◌, map, ℕ, zero, suc, ◌+◌, eqb, ltb, leb, length, get_or, Ok, Err}
 use Rattle.laws.specs.Tests.{both, either, pick}
 use Rattle.laws.specs.Often.{count}
 use Rattle.cards.specs.Cards.{rank, suit}
 use Rattle.cards.specs.Hands.{hand}
-use Rattle.cards.specs.Reading.{any_above, any_twice}
+use Rattle.cards.specs.Reading.{Reading, any_above, any_twice}
 use Rattle.cards.specs.declared.Hand.{Hand}
-use Rattle.cards.specs.declared.asked.Reading.{Reading}
-use Rattle.cards.specs.declared.asked.Reading.TheVariants.{Known, NoCard, Repeat}
+use Rattle.cards.specs.declared.asked.NoHand.TheVariants.{NoCard, Repeat}
 
 -- the numbers below n that pass a test, from high to low
 unfoldable pub passing : ℕ → (ℕ → Bool) → List ℕ
@@ -126,4 +125,4 @@ counted_hand cards = named (counts_of cards)
 
 -- the answer about seven numbers: any above 51, then a repeat, else the hand
 unfoldable pub counted_reading : List ℕ → Reading
-counted_reading cards = pick (any_above cards) NoCard (pick (any_twice cards) Repeat (Known (counted_hand cards)))
+counted_reading cards = pick (any_above cards) (Err NoCard) (pick (any_twice cards) (Err Repeat) (Ok (counted_hand cards)))

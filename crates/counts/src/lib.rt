@@ -10,7 +10,7 @@ ghost use Rattle.std.specs.Prelude.{◌≡◌, false};
 ghost use Rattle.cards.specs.Reading.{any_above, any_twice};
 ghost use Rattle.counts.specs.HandOrder.{counted_hand, counted_reading};
 
-use cards::{Hand, Reading, any_above, any_twice};
+use cards::{Hand, NoHand, any_above, any_twice};
 use naming::name;
 use seen::{masks_of, see, unseen};
 
@@ -25,14 +25,14 @@ fn hand_by_counts(cards: [u8; 7]) -> Hand
 }
 
 // The best hand of seven numbers: one above 51 is refused, then one that comes twice.
-pub fn counted(cards: [u8; 7]) -> Reading
+pub fn counted(cards: [u8; 7]) -> Result<Hand, NoHand>
     ensures { result ≡ counted_reading cards }
 {
     if any_above(&cards) {
-        return Reading::NoCard;
+        return Err(NoHand::NoCard);
     }
     if any_twice(&cards) {
-        return Reading::Repeat;
+        return Err(NoHand::Repeat);
     }
-    Reading::Known(hand_by_counts(cards))
+    Ok(hand_by_counts(cards))
 }

@@ -8,15 +8,15 @@ use lib.Dec.{eqb, ltb}
 use lib.ListN.{length, get_or, take, drop, set}
 use lib.Seq.{set_out}
 use borrow.Author.Tests.{ne_eqb, eqb-true, lt-ltb, le-ltb}
+use Rattle.std.specs.Prelude.{Ok, Err}
 use Rattle.laws.specs.Tests.{both, pick}
 use Rattle.laws.proofs.Tests.{both_true}
 use Rattle.laws.specs.Often.{tally}
 use Rattle.laws.proofs.Often.{tally_most}
 use Rattle.cards.specs.Order.{ranking_of, best_of}
-use Rattle.cards.specs.Reading.{code_of_reading, any_above, any_outside, any_twice, reading_of}
+use Rattle.cards.specs.Reading.{Reading, code_of_reading, any_above, any_outside, any_twice, reading_of}
 use Rattle.cards.specs.declared.Hand.{Hand}
-use Rattle.cards.specs.declared.asked.Reading.{Reading}
-use Rattle.cards.specs.declared.asked.Reading.TheVariants.{Known, NotSeven, NoCard, Repeat}
+use Rattle.cards.specs.declared.asked.NoHand.TheVariants.{NotSeven, NoCard, Repeat}
 use Rattle.cards.proofs.Falls.{seven_list}
 use Rattle.ladder.specs.Ladder.{ladder, is_on, beats52, place_of}
 use Rattle.ladder.proofs.Laid.{ladder_length}
@@ -63,7 +63,7 @@ module _ {at s : ℕ} {o m : List ℕ} (place : Bool) (h : Hand) where
   known_hand e w = subst (λ (b : Bool). WroteAt (pick b (place_bytes h) (hand_bytes h)) at o m s) (sym e) w
 
 module _ {at s : ℕ} {o m : List ℕ} (place : Bool) where
-  pub known_bytes_law : (r : Reading) (h : Hand) → r ≡ Known h → WroteAt (known_bytes place h) at o m s → WroteAt (reading_bytes place r) at o m s
+  pub known_bytes_law : (r : Reading) (h : Hand) → r ≡ Ok h → WroteAt (known_bytes place h) at o m s → WroteAt (reading_bytes place r) at o m s
   unfolding reading_bytes
   known_bytes_law r h e w = subst (λ (x : Reading). WroteAt (reading_bytes place x) at o m s) (sym e) w
 
@@ -92,19 +92,19 @@ module _ (l : List ℕ) where
   pub fives_are : (a q : Bool) {t : Bool} → a ≡ any_above l → q ≡ both (eqb (length l) 5) (not a) → q ≡ t → fives ≡ t
   fives_are a q e f g = sym (f ∙ ap (λ (b : Bool). both (eqb (length l) 5) (not b)) e) ∙ g
 
-  pub five_none : fives ≡ false → NoCard ≡ five_of l
+  pub five_none : fives ≡ false → Err NoCard ≡ five_of l
   unfolding five_of
-  five_none e = sym (ap (λ (b : Bool). pick b (pick (any_twice l) Repeat (Known (best_of (ranking_of 52) l))) NoCard) e)
+  five_none e = sym (ap (λ (b : Bool). pick b (pick (any_twice l) (Err Repeat) (Ok (best_of (ranking_of 52) l))) (Err NoCard)) e)
 
-  known_five : fives ≡ true → pick (any_twice l) Repeat (Known (best_of (ranking_of 52) l)) ≡ five_of l
+  known_five : fives ≡ true → pick (any_twice l) (Err Repeat) (Ok (best_of (ranking_of 52) l)) ≡ five_of l
   unfolding five_of
-  known_five e = sym (ap (λ (b : Bool). pick b (pick (any_twice l) Repeat (Known (best_of (ranking_of 52) l))) NoCard) e)
+  known_five e = sym (ap (λ (b : Bool). pick b (pick (any_twice l) (Err Repeat) (Ok (best_of (ranking_of 52) l))) (Err NoCard)) e)
 
-  pub five_twice : fives ≡ true → any_twice l ≡ true → Repeat ≡ five_of l
-  five_twice e f = sym (ap (λ (b : Bool). pick b Repeat (Known (best_of (ranking_of 52) l))) f) ∙ known_five e
+  pub five_twice : fives ≡ true → any_twice l ≡ true → Err Repeat ≡ five_of l
+  five_twice e f = sym (ap (λ (b : Bool). pick b (Err Repeat) (Ok (best_of (ranking_of 52) l))) f) ∙ known_five e
 
-  pub five_known : {h : Hand} → fives ≡ true → any_twice l ≡ false → h ≡ best_of (ranking_of 52) l → Known h ≡ five_of l
-  five_known e f g = ap Known g ∙ sym (ap (λ (b : Bool). pick b Repeat (Known (best_of (ranking_of 52) l))) f) ∙ known_five e
+  pub five_known : {h : Hand} → fives ≡ true → any_twice l ≡ false → h ≡ best_of (ranking_of 52) l → Ok h ≡ five_of l
+  five_known e f g = ap Ok g ∙ sym (ap (λ (b : Bool). pick b (Err Repeat) (Ok (best_of (ranking_of 52) l))) f) ∙ known_five e
 
   pub read_five : {r : Reading} (five : Bool) (deck : ℕ) → five ≡ true → r ≡ five_of l → r ≡ read_by five deck l
   unfolding read_by
@@ -128,9 +128,9 @@ pub counted_as : (l : List ℕ) (r : Reading) → length l ≡ 7
     → r ≡ counted_reading (get_or l 0 0 ∷ get_or l 1 0 ∷ get_or l 2 0 ∷ get_or l 3 0 ∷ get_or l 4 0 ∷ get_or l 5 0 ∷ get_or l 6 0 ∷ []) → r ≡ reading_of 52 l
 counted_as l r n e = e ∙ ap counted_reading (sym (seven_list 0 l n)) ∙ readers_agree l n
 
-pub not_seven : (l : List ℕ) → (length l ≡ 7 → ⊥) → NotSeven ≡ reading_of 52 l
+pub not_seven : (l : List ℕ) → (length l ≡ 7 → ⊥) → Err NotSeven ≡ reading_of 52 l
 unfolding reading_of
-not_seven l h = sym (ap (λ (b : Bool). pick (not b) NotSeven (pick (any_outside 52 l) NoCard (pick (any_twice l) Repeat (Known (best_of (ranking_of 52) l))))) (ne_eqb (length l) 7 h))
+not_seven l h = sym (ap (λ (b : Bool). pick (not b) (Err NotSeven) (pick (any_outside 52 l) (Err NoCard) (pick (any_twice l) (Err Repeat) (Ok (best_of (ranking_of 52) l))))) (ne_eqb (length l) 7 h))
 
 -- the second reader is asked about the 52 cards only
 pub counted_deck : (counted : Bool) (deck : ℕ) (l : List ℕ) (r : Reading) → both counted (eqb deck 52) ≡ true → r ≡ reading_of 52 l → r ≡ reading_of deck l

@@ -1,11 +1,9 @@
 -- No section of the paper: the bytes that the program `hands` writes about a hand. Assumes nothing.
-use Rattle.std.specs.Prelude.{Bool, ◌≡◌, List, [], ◌∷◌, ◌++◌, ℕ, ◌+◌, ◌-◌, ◌/◌, ◌%◌, ltb, length, set}
+use Rattle.std.specs.Prelude.{Bool, ◌≡◌, List, [], ◌∷◌, ◌++◌, ℕ, ◌+◌, ◌-◌, ◌/◌, ◌%◌, ltb, length, set, Ok, Err}
 use Rattle.laws.specs.Tests.{pick}
-use Rattle.cards.specs.Reading.{code_of_reading}
+use Rattle.cards.specs.Reading.{Reading, number_of}
 use Rattle.cards.specs.declared.Hand.{Hand}
-use Rattle.cards.specs.declared.asked.Reading.{Reading}
 use Rattle.ladder.specs.Ladder.{place_of}
-use Rattle.cards.specs.declared.asked.Reading.TheVariants.{Known, NotSeven, NoCard, Repeat}
 
 -- the list with the bytes in it from a place on
 unfoldable pub written : List ℕ → ℕ → List ℕ → List ℕ
@@ -47,7 +45,5 @@ known_bytes place h = pick place (place_bytes h) (hand_bytes h)
 
 -- the hand, or the paper's number, under every option
 unfoldable pub reading_bytes : Bool → Reading → List ℕ
-reading_bytes place (Known h) = known_bytes place h
-reading_bytes place NotSeven = number_bytes (code_of_reading NotSeven)
-reading_bytes place NoCard = number_bytes (code_of_reading NoCard)
-reading_bytes place Repeat = number_bytes (code_of_reading Repeat)
+reading_bytes place (Ok h) = known_bytes place h
+reading_bytes place (Err e) = number_bytes (number_of e)

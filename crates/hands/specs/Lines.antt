@@ -1,10 +1,9 @@
 -- No section of the paper: how the program `hands` reads a line, numbers with blanks between them. Assumes nothing.
-use Rattle.std.specs.Prelude.{Bool, true, false, not, List, [], ◌∷◌, ◌++◌, ℕ, ◌+◌, ◌-◌, ◌*◌, min, ltb, leb, eqb, length, take, set}
+use Rattle.std.specs.Prelude.{Bool, true, false, not, List, [], ◌∷◌, ◌++◌, ℕ, ◌+◌, ◌-◌, ◌*◌, min, ltb, leb, eqb, length, take, set, Ok, Err}
 use Rattle.laws.specs.Tests.{both, pick}
 use Rattle.cards.specs.Order.{ranking_of, best_of}
-use Rattle.cards.specs.Reading.{any_above, any_twice, reading_of}
-use Rattle.cards.specs.declared.asked.Reading.{Reading}
-use Rattle.cards.specs.declared.asked.Reading.TheVariants.{Known, NoCard, Repeat}
+use Rattle.cards.specs.Reading.{Reading, any_above, any_twice, reading_of}
+use Rattle.cards.specs.declared.asked.NoHand.TheVariants.{NoCard, Repeat}
 use Rattle.hands.specs.Answers.{reading_bytes}
 use Rattle.hands.specs.declared.Line.{Line}
 
@@ -37,7 +36,7 @@ cards_with l cards b = pick (eqb b 32) (cards_to l cards) cards
 
 -- the hand of five cards of the 52: any other number of them or a card above 51 is refused with 2, then a repeat with 8
 unfoldable pub five_of : List ℕ → Reading
-five_of cards = pick (both (eqb (length cards) 5) (not (any_above cards))) (pick (any_twice cards) Repeat (Known (best_of (ranking_of 52) cards))) NoCard
+five_of cards = pick (both (eqb (length cards) 5) (not (any_above cards))) (pick (any_twice cards) (Err Repeat) (Ok (best_of (ranking_of 52) cards))) (Err NoCard)
 
 -- the answer about five cards, or about seven of a deck
 unfoldable pub read_by : Bool → ℕ → List ℕ → Reading

@@ -10,7 +10,7 @@ ghost use Rattle.hands.specs.Lines.{no_line, grown_of, ended_to, cards_to, taken
 ghost use Rattle.hands.specs.Answers.{WroteAt, number_bytes, rank_bytes, hand_bytes, four_bytes, key_bytes, place_bytes, known_bytes, reading_bytes};
 
 use argument::is_argument;
-use cards::{Hand, Reading, any_above, any_twice, best_hand};
+use cards::{Hand, NoHand, any_above, any_twice, best_hand};
 use laws::{both, either};
 use output::{STDOUT_FILENO, flush, read_part};
 
@@ -199,25 +199,23 @@ fn put_known(place: bool, h: Hand, out: &mut [u8], at: usize) -> usize
     put_hand(h, out, at)
 }
 
-fn put_reading(place: bool, r: Reading, out: &mut [u8], at: usize) -> usize
+fn put_reading(place: bool, r: Result<Hand, NoHand>, out: &mut [u8], at: usize) -> usize
     requires { at + 17 ≤ length out.old }
     ensures wrote { WroteAt (reading_bytes place r) at out.old out.new result }
     ensures room { result ≤ at + 17 }
 {
     match r {
-        Reading::Known(h) => put_known(place, h, out, at),
-        Reading::NotSeven => put_number(out, at, cards::code_of(r)),
-        Reading::NoCard => put_number(out, at, cards::code_of(r)),
-        Reading::Repeat => put_number(out, at, cards::code_of(r)),
+        Ok(h) => put_known(place, h, out, at),
+        Err(e) => put_number(out, at, e.number()),
     }
 }
 
 // The answer of the second reader, which takes seven cards.
-fn read_counted(cards: &[u8]) -> Reading
+fn read_counted(cards: &[u8]) -> Result<Hand, NoHand>
     ensures { result ≡ reading_of 52 cards.now }
 {
     if cards.len() != 7 {
-        return Reading::NotSeven;
+        return Err(NoHand::NotSeven);
     }
     counts::counted([
         cards[0], cards[1], cards[2], cards[3], cards[4], cards[5], cards[6],
@@ -225,7 +223,7 @@ fn read_counted(cards: &[u8]) -> Reading
 }
 
 // The answer of either reader: it is the same. The second knows the 52 cards only.
-fn read_cards(deck: u32, counted: bool, cards: &[u8]) -> Reading
+fn read_cards(deck: u32, counted: bool, cards: &[u8]) -> Result<Hand, NoHand>
     ensures { result ≡ reading_of deck cards.now }
 {
     if both(counted, deck == 52) {
@@ -235,20 +233,20 @@ fn read_cards(deck: u32, counted: bool, cards: &[u8]) -> Reading
 }
 
 // The hand of five cards of the 52: any other number of them or a card above 51 is refused with 2, then a card that comes twice.
-fn read_five(cards: &[u8]) -> Reading
+fn read_five(cards: &[u8]) -> Result<Hand, NoHand>
     ensures { result ≡ five_of cards.now }
 {
     if both(cards.len() == 5, !any_above(cards)) {
         if any_twice(cards) {
-            return Reading::Repeat;
+            return Err(NoHand::Repeat);
         }
-        return Reading::Known(best_hand(52, cards));
+        return Ok(best_hand(52, cards));
     }
-    Reading::NoCard
+    Err(NoHand::NoCard)
 }
 
 // The answer about five cards, or about seven.
-fn read_by(w: Wish, cards: &[u8]) -> Reading
+fn read_by(w: Wish, cards: &[u8]) -> Result<Hand, NoHand>
     ensures { result ≡ read_by w.five w.deck cards.now }
 {
     if w.five {

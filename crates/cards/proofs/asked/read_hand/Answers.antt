@@ -1,9 +1,9 @@
 -- `cards::asked::read_hand` meets its contract. Assumes nothing.
 use mathlib.Core.Path.{ap, sym, ◌∙◌}
 use borrow.Author.Tests.{eq-eqb, ne_eqb}
+use Rattle.std.specs.Prelude.{Ok}
 use Rattle.cards.specs.Reading.{reading_of}
 use Rattle.cards.proofs.Numbered.{asked_is}
-use Rattle.cards.specs.declared.asked.Reading.TheVariants.{Known}
 use Rattle.cards.proofs.asked.read_hand.Goals as goal
 
 pub returns-then-cards-ne7 : goal.returns-then-cards-ne7
@@ -20,4 +20,4 @@ returns-then-any_twice c = asked_is _ _ _ (rw (eq-eqb _ _ c.if-cards-ne7.false, 
 
 pub returns : goal.returns
 unfolding reading_of
-returns c = asked_is _ _ _ (rw (eq-eqb _ _ c.if-cards-ne7.false, sym c.any_outside.ensures ∙ c.if-any_outside.false, sym c.any_twice.ensures ∙ c.if-any_twice.false) (ap Known c.best_hand.ensures))
+returns c = asked_is _ _ _ (rw (eq-eqb _ _ c.if-cards-ne7.false, sym c.any_outside.ensures ∙ c.if-any_outside.false, sym c.any_twice.ensures ∙ c.if-any_twice.false) (ap Ok c.best_hand.ensures))

@@ -6,7 +6,4 @@ use Rattle.cards.specs.Searching.{lows, units}
 use Rattle.cards.proofs.choose.packed.Given as goal
 
 abbrev pub invariant-loop-i : goal.invariant-loop-i
-invariant-loop-i l = (l.at ≤ l.i) × (l.i ≤ length l.cards) × (lows (length l.cards - l.i) l.n ≡ drop l.i l.cards) × (l.n < units (length l.cards - l.i))
-
-abbrev pub decreases-loop-i : goal.decreases-loop-i
-decreases-loop-i l = l.i
+invariant-loop-i l = (l.at ≤ l.i) × (lows (length l.cards - l.i) l.n ≡ drop l.i l.cards) × (l.n < units (length l.cards - l.i))
