@@ -14,8 +14,9 @@ use Rattle.laws.proofs.Tests.{both_true}
 use Rattle.laws.specs.Often.{tally}
 use Rattle.laws.proofs.Often.{tally_most}
 use Rattle.cards.specs.Order.{ranking_of, best_of}
-use Rattle.cards.specs.Reading.{Reading, code_of_reading, any_above, any_outside, any_twice, reading_of}
+use Rattle.cards.specs.Reading.{Reading, number_of, any_above, any_outside, any_twice, reading_of}
 use Rattle.cards.specs.declared.Hand.{Hand}
+use Rattle.cards.specs.declared.asked.NoHand.{NoHand}
 use Rattle.cards.specs.declared.asked.NoHand.TheVariants.{NotSeven, NoCard, Repeat}
 use Rattle.cards.proofs.Falls.{seven_list}
 use Rattle.ladder.specs.Ladder.{ladder, is_on, beats52, place_of}
@@ -67,10 +68,9 @@ module _ {at s : ℕ} {o m : List ℕ} (place : Bool) where
   unfolding reading_bytes
   known_bytes_law r h e w = subst (λ (x : Reading). WroteAt (reading_bytes place x) at o m s) (sym e) w
 
-  pub refused_bytes : (r v : Reading) (k : ℕ) → r ≡ v → reading_bytes place v ≡ number_bytes (code_of_reading v) → k ≡ code_of_reading r
-      → WroteAt (number_bytes k) at o m s → WroteAt (reading_bytes place r) at o m s
-  refused_bytes r v k e q c w =
-      subst (λ (bs : List ℕ). WroteAt bs at o m s) (ap number_bytes (c ∙ ap code_of_reading e) ∙ sym q ∙ ap (reading_bytes place) (sym e)) w
+  pub refused_bytes : (r : Reading) (e : NoHand) → r ≡ Err e → WroteAt (number_bytes (number_of e)) at o m s → WroteAt (reading_bytes place r) at o m s
+  unfolding reading_bytes
+  refused_bytes r e q w = subst (λ (x : Reading). WroteAt (reading_bytes place x) at o m s) (sym q) w
 
 pub answer_is : {at r s : ℕ} {o m p : List ℕ} (five : Bool) (deck : ℕ) (place : Bool) (l e : Line) (cs ds : List ℕ) (a : Reading) → e ≡ ended_to l (length cs)
     → ds ≡ cards_to l cs → a ≡ read_by five deck (take (e.have - 0) (drop 0 ds)) → WroteAt (reading_bytes place a) at o m r → WroteAt (10 ∷ []) r m p s

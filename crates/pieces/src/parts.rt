@@ -20,10 +20,8 @@ fn blank_at(i: usize) -> u8 {
 pub fn blank(out: &mut [u8])
     requires { 1840 ≤ length out.old }
 {
-    let mut i: usize = 0;
-    while i < GRID {
+    for i in 0..GRID {
         out[i] = blank_at(i);
-        i += 1;
     }
 }
 
@@ -137,11 +135,9 @@ pub fn put_mask(out: &mut [u8], at: usize, who: u16)
     requires { at + 20 ≤ length out.old }
 {
     let mut rest = who;
-    let mut i: usize = 0;
-    while i < 10 {
+    for i in 0..10 {
         put_bit(out, at, rest, i);
-        rest = rest / 2;
-        i += 1;
+        rest /= 2;
     }
 }
 

@@ -1,7 +1,5 @@
 -- `hands::put_reading` meets its contract. Assumes nothing.
-use mathlib.Core.Path.{ap, ◌∙◌}
 use native.Mathlib.Omega.{arith}
-use Rattle.hands.specs.Answers.{reading_bytes}
 use Rattle.hands.proofs.Ended.{known_bytes_law, refused_bytes}
 use Rattle.hands.proofs.put_reading.Goals as goal
 
