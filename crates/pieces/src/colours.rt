@@ -26,11 +26,11 @@ fn put_lit(out: &mut [u8], from: usize, seat: u32) -> usize
     if seat == 0 {
         return from;
     }
-    let a = put_amber(out, from, seat, 0);
-    let b = put_amber(out, a, seat, 1);
-    let c = put_amber(out, b, seat, 2);
-    let d = put_amber(out, c, seat, 3);
-    put_amber(out, d, seat, 4)
+    let mut at = from;
+    for row in 0..5 {
+        at = put_amber(out, at, seat, row);
+    }
+    at
 }
 
 // The refusal in red.

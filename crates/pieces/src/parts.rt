@@ -20,8 +20,8 @@ fn blank_at(i: usize) -> u8 {
 pub fn blank(out: &mut [u8])
     requires { 1840 ≤ length out.old }
 {
-    for i in 0..GRID {
-        out[i] = blank_at(i);
+    for (i, b) in out[..GRID].iter_mut().enumerate() {
+        *b = blank_at(i);
     }
 }
 
@@ -95,18 +95,14 @@ const RANKS: [u8; 13] = *b"23456789TJQKA";
 
 const SUITS: [u8; 4] = *b"cdhs";
 
-// A card, where it lies: its rank and its suit.
-fn put_card(out: &mut [u8], at: usize, lies: bool, card: u8)
+// A card: its rank and its suit.
+fn put_card(out: &mut [u8], at: usize, card: u8)
     requires { at + 2 ≤ length out.old }
 {
-    if !lies {
-        return;
-    }
     if card < 52 {
         let r = (card / 4) as usize;
         let s = (card % 4) as usize;
-        let text = [RANKS[r], SUITS[s]];
-        put(out, at, &text);
+        put(out, at, &[RANKS[r], SUITS[s]]);
     }
 }
 
@@ -114,19 +110,10 @@ fn put_card(out: &mut [u8], at: usize, lies: bool, card: u8)
 pub fn put_cards(out: &mut [u8], at: usize, cards: [u8; 5], count: u8)
     requires { at + 15 ≤ length out.old }
 {
-    put_card(out, at, 0 < count, cards[0]);
-    put_card(out, at + 3, 1 < count, cards[1]);
-    put_card(out, at + 6, 2 < count, cards[2]);
-    put_card(out, at + 9, 3 < count, cards[3]);
-    put_card(out, at + 12, 4 < count, cards[4]);
-}
-
-// The seat at a place in its own columns, where the lowest bit of a mask is set.
-fn put_bit(out: &mut [u8], at: usize, mask: u16, i: usize)
-    requires { (i < 10) × (at + 20 ≤ length out.old) }
-{
-    if mask % 2 == 1 {
-        put_seat(out, at + 2 * i, i as u32 + 1);
+    for (k, card) in cards.iter().enumerate() {
+        if k < count as usize {
+            put_card(out, at + 3 * k, *card);
+        }
     }
 }
 
@@ -134,10 +121,10 @@ fn put_bit(out: &mut [u8], at: usize, mask: u16, i: usize)
 pub fn put_mask(out: &mut [u8], at: usize, who: u16)
     requires { at + 20 ≤ length out.old }
 {
-    let mut rest = who;
     for i in 0..10 {
-        put_bit(out, at, rest, i);
-        rest /= 2;
+        if (who >> i) & 1 == 1 {
+            put_seat(out, at + 2 * i, i as u32 + 1);
+        }
     }
 }
 
