@@ -4,12 +4,13 @@ use mathlib.Core.Bool.{Bool, true, false}
 use Prim.Native.Nat.{ℕ, ◌≤◌}
 use lib.Dec.{eqb}
 use borrow.Author.Tests.{ltb-false}
+use Rattle.std.specs.Prelude.{Ok, Err}
 use Rattle.laws.specs.Tests.{pick, either}
 use Rattle.laws.proofs.Tests.{either_false}
 use Rattle.banked.specs.Hands.{high_card, card_twice}
 use Rattle.banked.specs.Rounds.{too_much, wrong_number, round_code, outcome_of, settled_of, Bounded}
 use Rattle.banked.specs.declared.Round.{Round}
-use Rattle.banked.specs.declared.judged.Outcome.TheVariants.{Paid, OutOfRange, Repeat}
+use Rattle.paper.specs.declared.refusal.Refusal.TheVariants.{OutOfRange, CardTwice}
 use Rattle.paper.specs.RefusalNumbers as paper
 
 pub pick_most : (b : Bool) (x y m : ℕ) → x ≤ m → y ≤ m → pick b x y ≤ m
@@ -35,14 +36,14 @@ bounded r e =
     }
 
 module _ (r : Round) where
-  pub gets_two : wrong_number r ≡ true → (OutOfRange ≡ outcome_of r) × (paper.out_of_range ≡ round_code r)
+  pub gets_two : wrong_number r ≡ true → (Err OutOfRange ≡ outcome_of r) × (paper.out_of_range ≡ round_code r)
   unfolding outcome_of round_code
   gets_two e = (rw e, rw e)
 
-  pub gets_eight : wrong_number r ≡ false → card_twice r.deal ≡ true → (Repeat ≡ outcome_of r) × (paper.card_twice ≡ round_code r)
+  pub gets_eight : wrong_number r ≡ false → card_twice r.deal ≡ true → (Err CardTwice ≡ outcome_of r) × (paper.card_twice ≡ round_code r)
   unfolding outcome_of round_code
   gets_eight e t = (rw (e, t), rw (e, t))
 
-  pub gets_paid : wrong_number r ≡ false → card_twice r.deal ≡ false → (Paid (settled_of r) ≡ outcome_of r) × (paper.taken ≡ round_code r)
+  pub gets_paid : wrong_number r ≡ false → card_twice r.deal ≡ false → (Ok (settled_of r) ≡ outcome_of r) × (paper.taken ≡ round_code r)
   unfolding outcome_of round_code
   gets_paid e t = (rw (e, t), rw (e, t))

@@ -12,7 +12,7 @@ use Rattle.laws.specs.Tests.{pick}
 use Rattle.paper.specs.RefusalNumbers.{taken}
 use Rattle.banked.specs.Fates.{ante_fate, play_fate, jackpot_fate, extra_fate, dealer_extra_fate}
 use Rattle.banked.specs.Hands.{players_hand, dealers_hand, dealers_flop_hand, standing_of}
-use Rattle.banked.specs.Books.{Wager, Gain, and_gain, back, back_of, taken_of, paid_of, players_gain, houses_gain, players_gains, houses_gains, net_of}
+use Rattle.banked.specs.Books.{Wager, Gain, and_gain, back_of, taken_of, paid_of, players_gain, houses_gain, players_gains, houses_gains, net_of}
 use Rattle.banked.specs.Rounds.{is_fold, stakes_of, backs_of, total_of, settled_of, wagers_of, wagers_with, round_code, Books, books_after, books_of}
 use Rattle.banked.proofs.Folds.{none_staked}
 use Rattle.banked.specs.declared.Round.{Round}

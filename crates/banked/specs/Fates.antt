@@ -4,8 +4,8 @@ use Rattle.std.specs.Prelude.{Bool, true, false, ℕ, ◌≤◌, eqb}
 use Rattle.laws.specs.Tests.{pick}
 use Rattle.banked.specs.Hands.{Hand, is_flush_or_higher}
 use Rattle.banked.specs.Payouts.{extra_odds, bonus_times, in_table1}
-use Rattle.banked.specs.declared.hands.Standing.{Standing}
-use Rattle.banked.specs.declared.hands.Standing.TheVariants.{Above, Equal, Below}
+use Rattle.std.specs.declared.cmp.Ordering.{Ordering}
+use Rattle.std.specs.declared.cmp.Ordering.TheVariants.{Less, Equal, Greater}
 use Rattle.banked.specs.declared.fates.Fate.{Fate}
 use Rattle.banked.specs.declared.fates.Fate.TheVariants.{Lost, Returned, Odds, Times}
 
@@ -13,17 +13,17 @@ use Rattle.banked.specs.declared.fates.Fate.TheVariants.{Lost, Returned, Odds, T
 -- is folded; or the value of the Player's Hand is less than the value of the Dealer's Hand; be a Stand Off if the ranking of the Player's Hand is equal to that
 -- of the Dealer's Hand." 3.7: "paid at the odds of 1 to 1". Where it exceeds the dealer's and is less than a flush, 3.6 lets the wager neither win nor lose:
 -- "Stand Off means to neither win or lose", so it is returned. (The other reading, that it then stays with the house, is `Lost` in that line.)
-unfoldable pub ante_fate : Bool → Standing → Hand → Fate
+unfoldable pub ante_fate : Bool → Ordering → Hand → Fate
 ante_fate true s player = Lost
-ante_fate false Above player = pick (is_flush_or_higher player) (Odds 1) Returned
-ante_fate false Below player = Lost
+ante_fate false Greater player = pick (is_flush_or_higher player) (Odds 1) Returned
+ante_fate false Less player = Lost
 ante_fate false Equal player = Returned
 
 -- Flop, Turn and River Wager, 3.36, 3.39 and 3.42: "win if the Player's Hand is ranked higher than the Dealer's Hand; lose if the Player's Hand is ranked lower
 -- than the Dealer's Hand; be a Stand Off if the Player's Hand is ranked equal to the Dealer's Hand". 3.37, 3.40 and 3.43: "paid 1 to 1"
-unfoldable pub play_fate : Standing → Fate
-play_fate Above = Odds 1
-play_fate Below = Lost
+unfoldable pub play_fate : Ordering → Fate
+play_fate Greater = Odds 1
+play_fate Less = Lost
 play_fate Equal = Returned
 
 -- a hand that a table does not list loses

@@ -7,8 +7,8 @@ use Rattle.cards.specs.Order.{ranking52, best_of, beats_by}
 use Rattle.cards.specs.Reading.{any_above, any_twice}
 pub use Rattle.cards.specs.declared.Hand.{Hand}
 use Rattle.banked.specs.declared.Deal.{Deal}
-use Rattle.banked.specs.declared.hands.Standing.{Standing}
-use Rattle.banked.specs.declared.hands.Standing.TheVariants.{Above, Equal, Below}
+use Rattle.std.specs.declared.cmp.Ordering.{Ordering}
+use Rattle.std.specs.declared.cmp.Ordering.TheVariants.{Less, Equal, Greater}
 
 -- "Flop Cards means the first three Communal Cards drawn"
 abbrev flop_cards : Deal → List ℕ
@@ -60,8 +60,8 @@ abbrev pub outranks : Hand → Hand → Bool
 outranks h g = beats_by ranking52 h g
 
 -- how the player's hand stands to the dealer's: equal is where neither is ranked higher
-unfoldable pub standing_of : Hand → Hand → Standing
-standing_of player dealer = pick (outranks player dealer) Above (pick (outranks dealer player) Below Equal)
+unfoldable pub standing_of : Hand → Hand → Ordering
+standing_of player dealer = pick (outranks player dealer) Greater (pick (outranks dealer player) Less Equal)
 
 -- "Royal Flush means a 5-card hand comprising of Ace, King, Queen, Jack and 10, of the same suit": the straight flush from the ace down
 unfoldable pub is_royal : Hand → Bool

@@ -1,5 +1,5 @@
 -- A round of play of source document 002: how much each wager is, its fate, what comes back of it; and request No. 14's refusals. Assumes nothing.
-use Rattle.std.specs.Prelude.{Bool, true, false, List, [], ◌∷◌, ℕ, ◌+◌, ◌-◌, ◌*◌, ◌≤◌, eqb, ltb}
+use Rattle.std.specs.Prelude.{Bool, true, false, List, [], ◌∷◌, ℕ, ◌+◌, ◌-◌, ◌*◌, ◌≤◌, eqb, ltb, Result, Ok, Err}
 use Rattle.laws.specs.Tests.{pick, either}
 use Rattle.paper.specs.RefusalNumbers.{taken, out_of_range, when, or_else}
 use Rattle.banked.specs.Hands.{players_hand, dealers_hand, players_flop_hand, dealers_flop_hand, standing_of, high_card, card_twice}
@@ -8,13 +8,14 @@ use Rattle.banked.specs.Books.{Wager, Gain, and_gain, back, players_gains, house
 use Rattle.banked.specs.declared.Round.{Round}
 use Rattle.banked.specs.declared.Choice.{Choice}
 use Rattle.banked.specs.declared.Choice.TheVariants.{Fold, Stay}
-use Rattle.banked.specs.declared.hands.Standing.{Standing}
+use Rattle.std.specs.declared.cmp.Ordering.{Ordering}
 use Rattle.banked.specs.declared.fates.Fate.{Fate}
 use Rattle.banked.specs.declared.Deal.{Deal}
 use Rattle.banked.specs.declared.judged.Seven.{Seven}
 use Rattle.banked.specs.declared.judged.Settled.{Settled}
-use Rattle.banked.specs.declared.judged.Outcome.{Outcome}
-use Rattle.banked.specs.declared.judged.Outcome.TheVariants.{Paid, OutOfRange, Repeat}
+use Rattle.paper.specs.Refusals.{number_of}
+use Rattle.paper.specs.declared.refusal.Refusal.{Refusal}
+use Rattle.paper.specs.declared.refusal.Refusal.TheVariants.{OutOfRange, CardTwice}
 use Rattle.paper.specs.RefusalNumbers as paper
 
 -- ---- how much each wager is; 0 where it is not placed
@@ -56,7 +57,7 @@ abbrev pub wager : ℕ → Fate → Wager
 wager stake fate = record { stake = stake; fate = fate }
 
 module _ (s : Seven) (folded : Bool) (d : Deal) where
-  abbrev pub standing : Standing
+  abbrev pub standing : Ordering
   standing = standing_of (players_hand d) (dealers_hand d)
 
   abbrev pub ante_wager : Wager
@@ -122,15 +123,18 @@ wrong_number r =
 unfoldable pub round_code : Round → ℕ
 round_code r = or_else (when (wrong_number r) out_of_range) (when (card_twice r.deal) paper.card_twice)
 
--- the answer
+-- an answer: what is settled, or the refusal
+abbrev pub Outcome : Type 0
+Outcome = Result Settled Refusal
+
+-- the answer to a round
 unfoldable pub outcome_of : Round → Outcome
-outcome_of r = pick (wrong_number r) OutOfRange (pick (card_twice r.deal) Repeat (Paid (settled_of r)))
+outcome_of r = pick (wrong_number r) (Err OutOfRange) (pick (card_twice r.deal) (Err CardTwice) (Ok (settled_of r)))
 
 -- the paper's number for each answer
 abbrev pub code_of_outcome : Outcome → ℕ
-code_of_outcome (Paid s) = taken
-code_of_outcome OutOfRange = out_of_range
-code_of_outcome Repeat = paper.card_twice
+code_of_outcome (Ok s) = taken
+code_of_outcome (Err e) = number_of e
 
 -- no number is above m, save the flop wager's, which is at most twice as much
 pub record Most (m : ℕ) (s : Seven) : Type 0 where
@@ -151,9 +155,8 @@ pub record SmallSettled (s : Settled) : Type 0 where
   pub lost : s.lost ≤ 800800000
 
 abbrev pub SmallOutcome : Outcome → Type 0
-SmallOutcome (Paid s) = SmallSettled s
-SmallOutcome OutOfRange = Unit {0}
-SmallOutcome Repeat = Unit {0}
+SmallOutcome (Ok s) = SmallSettled s
+SmallOutcome (Err e) = Unit {0}
 
 -- what the wagers of a round that is taken are at most
 pub record Bounded (r : Round) : Type 0 where

@@ -5,9 +5,10 @@ ghost use Rattle.banked.specs.Fates.{Fair, ante_fate, play_fate, jackpot_fate, e
 ghost use Rattle.banked.specs.Books.{back_of};
 ghost use Rattle.banked.specs.declared.fates.Fate.TheVariants.{Odds, Returned};
 
-use crate::hands::{Standing, is_flush_or_higher};
+use crate::hands::is_flush_or_higher;
 use crate::payouts::{bonus_times, extra_odds};
 use cards::Hand;
+use std::cmp::Ordering;
 
 // A wager is lost to the house; it is returned (a Stand Off, and by the house's rule a jackpot wager that Table 1 would pay); at odds of so many to 1 it comes
 // back with so many times as much; or a prize of so many times the wager is paid, and the wager stays with the house.
@@ -27,27 +28,27 @@ fn won_or_returned(b: bool) -> Fate
 }
 
 // Rules 3.6 and 3.7.
-pub fn ante_fate(folded: bool, s: Standing, player: Hand) -> Fate
+pub fn ante_fate(folded: bool, s: Ordering, player: Hand) -> Fate
     ensures { (result ≡ ante_fate folded s player) × Fair result }
 {
     if folded {
         return Fate::Lost;
     }
     match s {
-        Standing::Above => won_or_returned(is_flush_or_higher(player)),
-        Standing::Equal => Fate::Returned,
-        Standing::Below => Fate::Lost,
+        Ordering::Greater => won_or_returned(is_flush_or_higher(player)),
+        Ordering::Equal => Fate::Returned,
+        Ordering::Less => Fate::Lost,
     }
 }
 
 // Rules 3.36, 3.39 and 3.42, 3.37, 3.40 and 3.43: the flop, turn and river wagers.
-pub fn play_fate(s: Standing) -> Fate
+pub fn play_fate(s: Ordering) -> Fate
     ensures { (result ≡ play_fate s) × Fair result }
 {
     match s {
-        Standing::Above => Fate::Odds(1),
-        Standing::Equal => Fate::Returned,
-        Standing::Below => Fate::Lost,
+        Ordering::Greater => Fate::Odds(1),
+        Ordering::Equal => Fate::Returned,
+        Ordering::Less => Fate::Lost,
     }
 }
 

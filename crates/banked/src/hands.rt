@@ -4,14 +4,7 @@ ghost use Rattle.banked.specs.Hands.{hand_of, flop_hand_of, all_cards, high_card
 
 use crate::Deal;
 use cards::{Hand, any_above, any_twice, beats, best_hand, five_worth};
-
-// How the player's hand stands to the dealer's.
-#[derive(Clone, Copy)]
-pub enum Standing {
-    Above,
-    Equal,
-    Below,
-}
+use std::cmp::Ordering;
 
 // The best five of two hole cards and the communal cards.
 pub fn hand_of(x: u8, y: u8, d: Deal) -> Hand
@@ -50,16 +43,17 @@ pub fn card_twice(d: Deal) -> bool
     any_twice(&cards)
 }
 
-pub fn standing_of(player: Hand, dealer: Hand) -> Standing
+// How the player's hand stands to the dealer's.
+pub fn standing_of(player: Hand, dealer: Hand) -> Ordering
     ensures { result ≡ standing_of player dealer }
 {
     if beats(52, player, dealer) {
-        return Standing::Above;
+        return Ordering::Greater;
     }
     if beats(52, dealer, player) {
-        return Standing::Below;
+        return Ordering::Less;
     }
-    Standing::Equal
+    Ordering::Equal
 }
 
 pub fn is_flush_or_higher(h: Hand) -> bool

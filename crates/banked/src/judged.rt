@@ -6,6 +6,7 @@ use crate::fates::{ante_fate, back_of, extra_fate, jackpot_fate, play_fate};
 use crate::hands::{card_twice, flop_hand_of, hand_of, high_card, standing_of};
 use crate::{Choice, Deal, Round};
 use laws::{chosen, either, short_of};
+use paper::Refusal;
 
 // A number for each of the seven wagers.
 #[derive(Clone, Copy)]
@@ -29,32 +30,10 @@ pub struct Settled {
     pub lost: u32,
 }
 
-// The answer to a round: settled; or a number outside its range, code 2; or a card that comes twice, code 8.
-#[derive(Clone, Copy)]
-pub enum Outcome {
-    Paid(Settled),
-    OutOfRange,
-    Repeat,
-}
-
-// The paper's number for an answer.
-pub fn code_of(o: Outcome) -> u8
-    ensures { result ≡ code_of_outcome o }
-{
-    match o {
-        Outcome::Paid(_) => 0,
-        Outcome::OutOfRange => 2,
-        Outcome::Repeat => 8,
-    }
-}
-
 fn is_fold(c: Choice) -> bool
     ensures { result ≡ is_fold c }
 {
-    match c {
-        Choice::Fold => true,
-        Choice::Stay { turn: _, river: _ } => false,
-    }
+    matches!(c, Choice::Fold)
 }
 
 // How much each wager is: the flop wager is twice the ante.
@@ -175,17 +154,17 @@ fn settled_of(r: Round) -> Settled
     }
 }
 
-// A round judged: 2 before 8; else settled. A refusal pays nothing.
-pub fn settle(r: Round) -> Outcome
+// A round judged: a number outside its range is refused with 2, then a card that comes twice with 8; else it is settled. A refusal pays nothing.
+pub fn settle(r: Round) -> Result<Settled, Refusal>
     ensures is { (result ≡ outcome_of r) × (code_of_outcome result ≡ round_code r) }
     ensures small { SmallOutcome result }
 {
     if wrong_number(r) {
-        return Outcome::OutOfRange;
+        return Err(Refusal::OutOfRange);
     }
     let d = r.deal;
     if card_twice(d) {
-        return Outcome::Repeat;
+        return Err(Refusal::CardTwice);
     }
-    Outcome::Paid(settled_of(r))
+    Ok(settled_of(r))
 }

@@ -7,7 +7,7 @@ mod hands;
 mod judged;
 mod payouts;
 
-pub use judged::{Outcome, Settled, Seven, code_of, settle};
+pub use judged::{Settled, Seven, settle};
 
 // What the player does with the two hole cards: folds, or places the flop wager and, as he likes, the turn wager and the river wager (4.4, 4.7, 4.9).
 #[derive(Clone, Copy)]

@@ -7,14 +7,14 @@ pub returns-then-folded : goal.returns-then-folded
 unfolding ante_fate
 returns-then-folded c = rw c.if-folded.true (refl, tt)
 
-pub returns-in-Above : goal.returns-in-Above
+pub returns-in-Greater : goal.returns-in-Greater
 unfolding ante_fate
-returns-in-Above c = (rw (c.if-folded.false, c.in-Above.is) (rw c.is_flush_or_higher.ensures at c.won_or_returned.ensures.0), c.won_or_returned.ensures.1)
+returns-in-Greater c = (rw (c.if-folded.false, c.in-Greater.is) (rw c.is_flush_or_higher.ensures at c.won_or_returned.ensures.0), c.won_or_returned.ensures.1)
 
 pub returns-in-Equal : goal.returns-in-Equal
 unfolding ante_fate
 returns-in-Equal c = rw (c.if-folded.false, c.in-Equal.is) (refl, tt)
 
-pub returns-in-Below : goal.returns-in-Below
+pub returns-in-Less : goal.returns-in-Less
 unfolding ante_fate
-returns-in-Below c = rw (c.if-folded.false, c.in-Below.is) (refl, tt)
+returns-in-Less c = rw (c.if-folded.false, c.in-Less.is) (refl, tt)

@@ -4,14 +4,14 @@ use native.Mathlib.Omega.{arith}
 use mathlib.Core.Path.{refl}
 use Rattle.banked.proofs.fates.play_fate.Goals as goal
 
-pub returns-in-Above : goal.returns-in-Above
+pub returns-in-Greater : goal.returns-in-Greater
 unfolding play_fate
-returns-in-Above c = rw c.in-Above.is (refl, omega arith)
+returns-in-Greater c = rw c.in-Greater.is (refl, omega arith)
 
 pub returns-in-Equal : goal.returns-in-Equal
 unfolding play_fate
 returns-in-Equal c = rw c.in-Equal.is (refl, tt)
 
-pub returns-in-Below : goal.returns-in-Below
+pub returns-in-Less : goal.returns-in-Less
 unfolding play_fate
-returns-in-Below c = rw c.in-Below.is (refl, tt)
+returns-in-Less c = rw c.in-Less.is (refl, tt)
