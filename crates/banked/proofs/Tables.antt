@@ -2,27 +2,35 @@
 -- Assumes nothing.
 use mathlib.Core.Path.{◌≡◌, refl}
 use mathlib.Core.Bool.{Bool, true, false}
-use Prim.Native.Nat.{ℕ, suc, ◌*◌, ◌≤◌, ◌<◌}
+use mathlib.Core.List.{List, [], ◌∷◌}
+use Prim.Native.Nat.{ℕ, zero, suc, ◌*◌, ◌≤◌, zero-le}
 use native.Mathlib.Nat.{mul-le-mul_right}
 use lib.Dec.{eqb, leb}
 use lib.ListN.{get_or}
 use borrow.Author.Tests.{leb-true, eqb-true}
 use Rattle.laws.specs.Tests.{pick}
 use Rattle.laws.proofs.Tests.{both_true}
-use Rattle.laws.proofs.Rows.{row}
+use Rattle.laws.proofs.Members.{all_pass}
 use Rattle.banked.specs.Hands.{Hand, is_royal, row_of_hand}
 use Rattle.banked.specs.Payouts.{extra_column, bonus_column, extra_odds, bonus_times, table2, table3}
 
-fair : ℕ → ℕ → Bool
-fair k x = leb x 1000
+most : ℕ → Bool
+most x = leb x 1000
 
-pub extra_most : (k : ℕ) → k < 9 → get_or extra_column k 0 ≤ 1000
-unfolding fair
-extra_most k h = leb-true (get_or extra_column k 0) 1000 (row 0 fair extra_column refl k h)
+most_at : (l : List ℕ) → all_pass most l ≡ true → (k : ℕ) → get_or l k 0 ≤ 1000
+unfolding most
+most_at [] e k = zero-le
+most_at (x ∷ l) e zero = leb-true x 1000 (both_true (most x) (all_pass most l) e).0
+most_at (x ∷ l) e (suc k) = most_at l (both_true (most x) (all_pass most l) e).1 k
 
-pub bonus_most : (k : ℕ) → k < 9 → get_or bonus_column k 0 ≤ 1000
-unfolding fair
-bonus_most k h = leb-true (get_or bonus_column k 0) 1000 (row 0 fair bonus_column refl k h)
+-- past a column's end there is 0
+pub extra_most : (k : ℕ) → get_or extra_column k 0 ≤ 1000
+unfolding most
+extra_most = most_at extra_column refl
+
+pub bonus_most : (k : ℕ) → get_or bonus_column k 0 ≤ 1000
+unfolding most
+bonus_most = most_at bonus_column refl
 
 -- Table 3 as it is printed
 pub extra_printed : (h : Hand) → extra_odds h ≡ get_or table3 (row_of_hand h) 0

@@ -22,14 +22,12 @@ pub fn extra_odds(h: Hand) -> u32
     if both(h.class == 0, h.r1 == 14) {
         return ROYAL;
     }
-    let k = h.class as usize;
-    if k < 9 { EXTRA[k] } else { 0 }
+    EXTRA.get(usize::from(h.class)).copied().unwrap_or(0)
 }
 
 // How many times the jackpot wager a hand's Bonus Prize is; 0 where it has none.
 pub fn bonus_times(h: Hand) -> u32
     ensures { (result ≡ bonus_times h) × (result ≤ 1000) }
 {
-    let k = h.class as usize;
-    if k < 9 { BONUS[k] } else { 0 }
+    BONUS.get(usize::from(h.class)).copied().unwrap_or(0)
 }
