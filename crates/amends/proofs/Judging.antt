@@ -103,7 +103,7 @@ module _ (t : Table) (n : ℕ) (p : Played) where
   unfolding righted_by
   righted_no e = sym (ap (λ (b : Bool). pick b (taking no_payout) (refused_at t n 13)) e)
 
-pub replayed_none : (t : Table) (n : ℕ) (log : List ℕ) {x : Result Entry Refusal} → x ≡ Err OutOfRange → refused_at t n 13 ≡ replayed_of t n x log
+pub replayed_none : (t : Table) (n : ℕ) (log : List ℕ) {x : Result Entry Refusal} {why : Refusal} → x ≡ Err why → refused_at t n 13 ≡ replayed_of t n x log
 replayed_none t n log e = ap (λ (y : Result Entry Refusal). replayed_of t n y log) (sym e)
 
 pub replayed_read : (t : Table) (n : ℕ) (log : List ℕ) {x : Result Entry Refusal} {e : Entry} {m : ℕ} {p : Played} {r : Judged} → x ≡ Ok e → m ≡ n - 1

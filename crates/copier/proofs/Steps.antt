@@ -122,7 +122,7 @@ block_gave s count block copy notes h r {n} {k} {d} {copy2} {notes2} {noted} e f
     }
 
 module _ (block copy notes : List ℕ) {o : Result Sheet Refusal} (e : o ≡ sheet_of block) where
-  pub bad_gave : {notes2 : List ℕ} {d : Copier} {r : ℕ} → o ≡ Err BadSheet → Wrote eleven notes notes2 r → d ≡ copier_in Shut (fill_of nothing)
+  pub bad_gave : {notes2 : List ℕ} {d : Copier} {r : ℕ} {why : Refusal} → o ≡ Err why → Wrote eleven notes notes2 r → d ≡ copier_in Shut (fill_of nothing)
       → Gave (lines_done Unread block) copy notes copy notes2 d 0 r
   bad_gave {notes2} {d} {r} q w g =
       subst (λ (x : Result Sheet Refusal). Gave (sheet_done x) copy notes copy notes2 d 0 r) (sym q ∙ e)

@@ -171,7 +171,7 @@ module _ (p : Pair) {n : Option ℕ} where
   pool_bad {x} {q} {out} {new} {w} e f g = subst (λ (y : Option ℕ). Gave (pool_done p y) out new q w) (sym f ∙ e) g
 
 module _ (p : Pair) (due : ℕ) {o x : Result Sheet Refusal} {q : Pair} {out new : List ℕ} {w : ℕ} (e : o ≡ x) where
-  pub sheet_bad : o ≡ Err BadSheet → Gave (refused p) out new q w → Gave (sheet_done p due x) out new q w
+  pub sheet_bad : {why : Refusal} → o ≡ Err why → Gave (refused p) out new q w → Gave (sheet_done p due x) out new q w
   sheet_bad f g = subst (λ (y : Result Sheet Refusal). Gave (sheet_done p due y) out new q w) (sym f ∙ e) g
 
   pub sheet_gave : {s : Sheet} → o ≡ Ok s → Gave (sheet_done p due (Ok s)) out new q w → Gave (sheet_done p due x) out new q w

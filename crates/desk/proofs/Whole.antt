@@ -185,7 +185,7 @@ module _ {t : Table} {log out : List ℕ} {table : Table} {left now : List ℕ} 
 
 -- ---- the two answers of running a log
 
-pub run_bad : (log : List ℕ) (o : Result Sheet Refusal) (room : ℕ) → o ≡ opened_of log → o ≡ Err BadSheet → output_in log room ≡ fitting eleven room
+pub run_bad : (log : List ℕ) (o : Result Sheet Refusal) (room : ℕ) → o ≡ opened_of log → {why : Refusal} → o ≡ Err why → output_in log room ≡ fitting eleven room
 unfolding output_in
 run_bad log o room p q = rw (← p, q)
 

@@ -72,14 +72,14 @@ entry_judged b block log index {x} {full} {j} {r} e f g h =
 pub taken_bytes : (w : Result ℕ Refusal) (code : ℕ) {k : ℕ} → w ≡ Ok k → eqb code 0 ≡ was_taken w code
 taken_bytes w code e = ap (λ (x : Result ℕ Refusal). was_taken x code) (sym e)
 
-pub taken_none : (w : Result ℕ Refusal) (code : ℕ) → w ≡ Err NoRoom → false ≡ was_taken w code
+pub taken_none : (w : Result ℕ Refusal) (code : ℕ) {why : Refusal} → w ≡ Err why → false ≡ was_taken w code
 taken_none w code e = ap (λ (x : Result ℕ Refusal). was_taken x code) (sym e)
 
 pub told_bytes : (b : Book) (j : Judged) (hands : ℕ) (w : Result ℕ Refusal) {k : ℕ} → w ≡ Ok k
     → record { block = j.block; code = j.code; book = record { table = j.table; hands = hands }; written = k } ≡ answered_as b j hands w
 told_bytes b j hands w e = ap (answered_as b j hands) (sym e)
 
-pub told_none : (b : Book) (j : Judged) (hands : ℕ) (w : Result ℕ Refusal) → w ≡ Err NoRoom
+pub told_none : (b : Book) (j : Judged) (hands : ℕ) (w : Result ℕ Refusal) {why : Refusal} → w ≡ Err why
     → record { block = j.block; code = 12; book = b; written = 0 } ≡ answered_as b j hands w
 told_none b j hands w e = ap (answered_as b j hands) (sym e)
 

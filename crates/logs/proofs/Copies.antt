@@ -50,7 +50,7 @@ copied_within true bs buffer = go (fits bs buffer) refl
 -- ---- the numbers of a block: an entry, or none
 
 module _ (sheet : Sheet) (n : ℕ) (p : Result Entry Refusal) (buffer : List ℕ) where
-  pub entry_none : {r : Copied} → p ≡ Err OutOfRange → r ≡ left_as 2 → (r ≡ entry_copied sheet n p buffer) × (buffer ≡ sheet_after (entry_copy sheet n p) buffer)
+  pub entry_none : {r : Copied} {why : Refusal} → p ≡ Err why → r ≡ left_as 2 → (r ≡ entry_copied sheet n p buffer) × (buffer ≡ sheet_after (entry_copy sheet n p) buffer)
   entry_none {r} q f = (f ∙ sym (ap (λ (x : Result Entry Refusal). entry_copied sheet n x buffer) q), after_none buffer ∙ ap (λ (x : Result Entry Refusal). sheet_after (entry_copy sheet n x) buffer) (sym q))
 
   pub entry_put : {e : Entry} {w : Result ℕ Refusal} {r : Copied} {new : List ℕ} → p ≡ Ok e → w ≡ put_of (is_entry sheet n e) (entry_text n e) buffer

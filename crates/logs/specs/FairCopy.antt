@@ -106,7 +106,6 @@ left_out log = said_from (sheet_of log) log
 abbrev pub copied_as : Result ℕ Refusal → Copied
 copied_as (Ok k) = record { code = code_of_put (Ok k); written = k }
 copied_as (Err why) = record { code = code_of_put (Err why); written = 0 }
-copied_as (Err why) = record { code = code_of_put (Err why); written = 0 }
 
 abbrev pub left_as : ℕ → Copied
 left_as code = record { code = code; written = 0 }

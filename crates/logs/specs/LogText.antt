@@ -5,7 +5,8 @@ use Rattle.std.specs.Prelude.{ℕ, ◌<◌, ◌^◌, List, [], ◌∷◌, ◌++�
 use Rattle.paper.specs.declared.refusal.Refusal.TheVariants.{OutOfRange, NoRoom}
 use Rattle.paper.specs.declared.refusal.Refusal.{Refusal}
 use Rattle.laws.specs.Tests.{pick, both}
-use Rattle.paper.specs.RefusalNumbers.{taken, out_of_range, no_room}
+use Rattle.paper.specs.RefusalNumbers.{taken}
+use Rattle.paper.specs.Refusals.{number_of}
 use Rattle.paper.specs.SheetAndEntries.{kind_names, numbers_of, sheet_values, is_sheet, in_range}
 use Rattle.paper.specs.declared.Sheet.{Sheet}
 use Rattle.paper.specs.declared.Numbers.{Numbers}
@@ -67,5 +68,4 @@ put_after good bs buffer = pick good (sheet_after bs buffer) buffer
 -- the paper's number for each answer
 abbrev pub code_of_put : Result ℕ Refusal → ℕ
 code_of_put (Ok k) = taken
-code_of_put (Err why) = out_of_range
-code_of_put (Err why) = no_room
+code_of_put (Err why) = number_of why

@@ -140,7 +140,7 @@ module _ (t : Table) (p : Pool) (log sheet : List ℕ) {j : Judged} {s : Settled
   pub answered_said : {r : SharedAnswer} {w : Result ℕ Refusal} {k : ℕ} → r ≡ said j s k → w ≡ Ok k → r ≡ shared_from t p (judged_at t log) w
   answered_said {r} {w} {k} e f = e ∙ said_from k ∙ ap (shared_from t p (judged_at t log)) (sym f)
 
-  pub answered_kept : {r : SharedAnswer} {w : Result ℕ Refusal} → r ≡ kept j.block t p → w ≡ Err NoRoom → r ≡ shared_from t p (judged_at t log) w
+  pub answered_kept : {r : SharedAnswer} {w : Result ℕ Refusal} → r ≡ kept j.block t p → {why : Refusal} → w ≡ Err why → r ≡ shared_from t p (judged_at t log) w
   answered_kept e f = e ∙ kept_from ∙ ap (shared_from t p (judged_at t log)) (sym f)
 
   -- where there is no block nothing is written

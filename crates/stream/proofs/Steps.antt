@@ -81,7 +81,7 @@ module _ (t : Table) (block out : List ℕ) where
           → ◌≡◌ {A = Clerk} (record { opened = true; shut = false; table = u; fill = x }) (record { opened = true; shut = false; table = v; fill = y })
       same p q = cc
 
-  pub bad_gave : {o : Result Sheet Refusal} {new : List ℕ} {m : Fill} {r : ℕ} → o ≡ opened_of block → o ≡ Err BadSheet → Wrote (fitting eleven (length out)) out new r → m ≡ fill_of nothing → Sound t
+  pub bad_gave : {o : Result Sheet Refusal} {new : List ℕ} {m : Fill} {r : ℕ} → o ≡ opened_of block → {why : Refusal} → o ≡ Err why → Wrote (fitting eleven (length out)) out new r → m ≡ fill_of nothing → Sound t
       → Gave t (lines_done (length out) (state_at false t) block) out new (record { opened = false; shut = true; table = t; fill = m }) r false
       × (Held (record { opened = false; shut = true; table = t; fill = m }) × (r ≤ length out))
   bad_gave {o} {new} {m} {r} e q w g h =

@@ -5,4 +5,5 @@ use Rattle.paper.specs.RefusalNumbers.{taken, no_room}
 
 abbrev pub code_of_written : Result ℕ Refusal → ℕ
 code_of_written (Ok k) = taken
+-- writing is refused for no other reason
 code_of_written (Err why) = no_room
