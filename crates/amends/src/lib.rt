@@ -8,23 +8,22 @@ ghost use Rattle.desk.specs.Desk.{SmallPaid};
 ghost use Rattle.blocks.specs.Front.{block_ended};
 ghost use Rattle.amends.specs.Righting.{right_of, is_right, number_of, is_six, outside, right_code, parsed_in, righted_by, replayed_of, judged_right};
 
-use blocks::{Block, Parsed, block_from, entry_of, line_kind};
+use blocks::{Block, block_from, entry_of, line_kind};
 use desk::{Judged, refused};
 use fresh::{Played, replay};
 use laws::{either, short_of};
-use paper::{NOT_RIGHT, OUT_OF_RANGE, SHARES_POOL, TAKEN, between, or_else, when};
+use paper::{Entry, NOT_RIGHT, OUT_OF_RANGE, Refusal, SHARES_POOL, TAKEN, between, or_else, when};
 use records::record_in;
 use table::settle::no_payout;
 use table::table::Table;
 use text::line::{after_lines, behind, line_end, number_of};
-use text::sheet::value_in;
-use text::{Number, read_key_number};
+use text::read_key_number;
 
 // The corrected number, the kind, and all five lines as a block of that number; each is bad where its lines are.
 #[derive(Clone, Copy)]
 pub struct Right {
-    pub n: Number,
-    pub kind: Number,
+    pub n: Option<u32>,
+    pub kind: Option<u32>,
     pub block: Block,
 }
 
@@ -65,8 +64,8 @@ pub fn is_right(lines: &[u8]) -> bool
     ensures { result ≡ is_right lines.now }
 {
     match read_key_number(lines, b"right") {
-        Number::Value(_) => ended(lines),
-        Number::Bad => false,
+        Some(_) => ended(lines),
+        None => false,
     }
 }
 
@@ -78,17 +77,17 @@ fn is_six(k: u32) -> bool
 }
 
 // Whether a `do` of good form is outside the six.
-fn outside(kind: Number) -> bool
+fn outside(kind: Option<u32>) -> bool
     ensures { result ≡ outside kind }
 {
     match kind {
-        Number::Value(k) => !is_six(k),
-        Number::Bad => false,
+        Some(k) => !is_six(k),
+        None => false,
     }
 }
 
 // 14, then 2: the number is not stored, the stored entry is outside the six, or the new one.
-fn right_code(shared: bool, taken: u32, n: u32, old: u8, kind: Number) -> u8
+fn right_code(shared: bool, taken: u32, n: u32, old: u8, kind: Option<u32>) -> u8
     ensures { result ≡ right_code shared taken n old kind }
 {
     let stored = between(n, 1, taken);
@@ -100,7 +99,7 @@ fn right_code(shared: bool, taken: u32, n: u32, old: u8, kind: Number) -> u8
 }
 
 // The entry that a block is, if it is one.
-fn parsed_in(b: Block) -> Parsed
+fn parsed_in(b: Block) -> Result<Entry, Refusal>
     ensures { result ≡ parsed_in b }
 {
     match b {
@@ -111,8 +110,8 @@ fn parsed_in(b: Block) -> Parsed
             a,
             b,
         } => entry_of(kind, seat, a, b),
-        Block::Malformed => Parsed::OutOfRange,
-        Block::Nothing => Parsed::OutOfRange,
+        Block::Malformed => Err(Refusal::OutOfRange),
+        Block::Nothing => Err(Refusal::OutOfRange),
     }
 }
 
@@ -136,13 +135,13 @@ fn righted(t: Table, n: u32, p: Played) -> Judged
 }
 
 // The whole corrected log read afresh.
-fn replayed(t: Table, n: u32, e: Parsed, log: &[u8]) -> Judged
+fn replayed(t: Table, n: u32, e: Result<Entry, Refusal>, log: &[u8]) -> Judged
     requires { Sound t × (is_sheet t.sheet ≡ true) }
     ensures { (result ≡ replayed_of t n e log.now) × Sound result.table × SmallPaid result.payout }
 {
     match e {
-        Parsed::OutOfRange => refused(t, n, NOT_RIGHT),
-        Parsed::Read(x) => {
+        Err(_) => refused(t, n, NOT_RIGHT),
+        Ok(x) => {
             let s = t.sheet;
             righted(t, n, replay(s, log, t.taken, short_of(n, 1), x))
         }
@@ -157,7 +156,7 @@ pub fn judge_right(t: Table, shared: bool, r: Right, log: &[u8]) -> Judged
     let number = r.n;
     let kind = r.kind;
     let block = r.block;
-    let n = value_in(number);
+    let n = number.unwrap_or(0);
     let old = record_in(log, short_of(n, 1));
     let code = right_code(shared, t.taken, n, old.kind, kind);
     if code != TAKEN {

@@ -8,6 +8,8 @@ use native.Mathlib.Omega.{arith}
 use lib.ListN.{length}
 use lib.Dec.{eqb, ltb, leb}
 use borrow.Author.Tests.{eq-eqb, ne_eqb, leb-false, ltb-false}
+use Rattle.std.specs.Prelude.{Result, Ok, Err}
+use Rattle.paper.specs.declared.refusal.Refusal.{Refusal}
 use Rattle.laws.specs.Tests.{pick, both, either, one}
 use Rattle.paper.specs.SheetAndEntries.{made, numbers_of}
 use Rattle.paper.specs.declared.Sheet.{Sheet}
@@ -16,11 +18,8 @@ use Rattle.paper.specs.declared.Entry.{Entry}
 use Rattle.blocks.specs.Entry.{parsed_of}
 use Rattle.blocks.specs.declared.Block.{Block}
 use Rattle.blocks.specs.declared.Block.TheVariants.{Raw}
-use Rattle.blocks.specs.declared.Parsed.TheVariants.{Read}
 use Rattle.blocks.proofs.Entries.{read_is, numbers_back}
 use Rattle.writing.specs.AnswerSheet.{over, written_of}
-use Rattle.writing.specs.declared.Written.{Written}
-use Rattle.writing.specs.declared.Written.TheVariants.{Bytes, NoRoom}
 use Rattle.table.specs.Take.{code_of, next_of}
 use Rattle.table.specs.declared.table.Table.{Table}
 use Rattle.table.proofs.Refusals.{taken_counted}
@@ -52,10 +51,10 @@ not_both : (a b : Bool) → b ≡ true → both a b ≡ false → a ≡ false
 not_both true b e h = absurd (true_false (sym e ∙ h))
 not_both false b e h = refl
 
-pub told_zero : (b : Book) (j : Judged) (hands : ℕ) (w : Written) → (answered_as b j hands w).code ≡ 0
+pub told_zero : (b : Book) (j : Judged) (hands : ℕ) (w : Result ℕ Refusal) → (answered_as b j hands w).code ≡ 0
     → (j.code ≡ 0) × (was_taken w j.code ≡ true) × ((answered_as b j hands w).book ≡ record { table = j.table; hands = hands })
-told_zero b j hands (Bytes k) h = (h, eq-eqb j.code 0 h, refl)
-told_zero b j hands NoRoom h = absurd (no h)
+told_zero b j hands (Ok k) h = (h, eq-eqb j.code 0 h, refl)
+told_zero b j hands (Err why) h = absurd (no h)
   where
     no : ◌≡◌ {A = ℕ} 12 0 → ⊥
     no e = omega (arith, e)
@@ -69,10 +68,10 @@ module _ (b : Book) (block : Block) (log index sheet : List ℕ) where
   abbrev x : Numbers
   x = numbers_in block
 
-  same_as : (w : Written) → ((answered_as b j (hands_after (was_taken w j.code) b x) w).code ≡ 0 → ⊥)
+  same_as : (w : Result ℕ Refusal) → ((answered_as b j (hands_after (was_taken w j.code) b x) w).code ≡ 0 → ⊥)
       → ((answered_as b j (hands_after (was_taken w j.code) b x) w).book ≡ b) × ((log_after (was_taken w j.code) b x log ≡ log) × (index_kept (was_taken w j.code) b x index ≡ index))
   unfolding log_after index_kept
-  same_as (Bytes k) h =
+  same_as (Ok k) h =
       let f : eqb j.code 0 ≡ false = ne_eqb j.code 0 h in
       let t : j.table ≡ b.table = (entry_counts b block (length log) (length index)).same h in (
         ap (λ (u : Table). record { table = u; hands = hands_after (eqb j.code 0) b x }) t
@@ -82,7 +81,7 @@ module _ (b : Book) (block : Block) (log index sheet : List ℕ) where
           ap (λ (q : Bool). pick q (index_after (eqb x.kind 2) b.hands (b.table.taken + 1) b.table.chairs index) index) f,
         ),
       )
-  same_as NoRoom h = (refl, (refl, refl))
+  same_as (Err why) h = (refl, (refl, refl))
 
   pub refused_same : ((entered_of b block log index sheet).code ≡ 0 → ⊥)
       → ((entered_of b block log index sheet).book ≡ b) × ((log_entered b block log index sheet ≡ log) × (index_entered b block log index sheet ≡ index))
@@ -135,7 +134,7 @@ room_is count hands hand log index h =
       row_fits = λ e. ltb-false index (44 * hands + 44) (sym (ap (λ (y : Bool). both y (ltb index (44 * hands + 44))) e) ∙ q.1);
     }
 
-module _ (sheet : Sheet) (es : List Entry) (b : Book) (log index : List ℕ) (s : Stored sheet es b log index) (n k seat a c : ℕ) (e : Entry) (read : parsed_of k seat a c ≡ Read e) (out : List ℕ) where
+module _ (sheet : Sheet) (es : List Entry) (b : Book) (log index : List ℕ) (s : Stored sheet es b log index) (n k seat a c : ℕ) (e : Entry) (read : parsed_of k seat a c ≡ Ok e) (out : List ℕ) where
   abbrev block : Block
   block = Raw n k seat a c
 
@@ -155,7 +154,7 @@ module _ (sheet : Sheet) (es : List Entry) (b : Book) (log index : List ℕ) (s 
   taken_is : b.table.taken ≡ length es
   taken_is = ap (λ (t : Table). t.taken) s.table ∙ run_count sheet es s.all
 
-  parsed_is : judge_block b.table block ≡ judge_parsed b.table n (Read e)
+  parsed_is : judge_block b.table block ≡ judge_parsed b.table n (Ok e)
   parsed_is = ap (judge_parsed b.table n) read
 
   module _ (full : is_full b.table.taken b.hands (eqb k 2) (length log) (length index) ≡ false) (zero : code_of b.table n e ≡ 0) where
@@ -212,7 +211,7 @@ module _ (sheet : Sheet) (es : List Entry) (b : Book) (log index : List ℕ) (s 
       let i : Judged = judge_block b.table block in
       let full : Bool = is_full b.table.taken b.hands (eqb k 2) (length log) (length index) in
       let jj : Judged = held_back b.table full i in
-      let w : Written = written_of (judged_bytes jj) out in
+      let w : Result ℕ Refusal = written_of (judged_bytes jj) out in
       let told = told_zero b jj (hands_after (was_taken w jj.code) b (made k seat a c)) w h in
       let held = held_zero b.table full i told.0 in
       let ok : was_taken w jj.code ≡ true = told.1 in

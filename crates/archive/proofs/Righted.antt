@@ -10,6 +10,9 @@ use native.Mathlib.Omega.{arith}
 use lib.ListN.{length, take, drop}
 use lib.Dec.{eqb}
 use borrow.Author.Tests.{eq-eqb, ne_eqb, eqb-true, not-false}
+use Rattle.std.specs.Prelude.{Option, Some, None, Result, Ok, Err}
+use Rattle.paper.specs.declared.refusal.Refusal.TheVariants.{OutOfRange}
+use Rattle.paper.specs.declared.refusal.Refusal.{Refusal}
 use Rattle.laws.specs.Tests.{pick, either, one}
 use Rattle.laws.proofs.Tests.{test}
 use Rattle.paper.specs.RefusalNumbers.{when}
@@ -19,16 +22,10 @@ use Rattle.paper.specs.declared.Numbers.{Numbers}
 use Rattle.paper.specs.declared.Entry.{Entry}
 use Rattle.paper.proofs.Codes.{between_in, or_zero, when_zero}
 use Rattle.text.specs.Line.{after_line, line_number}
-use Rattle.text.specs.declared.Number.{Number}
-use Rattle.text.specs.declared.Number.TheVariants.{Value, Bad}
 use Rattle.blocks.specs.Block.{line_kind, block_from}
 use Rattle.blocks.specs.Entry.{parsed_of, entry_at}
-use Rattle.blocks.specs.declared.Parsed.{Parsed}
-use Rattle.blocks.specs.declared.Parsed.TheVariants.{Read, OutOfRange}
 use Rattle.blocks.proofs.Entries.{read_is, numbers_back}
 use Rattle.writing.specs.AnswerSheet.{over, written_of}
-use Rattle.writing.specs.declared.Written.{Written}
-use Rattle.writing.specs.declared.Written.TheVariants.{Bytes, NoRoom}
 use Rattle.table.specs.Settle.{no_payout}
 use Rattle.table.specs.declared.table.Table.{Table}
 use Rattle.records.specs.Stored.{record_in, entry_in, put_record}
@@ -52,12 +49,12 @@ use Rattle.ledger.specs.Righting as righting
 thirteen_no : ◌≡◌ {A = ℕ} 13 0 → ⊥
 thirteen_no e = omega (arith, e)
 
-unread : {e : Entry} → OutOfRange ≡ Read e → ⊥
+unread : {e : Entry} → (Err OutOfRange) ≡ Ok e → ⊥
 unread {e} h = subst is_none h tt
   where
-    is_none : Parsed → Type 0
-    is_none OutOfRange = Unit {0}
-    is_none (Read x) = ⊥
+    is_none : Result Entry Refusal → Type 0
+    is_none (Err why) = Unit {0}
+    is_none (Ok x) = ⊥
 
 -- ---- any code but 0 changes nothing, whatever lies in the buffers
 
@@ -72,9 +69,9 @@ righted_same t n p h = go p.ok h
     go true f = absurd (f refl)
     go false f = refl
 
-replayed_same : (t : Table) (n : ℕ) (x : Parsed) (log : List ℕ) → ((replayed_of t n x log).code ≡ 0 → ⊥) → (replayed_of t n x log).table ≡ t
-replayed_same t n (Read e) log h = righted_same t n (played_to t.sheet (replacing (n - 1) e (entry_in log)) t.taken) h
-replayed_same t n OutOfRange log h = refl
+replayed_same : (t : Table) (n : ℕ) (x : Result Entry Refusal) (log : List ℕ) → ((replayed_of t n x log).code ≡ 0 → ⊥) → (replayed_of t n x log).table ≡ t
+replayed_same t n (Ok e) log h = righted_same t n (played_to t.sheet (replacing (n - 1) e (entry_in log)) t.taken) h
+replayed_same t n (Err why) log h = refl
 
 judged_same : (t : Table) (shared : Bool) (r : Right) (log : List ℕ) → ((judged_right t shared r log).code ≡ 0 → ⊥) → (judged_right t shared r log).table ≡ t
 unfolding judged_right
@@ -91,12 +88,12 @@ module _ (b : Book) (shared : Bool) (r : Right) (log index out : List ℕ) where
   abbrev judged : Judged
   judged = judged_right b.table shared r log
 
-  wrong_so : (w : Written) → ((answered_as b judged b.hands w).code ≡ 0 → ⊥)
+  wrong_so : (w : Result ℕ Refusal) → ((answered_as b judged b.hands w).code ≡ 0 → ⊥)
       → ((answered_as b judged b.hands w).book ≡ b)
       × ((righting.log_after (was_taken w judged.code) (number_of r) (numbers_in r.block) log ≡ log)
       × (righting.index_after (was_taken w judged.code) b.table (number_of r) (numbers_in r.block) log index ≡ index))
   unfolding righting.log_after righting.index_after
-  wrong_so (Bytes k) h =
+  wrong_so (Ok k) h =
       let f : eqb judged.code 0 ≡ false = ne_eqb judged.code 0 h in (
         ap (λ (t : Table). record { table = t; hands = b.hands }) (judged_same b.table shared r log h),
         (
@@ -104,7 +101,7 @@ module _ (b : Book) (shared : Bool) (r : Right) (log index out : List ℕ) where
           ap (λ (q : Bool). pick q (index_to b.table.sheet (entry_in (put_record log (number_of r - 1) (numbers_in r.block))) b.table.taken index) index) f,
         ),
       )
-  wrong_so NoRoom h = (refl, (refl, refl))
+  wrong_so (Err why) h = (refl, (refl, refl))
 
   pub wrong_same : ((righted_of b shared r log out).code ≡ 0 → ⊥)
       → ((righted_of b shared r log out).book ≡ b) × ((log_righted b shared r log out ≡ log) × (index_righted b shared r log index out ≡ index))
@@ -139,23 +136,23 @@ six_not (suc (suc (suc (suc (suc (suc (suc (suc (suc k))))))))) s a c h = absurd
     no : suc (suc (suc (suc (suc (suc (suc (suc (suc k)))))))) ≤ 8 → ⊥
     no l = omega (arith, l)
 
-raw_said : (n k s a c : ℕ) (e : Entry) → parsed_of k s a c ≡ Read e → not (is_six k) ≡ false → (made k s a c ≡ numbers_of e) × (is_hand e ≡ false)
+raw_said : (n k s a c : ℕ) (e : Entry) → parsed_of k s a c ≡ Ok e → not (is_six k) ≡ false → (made k s a c ≡ numbers_of e) × (is_hand e ≡ false)
 raw_said n k s a c e h o =
     let q = read_is k s a c e h in (
       sym (sym (ap numbers_of q.1) ∙ numbers_back k s a c q.0),
       ap is_hand (sym q.1) ∙ six_not k s a c (not-false (is_six k) o),
     )
 
-said : (n kind s a c : Number) (e : Entry) → parsed_in (block_from n kind s a c) ≡ Read e → outside kind ≡ false
+said : (n kind s a c : Option ℕ) (e : Entry) → parsed_in (block_from n kind s a c) ≡ Ok e → outside kind ≡ false
     → (numbers_in (block_from n kind s a c) ≡ numbers_of e) × (is_hand e ≡ false)
-said Bad kind s a c e h o = absurd (unread h)
-said (Value n) Bad s a c e h o = absurd (unread h)
-said (Value n) (Value k) Bad a c e h o = absurd (unread h)
-said (Value n) (Value k) (Value s) Bad c e h o = absurd (unread h)
-said (Value n) (Value k) (Value s) (Value a) Bad e h o = absurd (unread h)
-said (Value n) (Value k) (Value s) (Value a) (Value c) e h o = raw_said n k s a c e h o
+said None kind s a c e h o = absurd (unread h)
+said (Some n) None s a c e h o = absurd (unread h)
+said (Some n) (Some k) None a c e h o = absurd (unread h)
+said (Some n) (Some k) (Some s) None c e h o = absurd (unread h)
+said (Some n) (Some k) (Some s) (Some a) None e h o = absurd (unread h)
+said (Some n) (Some k) (Some s) (Some a) (Some c) e h o = raw_said n k s a c e h o
 
-lines_said : (lines : List ℕ) (e : Entry) → parsed_in (right_of lines).block ≡ Read e → outside (right_of lines).kind ≡ false
+lines_said : (lines : List ℕ) (e : Entry) → parsed_in (right_of lines).block ≡ Ok e → outside (right_of lines).kind ≡ false
     → (numbers_in (right_of lines).block ≡ numbers_of e) × (is_hand e ≡ false)
 unfolding right_of
 lines_said lines e h o =
@@ -257,16 +254,16 @@ module _ (sheet : Sheet) (es : List Entry) (b : Book) (log index : List ℕ) (s 
       go true = refl
       go false = refl
 
-  code_read : (e : Entry) → code_before b.table shared r log ≡ 0 → parsed_in r.block ≡ Read e → j.code ≡ pick (play e).ok 0 13
-  code_read e h q = ap (λ (x : Judged). x.code) (judged_fresh h ∙ ap (λ (x : Parsed). replayed_of b.table n x log) q) ∙ righted_code (play e)
+  code_read : (e : Entry) → code_before b.table shared r log ≡ 0 → parsed_in r.block ≡ Ok e → j.code ≡ pick (play e).ok 0 13
+  code_read e h q = ap (λ (x : Judged). x.code) (judged_fresh h ∙ ap (λ (x : Result Entry Refusal). replayed_of b.table n x log) q) ∙ righted_code (play e)
 
   -- "It is refused with 13 .. exactly if codes 1 to 10 refuse the new entry or any later one when the whole corrected log is read afresh": lines that are no
   -- entry always, and an entry exactly where not every one is taken
   module _ (before-zero : code_before b.table shared r log ≡ 0) where
-    pub right-none : parsed_in r.block ≡ OutOfRange → j.code ≡ 13
-    right-none q = ap (λ (x : Judged). x.code) (judged_fresh before-zero ∙ ap (λ (x : Parsed). replayed_of b.table n x log) q)
+    pub right-none : parsed_in r.block ≡ Err OutOfRange → j.code ≡ 13
+    right-none q = ap (λ (x : Judged). x.code) (judged_fresh before-zero ∙ ap (λ (x : Result Entry Refusal). replayed_of b.table n x log) q)
 
-    module _ (e : Entry) (read : parsed_in r.block ≡ Read e) where
+    module _ (e : Entry) (read : parsed_in r.block ≡ Ok e) where
       first : 1 ≤ n
       first = (rightly b.table shared r log before-zero).first
 
@@ -287,22 +284,22 @@ module _ (sheet : Sheet) (es : List Entry) (b : Book) (log index : List ℕ) (s 
 
   -- what was said, if it was taken
   pub record Took (e : Entry) : Type 0 where
-    pub read : parsed_in r.block ≡ Read e
+    pub read : parsed_in r.block ≡ Ok e
     pub right : Rightly b.table shared r log
     pub ok : (play e).ok ≡ true
     pub table : j.table ≡ (play e).table
 
-  took_read : (x : Parsed) → parsed_in r.block ≡ x → (replayed_of b.table n x log).code ≡ 0
-      → (e : Entry) × (parsed_in r.block ≡ Read e) × ((play e).ok ≡ true) × ((replayed_of b.table n x log).table ≡ (play e).table)
+  took_read : (x : Result Entry Refusal) → parsed_in r.block ≡ x → (replayed_of b.table n x log).code ≡ 0
+      → (e : Entry) × (parsed_in r.block ≡ Ok e) × ((play e).ok ≡ true) × ((replayed_of b.table n x log).table ≡ (play e).table)
   unfolding righted_by
-  took_read OutOfRange q h = absurd (thirteen_no h)
-  took_read (Read e) q h = go (play e).ok refl h
+  took_read (Err why) q h = absurd (thirteen_no h)
+  took_read (Ok e) q h = go (play e).ok refl h
     where
       jj : Bool → Judged
       jj t = pick t (record { block = true; n = n; code = 0; table = (play e).table; payout = no_payout }) (refused_at b.table n 13)
 
       go : (t : Bool) → (play e).ok ≡ t → (jj t).code ≡ 0
-          → (d : Entry) × (parsed_in r.block ≡ Read d) × ((play d).ok ≡ true) × ((jj t).table ≡ (play d).table)
+          → (d : Entry) × (parsed_in r.block ≡ Ok d) × ((play d).ok ≡ true) × ((jj t).table ≡ (play d).table)
       go true o z = (e, q, o, refl)
       go false o z = absurd (thirteen_no z)
 
@@ -385,7 +382,7 @@ module _ (sheet : Sheet) (es : List Entry) (b : Book) (log index : List ℕ) (s 
   pub right_fresh : (out : List ℕ) → (righted_of b shared r log out).code ≡ 0 → (e : Entry) × Righted e out
   unfolding righted_of log_righted index_righted righting.log_after righting.index_after
   right_fresh out h =
-      let w : Written = written_of (judged_bytes j) out in
+      let w : Result ℕ Refusal = written_of (judged_bytes j) out in
       let told = told_zero b j b.hands w h in
       let f = took told.0 in
       let e : Entry = f.0 in

@@ -9,12 +9,11 @@ use native.Mathlib.Omega.{arith}
 use lib.ListN.{length, get_or, drop, length-drop, drop_of_length-le}
 use lib.Seq.{drop-cons, drop-drop}
 use borrow.Author.Tests.{eq-eqb, ne_eqb, le-leb, lt-leb}
+use Rattle.std.specs.Prelude.{Option, Some, None}
 use Rattle.laws.specs.Tests.{pick}
 use Rattle.laws.proofs.Sums.{le_or_lt}
 use Rattle.laws.specs.Listing.{same_list}
 use Rattle.text.specs.Line.{line_len, after_line, after_lines, line_number}
-use Rattle.text.specs.declared.Number.{Number}
-use Rattle.text.specs.declared.Number.TheVariants.{Value, Bad}
 use Rattle.text.proofs.Lines.{after_shorter, after_lines_no_longer}
 use Rattle.blocks.specs.declared.Block.{Block}
 use Rattle.blocks.specs.declared.Block.TheVariants.{Nothing}
@@ -43,19 +42,19 @@ place_within (t ∷ ts) w = go (same_list w t) (place_within ts w)
 -- ---- which bytes are a kind's word
 
 module _ (w : List ℕ) where
-  pub kind_none : length w < 1 → kind_of w ≡ Bad
+  pub kind_none : length w < 1 → kind_of w ≡ None
   unfolding kind_of
   kind_none h = rw (lt-leb 1 (length w) h)
 
-  pub kind_long : 1 ≤ length w → 8 < length w → kind_of w ≡ Bad
+  pub kind_long : 1 ≤ length w → 8 < length w → kind_of w ≡ None
   unfolding kind_of
   kind_long p h = rw (le-leb 1 (length w) p, lt-leb (length w) 8 h)
 
-  pub kind_letters : 1 ≤ length w → length w ≤ 8 → all_letters w ≡ true → kind_of w ≡ Value (place_in kind_names w)
+  pub kind_letters : 1 ≤ length w → length w ≤ 8 → all_letters w ≡ true → kind_of w ≡ Some (place_in kind_names w)
   unfolding kind_of
   kind_letters p h e = rw (le-leb 1 (length w) p, le-leb (length w) 8 h, e)
 
-  pub kind_other : 1 ≤ length w → length w ≤ 8 → all_letters w ≡ false → kind_of w ≡ Bad
+  pub kind_other : 1 ≤ length w → length w ≤ 8 → all_letters w ≡ false → kind_of w ≡ None
   unfolding kind_of
   kind_other p h e = rw (le-leb 1 (length w) p, le-leb (length w) 8 h, e)
 
@@ -65,7 +64,7 @@ pub block_none : (l : List ℕ) → length l ≡ 0 → block_of l ≡ Nothing
 unfolding block_of
 block_none l e = rw (eq-eqb (length l) 0 e)
 
-pub block_five : (l : List ℕ) {l1 l2 l3 l4 : List ℕ} {n k s a b : Number} {r : Block} → (length l ≡ 0 → ⊥)
+pub block_five : (l : List ℕ) {l1 l2 l3 l4 : List ℕ} {n k s a b : Option ℕ} {r : Block} → (length l ≡ 0 → ⊥)
     → n ≡ line_number (110 ∷ []) l
     → l1 ≡ after_line l → k ≡ line_kind l1
     → l2 ≡ after_line l1 → s ≡ line_number (115 ∷ 101 ∷ 97 ∷ 116 ∷ []) l2

@@ -5,6 +5,8 @@ use Prim.Native.Nat.{ℕ, zero, suc, ◌≤◌, ◌<◌}
 use native.Mathlib.Omega.{arith}
 use borrow.Author.Tests.{le-leb, ltb-true, eqb-true}
 use lib.Dec.{ltb, eqb}
+use Rattle.std.specs.Prelude.{Ok, Err}
+use Rattle.paper.specs.declared.refusal.Refusal.TheVariants.{OutOfRange}
 use Rattle.laws.specs.Tests.{both, pick}
 use Rattle.laws.proofs.Tests.{both_true}
 use Rattle.paper.specs.SheetAndEntries.{between, made, row_at, spared, makes_entry, numbers_of, is_count, block_fits, in_range}
@@ -14,7 +16,6 @@ use Rattle.paper.specs.declared.Entry.{Entry}
 use Rattle.paper.specs.declared.Entry.TheVariants.{Sit, Leave, Hand, Hole, Fold, Check, Call, Wager, Board, Dead, Settle, Void}
 use Rattle.laws.proofs.Conjunction.{both_none}
 use Rattle.blocks.specs.Entry.{entry_at, parsed_of}
-use Rattle.blocks.specs.declared.Parsed.TheVariants.{Read, OutOfRange}
 
 module _ (from to x : ℕ) where
   pub in_range_law : from ≤ x → x ≤ to → between from to x ≡ true
@@ -24,11 +25,11 @@ module _ (k seat a b : ℕ) where
   pub kind_known : makes_entry (made k seat a b) ≡ true → k < 12
   kind_known e = ltb-true k 12 (both_true (ltb k 12) (spared (row_at k) (made k seat a b)) e).0
 
-  pub entry_read : makes_entry (made k seat a b) ≡ true → parsed_of k seat a b ≡ Read (entry_at k seat a b)
+  pub entry_read : makes_entry (made k seat a b) ≡ true → parsed_of k seat a b ≡ Ok (entry_at k seat a b)
   unfolding parsed_of
   entry_read e = rw e
 
-  pub entry_none : makes_entry (made k seat a b) ≡ false → parsed_of k seat a b ≡ OutOfRange
+  pub entry_none : makes_entry (made k seat a b) ≡ false → parsed_of k seat a b ≡ Err OutOfRange
   unfolding parsed_of
   entry_none e = rw e
 
@@ -67,7 +68,7 @@ numbers_back (suc (suc (suc (suc (suc (suc (suc (suc (suc (suc (suc zero))))))))
 numbers_back (suc (suc (suc (suc (suc (suc (suc (suc (suc (suc (suc (suc k)))))))))))) seat a b e = absurd (omega (arith, kind_known (suc (suc (suc (suc (suc (suc (suc (suc (suc (suc (suc (suc k)))))))))))) seat a b e))
 
 -- an entry's numbers make that entry
-pub entry_back : (e : Entry) → parsed_of (numbers_of e).kind (numbers_of e).seat (numbers_of e).a (numbers_of e).b ≡ Read e
+pub entry_back : (e : Entry) → parsed_of (numbers_of e).kind (numbers_of e).seat (numbers_of e).a (numbers_of e).b ≡ Ok e
 unfolding parsed_of
 entry_back (Sit s a) = refl
 entry_back (Leave s) = refl
@@ -84,25 +85,25 @@ entry_back Void = refl
 
 -- ---- code 2: an entry that was read gets it by the very test that its block's numbers do, and numbers that make no entry always get it
 
-pub read_is : (k seat a b : ℕ) (e : Entry) → parsed_of k seat a b ≡ Read e → (makes_entry (made k seat a b) ≡ true) × (entry_at k seat a b ≡ e)
+pub read_is : (k seat a b : ℕ) (e : Entry) → parsed_of k seat a b ≡ Ok e → (makes_entry (made k seat a b) ≡ true) × (entry_at k seat a b ≡ e)
 unfolding parsed_of
 read_is k seat a b e h = go (makes_entry (made k seat a b)) refl h
   where
-    go : (t : Bool) → makes_entry (made k seat a b) ≡ t → pick t (Read (entry_at k seat a b)) OutOfRange ≡ Read e
+    go : (t : Bool) → makes_entry (made k seat a b) ≡ t → pick t (Ok (entry_at k seat a b)) (Err OutOfRange) ≡ Ok e
         → (makes_entry (made k seat a b) ≡ true) × (entry_at k seat a b ≡ e)
     go true w v = (w, cc)
     go false w v = let z : ◌≡◌ {A = ℕ} 0 1 = cc in absurd (omega arith)
 
-pub read_fits : (sheet : Sheet) (n k seat a b : ℕ) (e : Entry) → parsed_of k seat a b ≡ Read e → in_range sheet n e ≡ block_fits sheet n (made k seat a b)
+pub read_fits : (sheet : Sheet) (n k seat a b : ℕ) (e : Entry) → parsed_of k seat a b ≡ Ok e → in_range sheet n e ≡ block_fits sheet n (made k seat a b)
 unfolding in_range
 read_fits sheet n k seat a b e h =
     let p = read_is k seat a b e h in
     ap (λ (x : Numbers). block_fits sheet n x) (ap numbers_of (sym p.1) ∙ numbers_back k seat a b p.0)
 
-pub unread : (sheet : Sheet) (n k seat a b : ℕ) → parsed_of k seat a b ≡ OutOfRange → block_fits sheet n (made k seat a b) ≡ false
+pub unread : (sheet : Sheet) (n k seat a b : ℕ) → parsed_of k seat a b ≡ Err OutOfRange → block_fits sheet n (made k seat a b) ≡ false
 unfolding parsed_of
 unread sheet n k seat a b h = go (makes_entry (made k seat a b)) refl h
   where
-    go : (t : Bool) → makes_entry (made k seat a b) ≡ t → pick t (Read (entry_at k seat a b)) OutOfRange ≡ OutOfRange → block_fits sheet n (made k seat a b) ≡ false
+    go : (t : Bool) → makes_entry (made k seat a b) ≡ t → pick t (Ok (entry_at k seat a b)) (Err OutOfRange) ≡ Err OutOfRange → block_fits sheet n (made k seat a b) ≡ false
     go true w v = let z : ◌≡◌ {A = ℕ} 0 1 = cc in absurd (omega arith)
     go false w v = rw w (both_none (is_count n))

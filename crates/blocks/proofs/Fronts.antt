@@ -10,14 +10,13 @@ use lib.ListN.{length, get_or, take, drop, length-append, length-drop, take-appe
 use lib.Seq.{drop-cons, length-take-le, get_or-drop}
 use lib.Dec.{eqb, ltb}
 use borrow.Author.Tests.{lt-ltb, eqb-false}
+use Rattle.std.specs.Prelude.{Option, Some}
 use Rattle.laws.specs.Tests.{pick}
 use Rattle.text.specs.Bytes.{all_within, pack_of}
 use Rattle.text.specs.Number.{number_of, value_from}
 use Rattle.text.specs.Line.{line_len, after_line, starts_with, has_key, value_of, line_number, after_lines}
 use Rattle.blocks.specs.Block.{all_letters, kind_names, place_in, kind_of, line_kind, rest_of, block_of}
 use Rattle.blocks.specs.Front.{block_ended, front_of, AtOneGo}
-use Rattle.text.specs.declared.Number.{Number}
-use Rattle.text.specs.declared.Number.TheVariants.{Value}
 use Rattle.blocks.specs.declared.Block.{Block}
 use Rattle.blocks.specs.declared.Block.TheVariants.{Raw}
 use Rattle.blocks.specs.declared.runs.Run.{Run}
@@ -81,7 +80,7 @@ module _ (key log part : List ℕ) (e : ℕ) (f : line_len key ≡ length key) (
   after_seen : NoLF (take e part) → after_line log ≡ drop (length key + 1 + e + 1) log
   after_seen n = ap (λ (i : ℕ). drop (suc i) log) (line_seen n) ∙ ap (λ (i : ℕ). drop i log) (sym (add-one (length key + 1 + e)))
 
-  pub number_seen : {v : ℕ} → number_of (take e part) ≡ Value v → AtOneGo (line_number key log) log (record { value = v; next = length key + 1 + e + 1 })
+  pub number_seen : {v : ℕ} → number_of (take e part) ≡ Some v → AtOneGo (line_number key log) log (record { value = v; next = length key + 1 + e + 1 })
   number_seen {v} q =
       let n = no_number (take e part) v q in
       (seen_within, λ o. (ap number_of (value_seen n.0 (omega (arith, n.1, count))) ∙ q, after_seen n.0, omega (arith, line_seen n.0)))
@@ -90,18 +89,18 @@ module _ (key log part : List ℕ) (e : ℕ) (f : line_len key ≡ length key) (
 
 -- a number and its LF at the front of a part
 abbrev NumberAt : List ℕ → Run → Type 0
-NumberAt part r = (r.count ≤ 9) × (0 < r.count → (number_of (take r.count part) ≡ Value r.value) × (get_or part r.count 0 ≡ 10))
+NumberAt part r = (r.count ≤ 9) × (0 < r.count → (number_of (take r.count part) ≡ Some r.value) × (get_or part r.count 0 ≡ 10))
 
 -- what `digit` promises of a byte
 abbrev DigitOf : ℕ → ℕ → Type 0
 DigitOf b a = a ≤ 9 → (48 ≤ b) × (b ≤ 57) × (a ≡ b - 48)
 
-one_number : (l : List ℕ) {a : ℕ} → 1 ≤ length l → DigitOf (get_or l 0 0) a → a ≤ 9 → number_of (take 1 l) ≡ Value a
+one_number : (l : List ℕ) {a : ℕ} → 1 ≤ length l → DigitOf (get_or l 0 0) a → a ≤ 9 → number_of (take 1 l) ≡ Some a
 one_number l h f s =
     let d = f s in
     run_one l 1 (omega arith) h (run_on 48 57 l 0 h d.0 d.1 refl) (d.2 ∙ sym (value_on l 0 h ∙ omega arith)) (omega arith) (omega arith)
 
-two_number : (l : List ℕ) {a b : ℕ} → 2 ≤ length l → DigitOf (get_or l 0 0) a → DigitOf (get_or l 1 0) b → a ≤ 9 → 0 < a → b ≤ 9 → number_of (take 2 l) ≡ Value (a * 10 + b)
+two_number : (l : List ℕ) {a b : ℕ} → 2 ≤ length l → DigitOf (get_or l 0 0) a → DigitOf (get_or l 1 0) b → a ≤ 9 → 0 < a → b ≤ 9 → number_of (take 2 l) ≡ Some (a * 10 + b)
 two_number l h f g s o t =
     let d = f s in
     let e = g t in
@@ -123,7 +122,7 @@ module _ (log : List ℕ) (from : ℕ) (h : from + 10 ≤ length log) (r : Run) 
     λ o.
         let q = p.1 o in
         let n = one_number (drop from log) {a = a} (omega (arith, room_behind)) (rw (byte_behind 0 from (omega arith)) f) q.1 in (
-          ap (λ (i : ℕ). number_of (take i (drop from log))) q.0 ∙ n ∙ ap (λ (v : ℕ). Value v) (sym q.2),
+          ap (λ (i : ℕ). number_of (take i (drop from log))) q.0 ∙ n ∙ ap (λ (v : ℕ). Some v) (sym q.2),
           ap (λ (i : ℕ). get_or (drop from log) i 0) q.0 ∙ byte_behind 1 (from + 1) refl ∙ z,
         ),
   )
@@ -135,7 +134,7 @@ module _ (log : List ℕ) (from : ℕ) (h : from + 10 ≤ length log) (r : Run) 
     λ o.
         let q = p.1 o in
         let n = two_number (drop from log) {a = a} {b = b} (omega (arith, room_behind)) (rw (byte_behind 0 from (omega arith)) f) (rw (byte_behind 1 (from + 1) refl) g) q.1 q.2 q.3 in (
-          ap (λ (i : ℕ). number_of (take i (drop from log))) q.0 ∙ n ∙ ap (λ (v : ℕ). Value v) (sym q.4),
+          ap (λ (i : ℕ). number_of (take i (drop from log))) q.0 ∙ n ∙ ap (λ (v : ℕ). Some v) (sym q.4),
           ap (λ (i : ℕ). get_or (drop from log) i 0) q.0 ∙ byte_behind 2 (from + 2) refl ∙ z,
         ),
   )
@@ -165,10 +164,10 @@ line_at from d = record { value = d.value; next = from + d.count + 1 }
 abbrev Made : ℕ → Run → Line → Type 0
 Made from d r = (0 < d.count → r ≡ line_at from d) × (d.count ≡ 0 → r.next ≡ 0)
 
-pub unread : (x : Number) (log : List ℕ) {v : ℕ} → AtOneGo x log (record { value = v; next = 0 })
+pub unread : (x : Option ℕ) (log : List ℕ) {v : ℕ} → AtOneGo x log (record { value = v; next = 0 })
 unread x log = (omega arith, λ o. absurd (omega arith))
 
-line_made : (x : Number) (log : List ℕ) (from most : ℕ) (d : Run) (r : Line) → Made from d r → d.count ≤ most → (0 < d.count → AtOneGo x log (line_at from d))
+line_made : (x : Option ℕ) (log : List ℕ) (from most : ℕ) (d : Run) (r : Line) → Made from d r → d.count ≤ most → (0 < d.count → AtOneGo x log (line_at from d))
     → AtOneGo x log r × (r.next ≤ from + most + 1)
 line_made x log from most d r m s f = ⊎_elim
     (λ o. subst (λ (y : Line). AtOneGo x log y × (y.next ≤ from + most + 1)) (sym (m.0 o)) (f o, omega arith))
@@ -189,9 +188,9 @@ kind_seen log part e {v} k p h z o s l q =
     let key : List ℕ = 100 ∷ 111 ∷ [] in
     let n = no_within 97 122 (take e part) (omega arith) l in
     let c = count key log part e refl (omega arith) k p h z in
-    let r : line_kind log ≡ Value v =
+    let r : line_kind log ≡ Some v =
     ap (λ (b : List ℕ). kind_of b) (value_seen key log part e refl (omega arith) k p h z n (omega arith))
-    ∙ kind_letters (take e part) (omega arith) (omega arith) l ∙ ap (λ (x : ℕ). Value x) (sym q) in (
+    ∙ kind_letters (take e part) (omega arith) (omega arith) l ∙ ap (λ (x : ℕ). Some x) (sym q) in (
       omega (arith, seen_within key log part e refl (omega arith) k p h z),
       λ g. (
         r,

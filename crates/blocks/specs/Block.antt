@@ -1,13 +1,11 @@
 -- Document 01, "The table sheet and the entries": "An entry is five lines: n, do, seat, a, b." "do is 1 to 8 small letters." "Reading uses up five lines at a time, whatever the code;
 -- a last block without its fifth LF is malformed. No bytes left means no block."
-use Rattle.std.specs.Prelude.{ℕ, suc, List, [], ◌∷◌, Bool, length, eqb, leb}
+use Rattle.std.specs.Prelude.{ℕ, suc, List, [], ◌∷◌, Bool, length, eqb, leb, Option, Some, None}
 use Rattle.laws.specs.Tests.{pick, both}
 pub use Rattle.paper.specs.SheetAndEntries.{kind_names}
 use Rattle.text.specs.Bytes.{all_within}
 use Rattle.laws.specs.Listing.{same_list}
 use Rattle.text.specs.Line.{after_line, after_lines, value_of, line_number}
-use Rattle.text.specs.declared.Number.{Number}
-use Rattle.text.specs.declared.Number.TheVariants.{Value, Bad}
 use Rattle.blocks.specs.declared.Block.{Block}
 use Rattle.blocks.specs.declared.Block.TheVariants.{Raw, Malformed, Nothing}
 
@@ -33,21 +31,21 @@ abbrev pub is_word : List ℕ → Bool
 is_word w = both (both (leb 1 (length w)) (leb (length w) 8)) (all_letters w)
 
 -- the place of a kind's word in the table, 12 where there is no such kind; Bad where it is no word
-unfoldable pub kind_of : List ℕ → Number
-kind_of w = pick (is_word w) (Value (place_in kind_names w)) Bad
+unfoldable pub kind_of : List ℕ → Option ℕ
+kind_of w = pick (is_word w) (Some (place_in kind_names w)) None
 
 -- the kind of a log's first line, whose key is `do`
-abbrev pub line_kind : List ℕ → Number
+abbrev pub line_kind : List ℕ → Option ℕ
 line_kind log = kind_of (value_of (100 ∷ 111 ∷ []) log)
 
 -- five readings make a block where none of them is bad
-abbrev pub block_from : Number → Number → Number → Number → Number → Block
-block_from Bad kind seat a b = Malformed
-block_from (Value n) Bad seat a b = Malformed
-block_from (Value n) (Value kind) Bad a b = Malformed
-block_from (Value n) (Value kind) (Value seat) Bad b = Malformed
-block_from (Value n) (Value kind) (Value seat) (Value a) Bad = Malformed
-block_from (Value n) (Value kind) (Value seat) (Value a) (Value b) = Raw n kind seat a b
+abbrev pub block_from : Option ℕ → Option ℕ → Option ℕ → Option ℕ → Option ℕ → Block
+block_from None kind seat a b = Malformed
+block_from (Some n) None seat a b = Malformed
+block_from (Some n) (Some kind) None a b = Malformed
+block_from (Some n) (Some kind) (Some seat) None b = Malformed
+block_from (Some n) (Some kind) (Some seat) (Some a) None = Malformed
+block_from (Some n) (Some kind) (Some seat) (Some a) (Some b) = Raw n kind seat a b
 
 -- the block at the front of a log
 unfoldable pub block_of : List ℕ → Block

@@ -4,9 +4,7 @@ ghost use Rattle.text.specs.Bytes.{all_within, pack_of};
 ghost use Rattle.blocks.specs.Block.{all_letters, kind_names, place_in, kind_of};
 ghost use Rattle.blocks.specs.Entry.{entry_at, parsed_of};
 
-use crate::Parsed;
-use paper::{Entry, Numbers, makes_entry};
-use text::Number;
+use paper::{Entry, Numbers, Refusal, makes_entry};
 
 // The words of the twelve kinds in the order of the paper's table, each as one number, its first letter the lowest byte.
 const KINDS: [u64; 12] = [
@@ -79,19 +77,19 @@ fn all_within(w: &[u8], lo: u8, hi: u8) -> bool
 }
 
 // The kind that a word names, where it is a word.
-pub fn kind_of(w: &[u8]) -> Number
+pub fn kind_of(w: &[u8]) -> Option<u32>
     ensures { result ≡ kind_of w.now }
 {
     if w.len() < 1 {
-        return Number::Bad;
+        return None;
     }
     if 8 < w.len() {
-        return Number::Bad;
+        return None;
     }
     if all_within(w, 97, 122) {
-        return Number::Value(kind_place(w) as u32);
+        return Some(kind_place(w) as u32);
     }
-    Number::Bad
+    None
 }
 
 // The entry of the k-th kind.
@@ -115,8 +113,8 @@ pub fn entry_at(k: usize, seat: u32, a: u32, b: u32) -> Entry
     }
 }
 
-// The entry that a block's numbers make, or that there is none: an unknown kind, or an unused number that is not 0.
-pub fn entry_of(kind: u32, seat: u32, a: u32, b: u32) -> Parsed
+// The entry that a block's numbers make, or code 2: an unknown kind, or an unused number that is not 0.
+pub fn entry_of(kind: u32, seat: u32, a: u32, b: u32) -> Result<Entry, Refusal>
     ensures { result ≡ parsed_of kind seat a b }
 {
     let x = Numbers {
@@ -126,9 +124,9 @@ pub fn entry_of(kind: u32, seat: u32, a: u32, b: u32) -> Parsed
         b: b,
     };
     if makes_entry(x) {
-        return Parsed::Read(entry_at(kind as usize, seat, a, b));
+        return Ok(entry_at(kind as usize, seat, a, b));
     }
-    Parsed::OutOfRange
+    Err(Refusal::OutOfRange)
 }
 
 // How many small letters stand at the front of `part`, eight at most.

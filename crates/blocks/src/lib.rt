@@ -1,8 +1,6 @@
 // The entries of document 01, as they are read: a block of five lines at the front of a log, and the entry that it is.
 #![tactic(auto)]
 
-use paper::Entry;
-
 mod firsts;
 mod front;
 mod kind;
@@ -27,11 +25,4 @@ pub enum Block {
     },
     Malformed,
     Nothing,
-}
-
-// An entry, or that a block's numbers make none: code 2.
-#[derive(Clone, Copy)]
-pub enum Parsed {
-    Read(Entry),
-    OutOfRange,
 }

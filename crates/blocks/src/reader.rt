@@ -5,7 +5,6 @@ ghost use Rattle.blocks.specs.Block.{rest_of, line_kind, block_from, block_of};
 
 use crate::Block;
 use crate::kind::kind_of;
-use text::Number;
 use text::line::{after_lines, behind, line_end, number_of, value_of};
 
 // How many lines a block has: n, do, seat, a, b.
@@ -19,7 +18,7 @@ pub fn rest(log: &[u8]) -> &[u8]
 }
 
 // The kind of the log's first line, which ends at e.
-pub fn line_kind(log: &[u8], e: usize) -> Number
+pub fn line_kind(log: &[u8], e: usize) -> Option<u32>
     requires { e ≡ line_len log.now }
     ensures { result ≡ line_kind log.now }
 {
@@ -27,31 +26,13 @@ pub fn line_kind(log: &[u8], e: usize) -> Number
 }
 
 // Five readings make a block where none of them is bad.
-pub fn block_from(n: Number, kind: Number, seat: Number, a: Number, b: Number) -> Block
+pub fn block_from(n: Option<u32>, kind: Option<u32>, seat: Option<u32>, a: Option<u32>, b: Option<u32>) -> Block
     ensures { result ≡ block_from n kind seat a b }
 {
-    let Number::Value(n1) = n else {
+    let (Some(n), Some(kind), Some(seat), Some(a), Some(b)) = (n, kind, seat, a, b) else {
         return Block::Malformed;
     };
-    let Number::Value(kind1) = kind else {
-        return Block::Malformed;
-    };
-    let Number::Value(seat1) = seat else {
-        return Block::Malformed;
-    };
-    let Number::Value(a1) = a else {
-        return Block::Malformed;
-    };
-    let Number::Value(b1) = b else {
-        return Block::Malformed;
-    };
-    Block::Raw {
-        n: n1,
-        kind: kind1,
-        seat: seat1,
-        a: a1,
-        b: b1,
-    }
+    Block::Raw { n, kind, seat, a, b }
 }
 
 // The block at the front of the log. The end of each line is looked for once.

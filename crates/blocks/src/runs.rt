@@ -1,7 +1,6 @@
 // Digits at the front of a part that has room for any number: read with no test of the part's length.
-ghost use Rattle.std.specs.Prelude.{◌≡◌, true, ◌+◌, ◌-◌, ◌*◌, ◌≤◌, ◌<◌, length, get_or, take, drop};
+ghost use Rattle.std.specs.Prelude.{◌≡◌, true, ◌+◌, ◌-◌, ◌*◌, ◌≤◌, ◌<◌, length, get_or, take, drop, Some};
 ghost use Rattle.text.specs.Number.{number_of, all_digits, value_from};
-ghost use Rattle.text.specs.declared.Number.TheVariants.{Value};
 
 use text::decimal::wide;
 
@@ -42,7 +41,7 @@ fn digit_run(part: &[u8]) -> Run
 // A number and its LF at the front of `part`: its digits; none where there is no such number.
 pub fn number_ended(part: &[u8]) -> Run
     requires { 10 ≤ length part.now }
-    ensures { (result.count ≤ 9) × (0 < result.count → (number_of (take result.count part.now) ≡ Value result.value) × (get_or part.now result.count 0 ≡ 10)) }
+    ensures { (result.count ≤ 9) × (0 < result.count → (number_of (take result.count part.now) ≡ Some result.value) × (get_or part.now result.count 0 ≡ 10)) }
 {
     let d = digit_run(part);
     let e = d.count;
@@ -88,7 +87,7 @@ fn two_digits(a: u32, b: u32) -> Run
 // A number and its LF from `from` on, with one or two digits at one go: most lines have no more.
 pub fn number_behind(log: &[u8], from: usize) -> Run
     requires { from + 10 ≤ length log.now }
-    ensures { (result.count ≤ 9) × (0 < result.count → (number_of (take result.count (drop from log.now)) ≡ Value result.value) × (get_or (drop from log.now) result.count 0 ≡ 10)) }
+    ensures { (result.count ≤ 9) × (0 < result.count → (number_of (take result.count (drop from log.now)) ≡ Some result.value) × (get_or (drop from log.now) result.count 0 ≡ 10)) }
 {
     let d = digit(log[from]);
     if log[from + 1] == 10 {

@@ -6,14 +6,14 @@ use mathlib.Core.List.{List}
 use native.Mathlib.Omega.{arith}
 use lib.ListN.{length, drop, length-take, length-drop}
 use borrow.Rule.Slice.PartMut.{mid_of}
+use Rattle.std.specs.Prelude.{Result, Ok}
+use Rattle.paper.specs.declared.refusal.Refusal.{Refusal}
 use Rattle.text.proofs.Parts.{part_is}
 use Rattle.lines.specs.Kept.{lines_of}
 use Rattle.blocks.specs.Block.{rest_of}
 use Rattle.blocks.specs.Front.{front_of}
 use Rattle.blocks.specs.declared.front.Front.{Front}
 use Rattle.blocks.proofs.Blocks.{rest_shorter}
-use Rattle.logs.specs.declared.Put.{Put}
-use Rattle.logs.specs.declared.Put.TheVariants.{Bytes}
 use Rattle.logs.specs.LogText.{put_of}
 use Rattle.logs.specs.FairCopy.{copied_as}
 use Rattle.logs.proofs.Copies.{copied_within}
@@ -54,5 +54,5 @@ front_used l {f} e =
     (omega (arith, u), λ h. omega (arith, u, rest_shorter l h))
 
 -- an entry that is written is within the buffer
-pub put_within : (good : Bool) (bs buffer : List ℕ) {p : Put} {n : ℕ} → p ≡ put_of good bs buffer → p ≡ Bytes n → n ≤ length buffer
-put_within good bs buffer {p} {n} e q = omega (arith, copied_within good bs buffer, ap (λ (x : Put). (copied_as x).written) (sym q ∙ e))
+pub put_within : (good : Bool) (bs buffer : List ℕ) {p : Result ℕ Refusal} {n : ℕ} → p ≡ put_of good bs buffer → p ≡ Ok n → n ≤ length buffer
+put_within good bs buffer {p} {n} e q = omega (arith, copied_within good bs buffer, ap (λ (x : Result ℕ Refusal). (copied_as x).written) (sym q ∙ e))

@@ -12,7 +12,7 @@ use ledger::{Book, answer, opened};
 use lines::{Fill, empty, gather, lines_of};
 use logs::copy::{next_number, write_note};
 use paper::{STAND_IN, Sheet};
-use text::sheet::{SheetRead, read_sheet};
+use text::sheet::read_sheet;
 
 // The book between two bytes: whether the log is asked for in place of the answers, whether the sheet was read, whether to go on, whether reading or writing
 // failed, the sheet, the book, how many blocks were read, what is kept of the unfinished lines, and how many bytes the last step used up and wrote.
@@ -61,11 +61,11 @@ fn take_sheet(mut k: Keeper, lines: &[u8]) -> Keeper
     k.fill = z;
     k.written = 0;
     match read_sheet(lines) {
-        SheetRead::Bad => {
+        Err(_) => {
             k.more = false;
             k
         }
-        SheetRead::Read(s) => {
+        Ok(s) => {
             let b = opened(lone(s));
             k.opened = true;
             k.sheet = s;

@@ -12,7 +12,7 @@ ghost use Rattle.book.specs.Ready.{Ready};
 use argument::is_argument;
 use keeper::{Keeper, start, take_lines, take_one};
 use logs::copy::copy_sheet;
-use logs::{Put, write_entry};
+use logs::write_entry;
 use output::{STDERR_FILENO, STDOUT_FILENO, flush, read_part};
 use paper::Sheet;
 use records::entry_in;
@@ -152,11 +152,7 @@ fn put_entry(s: Sheet, log: &[u8], k: u32, out: &mut [u8]) -> usize
     requires { k < 1000000 }
     ensures { result ≤ length out.old }
 {
-    match write_entry(s, k + 1, entry_in(log, k), out) {
-        Put::Bytes(n) => n,
-        Put::OutOfRange => 0,
-        Put::NoRoom => 0,
-    }
+    write_entry(s, k + 1, entry_in(log, k), out).unwrap_or(0)
 }
 
 // The same behind what is written already; where that ends then.

@@ -7,12 +7,12 @@ use Prim.Native.Nat.{ℕ, ◌-◌, ◌≤◌, ◌<◌}
 use native.Mathlib.Omega.{arith}
 use lib.ListN.{length, take, drop}
 use lib.Seq.{take-append_seam}
+use Rattle.std.specs.Prelude.{Result, Ok, Err}
+use Rattle.paper.specs.declared.refusal.Refusal.{Refusal}
 use Rattle.laws.specs.Tests.{pick}
 use Rattle.writing.specs.AnswerSheet.{over}
 use Rattle.paper.specs.declared.Sheet.{Sheet}
 use Rattle.text.specs.TableSheet.{sheet_of}
-use Rattle.text.specs.declared.sheet.SheetRead.{SheetRead}
-use Rattle.text.specs.declared.sheet.SheetRead.TheVariants.{Read, Bad}
 use Rattle.lines.specs.declared.Fill.{Fill}
 use Rattle.lines.specs.declared.Progress.{Progress}
 use Rattle.lines.specs.Kept.{Kept, nothing, Gathered, gather_of, kept_in, fill_of, progress_of, Room, lines_of}
@@ -42,9 +42,9 @@ done_nothing (Open s n) lines = refl
 done_nothing Shut lines = refl
 done_nothing Unread lines = go (sheet_of lines)
   where
-    go : (o : SheetRead) → (sheet_done o).kept ≡ nothing
-    go (Read s) = refl
-    go Bad = refl
+    go : (o : Result Sheet Refusal) → (sheet_done o).kept ≡ nothing
+    go (Ok s) = refl
+    go (Err why) = refl
 
 fill_in : (s : State) (m : Fill) → (copier_in s m).fill ≡ m
 fill_in Unread m = refl

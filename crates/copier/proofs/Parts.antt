@@ -10,12 +10,13 @@ use lib.ListN.{length, take, drop, take-append-drop}
 use lib.Seq.{take_all}
 use lib.Dec.{eqb}
 use borrow.Author.Tests.{ne_eqb}
+use Rattle.std.specs.Prelude.{Result, Ok, Err}
+use Rattle.paper.specs.declared.refusal.Refusal.TheVariants.{BadSheet}
+use Rattle.paper.specs.declared.refusal.Refusal.{Refusal}
 use Rattle.laws.specs.Tests.{pick}
 use Rattle.laws.proofs.Sums.{le_or_lt}
 use Rattle.paper.specs.declared.Sheet.{Sheet}
 use Rattle.text.specs.TableSheet.{sheet_lines, sheet_of, sheet_end}
-use Rattle.text.specs.declared.sheet.SheetRead.{SheetRead}
-use Rattle.text.specs.declared.sheet.SheetRead.TheVariants.{Read, Bad}
 use Rattle.text.proofs.Lines.{after_lines_no_longer}
 use Rattle.blocks.specs.Block.{rest_of, block_of}
 use Rattle.blocks.specs.declared.Block.{Block}
@@ -136,17 +137,17 @@ pub record Fair (log : List ℕ) (x : Given) : Type 0 where
   pub copy : x.copy ≡ fair_copy log
   pub notes : x.notes ≡ left_out log
 
-abbrev FairBy : SheetRead → List ℕ → Given → Type 0
+abbrev FairBy : Result Sheet Refusal → List ℕ → Given → Type 0
 FairBy o log x = (x.copy ≡ fair_from o log) × (x.notes ≡ said_from o log)
 
-opened_onward : (o : SheetRead) (log : List ℕ) → FairBy o log (closed (and_then (sheet_done o) (onward (sheet_done o).state (sheet_done o).kept (sheet_end log))))
+opened_onward : (o : Result Sheet Refusal) (log : List ℕ) → FairBy o log (closed (and_then (sheet_done o) (onward (sheet_done o).state (sheet_done o).kept (sheet_end log))))
 unfolding sheet_end
-opened_onward (Read s) log =
+opened_onward (Ok s) log =
     let y : Given = onward (Open s 0) nothing (sheet_end log) in
     let c : Copies (length log) s 0 (sheet_end log) (closed y) = each_onward (length log) s 0 (sheet_end log) (after_lines_no_longer sheet_lines log) in
-    subst (FairBy (Read s) log) (sym (then_assoc (sheet_done (Read s)) y (closing y.state y.kept)))
+    subst (FairBy (Ok s) log) (sym (then_assoc (sheet_done (Ok s)) y (closing y.state y.kept)))
     (ap (λ (l : List ℕ). sheet_text s ++ l) c.copy, c.notes)
-opened_onward Bad log = subst (λ (x : Given). FairBy Bad log (closed (and_then (sheet_done Bad) x))) (sym (shut_onward nothing (sheet_end log))) (refl, refl)
+opened_onward (Err why) log = subst (λ (x : Given). FairBy (Err why) log (closed (and_then (sheet_done (Err why)) x))) (sym (shut_onward nothing (sheet_end log))) (refl, refl)
 
 fair_by : (log : List ℕ) (x : Given) → FairBy (sheet_of log) log x → Fair log x
 unfolding fair_copy left_out
@@ -167,8 +168,8 @@ fair_heard log = fair_by log (closed (onward Unread nothing log)) (⊎_elim
     ∙ ap (λ (l : List ℕ). and_then (sheet_done (sheet_of log)) (onward (sheet_done (sheet_of log)).state (sheet_done (sheet_of log)).kept l)) k.1 in
     subst (λ (x : Given). FairBy (sheet_of log) log (closed x)) (sym all) (opened_onward (sheet_of log) log))
     (λ h.
-    subst (λ (o : SheetRead). FairBy o log (closed (onward Unread nothing log))) (sym (sheet_open log h))
-    (subst (λ (x : Given). FairBy Bad log (closed x)) (sym (open_onward Unread log refl h)) (refl, refl)))
+    subst (λ (o : Result Sheet Refusal). FairBy o log (closed (onward Unread nothing log))) (sym (sheet_open log h))
+    (subst (λ (x : Given). FairBy (Err BadSheet) log (closed x)) (sym (open_onward Unread log refl h)) (refl, refl)))
     (le_or_lt sheet_lines (lfs log)))
 
 -- ---- the log in parts

@@ -8,6 +8,9 @@ use native.Mathlib.Omega.{arith}
 use lib.ListN.{length, take, drop, length-append, length-take}
 use lib.Dec.{eqb}
 use borrow.Author.Tests.{le-leb, eq-eqb, ne_eqb}
+use Rattle.std.specs.Prelude.{Result, Ok, Err}
+use Rattle.paper.specs.declared.refusal.Refusal.TheVariants.{BadSheet, NoRoom}
+use Rattle.paper.specs.declared.refusal.Refusal.{Refusal}
 use Rattle.laws.specs.Tests.{pick}
 use Rattle.paper.specs.RefusalNumbers.{taken, out_of_range, when}
 use Rattle.paper.specs.Paper.{is_sheet}
@@ -15,17 +18,14 @@ use Rattle.paper.specs.declared.Sheet.{Sheet}
 use Rattle.paper.specs.declared.Entry.{Entry}
 use Rattle.text.specs.Codes.{eleven}
 use Rattle.text.specs.TableSheet.{sheet_of, sheet_end}
-use Rattle.text.specs.declared.sheet.SheetRead.{SheetRead}
 use Rattle.text.proofs.SheetLaws.{sheet_is}
 use Rattle.blocks.specs.Block.{block_of, rest_of}
 use Rattle.blocks.specs.Entry.{parsed_of}
 use Rattle.blocks.specs.declared.Block.{Block}
 use Rattle.blocks.specs.declared.Block.TheVariants.{Raw, Malformed, Nothing}
-use Rattle.blocks.specs.declared.Parsed.{Parsed}
 use Rattle.writing.specs.AnswerSheet.{Wrote, over, fits, sheet_after}
 use Rattle.lines.specs.Kept.{nothing, fill_of}
 use Rattle.lines.proofs.Keeps.{empty_room}
-use Rattle.logs.specs.declared.Put.TheVariants.{Bytes, NoRoom}
 use Rattle.logs.specs.declared.copy.Copied.{Copied}
 use Rattle.logs.specs.LogText.{sheet_text, entry_text, is_entry, put_of, put_after}
 use Rattle.logs.specs.FairCopy.{entry_code, form_code, block_code, entry_copy, form_copy, block_copy, note_text, note_most, note_in, note_of, next_number, copied_as, entry_copied, form_copied, copied_of}
@@ -34,13 +34,11 @@ use Rattle.logs.proofs.SheetText.{sheet_back}
 use Rattle.copier.specs.declared.Copier.{Copier}
 use Rattle.copier.specs.Onward.{State, Unread, Open, Shut, Given, still, block_done, sheet_done, lines_done, closing}
 use Rattle.copier.specs.Feeding.{state_at, state_of, kept_by, copier_in, Held, Gave}
-use Rattle.text.specs.declared.sheet.SheetRead.TheVariants as read_as
-use Rattle.blocks.specs.declared.Parsed.TheVariants as parsed
 
 -- ---- a block's copy is no longer than the block
 
 -- a block that the reader accepts is written back byte for byte
-back_most : (log : List ℕ) (n k seat a b : ℕ) (e : Entry) → block_of log ≡ Raw n k seat a b → parsed_of k seat a b ≡ parsed.Read e → length (entry_text n e) ≤ length log
+back_most : (log : List ℕ) (n k seat a b : ℕ) (e : Entry) → block_of log ≡ Raw n k seat a b → parsed_of k seat a b ≡ Ok e → length (entry_text n e) ≤ length log
 back_most log n k seat a b e p q =
     omega (arith, ap length (accepted_back log n k seat a b e p q), length-append (entry_text n e) (rest_of log))
 
@@ -50,13 +48,13 @@ module _ (s : Sheet) (log buffer : List ℕ) (h : length log ≤ length buffer) 
   Is r code bs = (r ≡ record { code = code; written = length bs }) × (length bs ≤ length buffer)
 
   entry_is : (good : Bool) (bs : List ℕ) → length bs ≤ length buffer → Is (copied_as (put_of good bs buffer)) (when (not good) out_of_range) (pick good bs [])
-  entry_is true bs l = (ap (λ (t : Bool). copied_as (pick t (Bytes (length bs)) NoRoom)) (le-leb (length bs) (length buffer) l), l)
+  entry_is true bs l = (ap (λ (t : Bool). copied_as (pick t (Ok (length bs)) (Err NoRoom))) (le-leb (length bs) (length buffer) l), l)
   entry_is false bs l = (refl, omega arith)
 
-  parsed_is : (n k seat a b : ℕ) (p : Parsed) → block_of log ≡ Raw n k seat a b → parsed_of k seat a b ≡ p
+  parsed_is : (n k seat a b : ℕ) (p : Result Entry Refusal) → block_of log ≡ Raw n k seat a b → parsed_of k seat a b ≡ p
       → Is (entry_copied s n p buffer) (entry_code s n p) (entry_copy s n p)
-  parsed_is n k seat a b parsed.OutOfRange e f = (refl, omega arith)
-  parsed_is n k seat a b (parsed.Read x) e f = entry_is (is_entry s n x) (entry_text n x) (omega (arith, back_most log n k seat a b x e f))
+  parsed_is n k seat a b (Err why) e f = (refl, omega arith)
+  parsed_is n k seat a b (Ok x) e f = entry_is (is_entry s n x) (entry_text n x) (omega (arith, back_most log n k seat a b x e f))
 
   form_is : (b : Block) → block_of log ≡ b → Is (form_copied s b buffer) (form_code s b) (form_copy s b)
   form_is Malformed e = (refl, omega arith)
@@ -77,7 +75,7 @@ module _ (s : Sheet) (log buffer : List ℕ) (h : length log ≤ length buffer) 
       (record { count = ap (λ (x : Copied). x.written) q; sheet = f ∙ copy_fits }, ap (λ (x : Copied). x.code) q)
 
 -- and a sheet's no longer than the sheet
-module _ (log : List ℕ) (s : Sheet) (e : sheet_of log ≡ read_as.Read s) (buffer : List ℕ) (h : length log ≤ length buffer) where
+module _ (log : List ℕ) (s : Sheet) (e : sheet_of log ≡ Ok s) (buffer : List ℕ) (h : length log ≤ length buffer) where
   pub sheet_copied : {k : Copied} {new : List ℕ} → k ≡ copied_as (put_of (is_sheet s) (sheet_text s) buffer) → new ≡ put_after (is_sheet s) (sheet_text s) buffer
       → Wrote (sheet_text s) buffer new k.written
   sheet_copied {k} {new} f g =
@@ -88,7 +86,7 @@ module _ (log : List ℕ) (s : Sheet) (e : sheet_of log ≡ read_as.Read s) (buf
         count =
             ap (λ (x : Copied). x.written) f
             ∙ ap (λ (t : Bool). (copied_as (put_of t (sheet_text s) buffer)).written) good
-            ∙ ap (λ (t : Bool). (copied_as (pick t (Bytes (length (sheet_text s))) NoRoom)).written) fit;
+            ∙ ap (λ (t : Bool). (copied_as (pick t (Ok (length (sheet_text s))) (Err NoRoom))).written) fit;
         sheet =
             g
             ∙ ap (λ (t : Bool). put_after t (sheet_text s) buffer) good
@@ -123,18 +121,18 @@ block_gave s count block copy notes h r {n} {k} {d} {copy2} {notes2} {noted} e f
           (note_room n k.code (length notes) r ∙ ap (λ (i : ℕ). note_of i k.code) e ∙ ap (note_of (next_number count)) b.1) w;
     }
 
-module _ (block copy notes : List ℕ) {o : SheetRead} (e : o ≡ sheet_of block) where
-  pub bad_gave : {notes2 : List ℕ} {d : Copier} {r : ℕ} → o ≡ read_as.Bad → Wrote eleven notes notes2 r → d ≡ copier_in Shut (fill_of nothing)
+module _ (block copy notes : List ℕ) {o : Result Sheet Refusal} (e : o ≡ sheet_of block) where
+  pub bad_gave : {notes2 : List ℕ} {d : Copier} {r : ℕ} {why : Refusal} → o ≡ Err why → Wrote eleven notes notes2 r → d ≡ copier_in Shut (fill_of nothing)
       → Gave (lines_done Unread block) copy notes copy notes2 d 0 r
   bad_gave {notes2} {d} {r} q w g =
-      subst (λ (x : SheetRead). Gave (sheet_done x) copy notes copy notes2 d 0 r) (sym q ∙ e)
+      subst (λ (x : Result Sheet Refusal). Gave (sheet_done x) copy notes copy notes2 d 0 r) (sym q ∙ e)
       (record { copier = g; copied = record { count = refl; sheet = refl }; said = w })
 
-  pub read_gave : {s : Sheet} {k : Copied} {copy2 : List ℕ} {d : Copier} → o ≡ read_as.Read s → length block ≤ length copy
+  pub read_gave : {s : Sheet} {k : Copied} {copy2 : List ℕ} {d : Copier} → o ≡ Ok s → length block ≤ length copy
       → k ≡ copied_as (put_of (is_sheet s) (sheet_text s) copy) → copy2 ≡ put_after (is_sheet s) (sheet_text s) copy → d ≡ copier_in (Open s 0) (fill_of nothing)
       → Gave (lines_done Unread block) copy notes copy2 notes d k.written 0
   read_gave {s} {k} {copy2} {d} q h f g c =
-      subst (λ (x : SheetRead). Gave (sheet_done x) copy notes copy2 notes d k.written 0) (sym q ∙ e)
+      subst (λ (x : Result Sheet Refusal). Gave (sheet_done x) copy notes copy2 notes d k.written 0) (sym q ∙ e)
       (record { copier = c; copied = sheet_copied block s (sym e ∙ q) copy h f g; said = record { count = refl; sheet = refl } })
 
 pub gave_as : (s : Sheet) (count : ℕ) (block : List ℕ) {o p : Bool} {copy notes copy2 notes2 : List ℕ} {w n : ℕ} {d : Copier} → p ≡ o

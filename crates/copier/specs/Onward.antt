@@ -1,13 +1,13 @@
 -- Request No. 1: "Rooms edit logs by hand and send us broken ones." A log copied fair as it comes, byte by byte: the sheet, and every block, is copied or noted as left out at
 -- the LF of its last line; what is not whole, at the close. Assumes nothing.
-use Rattle.std.specs.Prelude.{ℕ, List, [], ◌∷◌, ◌++◌, Bool, true, false, length, eqb, leb}
+use Rattle.std.specs.Prelude.{ℕ, List, [], ◌∷◌, ◌++◌, Bool, true, false, length, eqb, leb, Result, Ok, Err}
+use Rattle.paper.specs.declared.refusal.Refusal.TheVariants.{BadSheet}
+use Rattle.paper.specs.declared.refusal.Refusal.{Refusal}
 pub use Rattle.laws.specs.Lists.{whole}
 use Rattle.laws.specs.Tests.{pick}
 use Rattle.paper.specs.declared.Sheet.{Sheet}
 use Rattle.text.specs.TableSheet.{sheet_of}
 use Rattle.text.specs.Codes.{eleven}
-use Rattle.text.specs.declared.sheet.SheetRead.{SheetRead}
-use Rattle.text.specs.declared.sheet.SheetRead.TheVariants.{Read, Bad}
 use Rattle.lines.specs.Kept.{Kept, nothing, keep_of, lines_of}
 use Rattle.logs.specs.LogText.{sheet_text}
 use Rattle.logs.specs.FairCopy.{block_code, block_copy, next_number, note_of}
@@ -43,9 +43,9 @@ block_done s count block = record {
 }
 
 -- a sheet is copied, or is bad and shuts the copier
-abbrev pub sheet_done : SheetRead → Given
-sheet_done (Read s) = record { state = Open s 0; kept = nothing; copy = sheet_text s; notes = [] }
-sheet_done Bad = record { state = Shut; kept = nothing; copy = []; notes = eleven }
+abbrev pub sheet_done : Result Sheet Refusal → Given
+sheet_done (Ok s) = record { state = Open s 0; kept = nothing; copy = sheet_text s; notes = [] }
+sheet_done (Err why) = record { state = Shut; kept = nothing; copy = []; notes = eleven }
 
 abbrev pub lines_done : State → List ℕ → Given
 lines_done Unread lines = sheet_done (sheet_of lines)
@@ -77,7 +77,7 @@ onward s k (b ∷ bs) = and_then (byte_of s k b) (onward (byte_of s k b).state (
 
 -- the close: a sheet that is not whole is bad, and a block that is not whole is left out; nothing kept is no block
 abbrev pub closing : State → Kept → Given
-closing Unread k = sheet_done Bad
+closing Unread k = sheet_done (Err BadSheet)
 closing (Open s n) k = pick (eqb (length k.bytes) 0) (still (Open s n) nothing) (block_done s n k.bytes)
 closing Shut k = still Shut nothing
 

@@ -13,7 +13,7 @@ use laws::both;
 use lines::{Fill, empty, gather, lines_of};
 use logs::copy::{NOTE, copy_block, copy_sheet, next_number, write_note};
 use paper::{STAND_IN, Sheet};
-use text::sheet::{ROOM, SheetRead, read_sheet};
+use text::sheet::{ROOM, read_sheet};
 use writing::put_bytes;
 
 // The copier between two bytes: whether the sheet was read, whether it was bad, the sheet, how many blocks were read, and what is kept.
@@ -119,7 +119,7 @@ fn whole_sheet(block: &[u8], copy: &mut [u8], notes: &mut [u8]) -> CopierAfter
     ensures held { Held result.copier × (result.written ≤ length copy.old) × (result.noted ≤ length notes.old) }
 {
     match read_sheet(block) {
-        SheetRead::Bad => {
+        Err(_) => {
             let d = closed_down();
             CopierAfter {
                 copier: d,
@@ -127,7 +127,7 @@ fn whole_sheet(block: &[u8], copy: &mut [u8], notes: &mut [u8]) -> CopierAfter
                 noted: note_bad(notes),
             }
         }
-        SheetRead::Read(s) => {
+        Ok(s) => {
             let k = copy_sheet(s, copy);
             let d = behind(s, 0);
             CopierAfter {

@@ -9,15 +9,14 @@ use lib.ListN.{length, get_or, set, length-set}
 use lib.Seq.{get_or-set_same, get_or-set_other}
 use lib.Dec.{eqb, ltb}
 use borrow.Author.Tests.{eq-eqb, ne_eqb, ltb-false}
+use Rattle.std.specs.Prelude.{Option, Some, None, Result, Ok, Err}
+use Rattle.paper.specs.declared.refusal.Refusal.TheVariants.{BadSheet}
+use Rattle.paper.specs.declared.refusal.Refusal.{Refusal}
 use Rattle.laws.specs.Tests.{pick}
 use Rattle.paper.specs.Paper.{stand_in}
 use Rattle.paper.specs.RefusalNumbers.{taken}
 use Rattle.paper.specs.declared.Sheet.{Sheet}
 use Rattle.text.specs.Line.{number_line}
-use Rattle.text.specs.declared.Number.{Number}
-use Rattle.text.specs.declared.Number.TheVariants.{Value, Bad}
-use Rattle.text.specs.declared.sheet.SheetRead.{SheetRead}
-use Rattle.text.specs.declared.sheet.SheetRead.TheVariants as read_as
 use Rattle.text.proofs.Lines.{line_count}
 use Rattle.text.proofs.Numbers.{count_most}
 use Rattle.writing.specs.AnswerSheet.{Wrote}
@@ -153,30 +152,30 @@ opened_held {o} v e c = subst (λ (x : opens.PoolOpened). x.pool.held ≤ most) 
     go (inr f) = subst (λ (b : Bool). pick b 0 v ≤ most) (sym f) (ltb-false most v f)
 
 -- a value below the pool's limit opens it
-module _ (p : Pair) {n : Number} where
-  pub pool_gave : {v : ℕ} {x : Number} {q : Pair} {out : List ℕ} → n ≡ x → n ≡ Value v → (opened_with v).code ≡ taken
+module _ (p : Pair) {n : Option ℕ} where
+  pub pool_gave : {v : ℕ} {x : Option ℕ} {q : Pair} {out : List ℕ} → n ≡ x → n ≡ Some v → (opened_with v).code ≡ taken
       → q ≡ record { shut = p.shut; tables = p.tables; pool = (opened_with v).pool; house = p.house } → Gave (pool_done p x) out out q 0
   pool_gave {v} {x} {q} {out} e f c g =
-      subst (λ (y : Number). Gave (pool_done p y) out out q 0) (sym f ∙ e)
+      subst (λ (y : Option ℕ). Gave (pool_done p y) out out q 0) (sym f ∙ e)
       (subst (λ (b : Bool). Gave (pick b (still (record { shut = p.shut; tables = p.tables; pool = (opened_with v).pool; house = p.house })) (refused p)) out out q 0)
       (sym (eq-eqb (opened_with v).code taken c)) (record { pair = g; wrote = nothing_written }))
 
-  pub pool_over : {v : ℕ} {x : Number} {q : Pair} {out new : List ℕ} {w : ℕ} → n ≡ x → n ≡ Value v → ((opened_with v).code ≡ taken → ⊥)
+  pub pool_over : {v : ℕ} {x : Option ℕ} {q : Pair} {out new : List ℕ} {w : ℕ} → n ≡ x → n ≡ Some v → ((opened_with v).code ≡ taken → ⊥)
       → Gave (refused p) out new q w → Gave (pool_done p x) out new q w
   pool_over {v} {x} {q} {out} {new} {w} e f c g =
-      subst (λ (y : Number). Gave (pool_done p y) out new q w) (sym f ∙ e)
+      subst (λ (y : Option ℕ). Gave (pool_done p y) out new q w) (sym f ∙ e)
       (subst (λ (b : Bool). Gave (pick b (still (record { shut = p.shut; tables = p.tables; pool = (opened_with v).pool; house = p.house })) (refused p)) out new q w)
       (sym (ne_eqb (opened_with v).code taken c)) g)
 
-  pub pool_bad : {x : Number} {q : Pair} {out new : List ℕ} {w : ℕ} → n ≡ x → n ≡ Bad → Gave (refused p) out new q w → Gave (pool_done p x) out new q w
-  pool_bad {x} {q} {out} {new} {w} e f g = subst (λ (y : Number). Gave (pool_done p y) out new q w) (sym f ∙ e) g
+  pub pool_bad : {x : Option ℕ} {q : Pair} {out new : List ℕ} {w : ℕ} → n ≡ x → n ≡ None → Gave (refused p) out new q w → Gave (pool_done p x) out new q w
+  pool_bad {x} {q} {out} {new} {w} e f g = subst (λ (y : Option ℕ). Gave (pool_done p y) out new q w) (sym f ∙ e) g
 
-module _ (p : Pair) (due : ℕ) {o x : SheetRead} {q : Pair} {out new : List ℕ} {w : ℕ} (e : o ≡ x) where
-  pub sheet_bad : o ≡ read_as.Bad → Gave (refused p) out new q w → Gave (sheet_done p due x) out new q w
-  sheet_bad f g = subst (λ (y : SheetRead). Gave (sheet_done p due y) out new q w) (sym f ∙ e) g
+module _ (p : Pair) (due : ℕ) {o x : Result Sheet Refusal} {q : Pair} {out new : List ℕ} {w : ℕ} (e : o ≡ x) where
+  pub sheet_bad : {why : Refusal} → o ≡ Err why → Gave (refused p) out new q w → Gave (sheet_done p due x) out new q w
+  sheet_bad f g = subst (λ (y : Result Sheet Refusal). Gave (sheet_done p due y) out new q w) (sym f ∙ e) g
 
-  pub sheet_gave : {s : Sheet} → o ≡ read_as.Read s → Gave (sheet_done p due (read_as.Read s)) out new q w → Gave (sheet_done p due x) out new q w
-  sheet_gave f g = subst (λ (y : SheetRead). Gave (sheet_done p due y) out new q w) (sym f ∙ e) g
+  pub sheet_gave : {s : Sheet} → o ≡ Ok s → Gave (sheet_done p due (Ok s)) out new q w → Gave (sheet_done p due x) out new q w
+  sheet_gave f g = subst (λ (y : Result Sheet Refusal). Gave (sheet_done p due y) out new q w) (sym f ∙ e) g
 
 -- a table that a sheet opens
 pub sheet_with : (p : Pair) (due : ℕ) (s : Sheet) {second : Bool} {t : Table} {ts : List Table} → Good p → second ≡ is_second due → (t ≡ fresh_table s) × Sound t → ts ≡ with_table p.tables second t

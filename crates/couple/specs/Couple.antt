@@ -1,22 +1,20 @@
 -- Request No. 7, the program `pair`: two tables and their pool, and what is written to each piece of the input, oldest first. "For each block a line `table=K` and behind it
 -- table K's answer." "Lines .. of no table: the first of a run of them is answered at once with `table=0` and n=0 code=1 turn=0 mark=0 back=0". "At the end of the
 -- input, behind the last block: pool=.. as it stands and house=.., all parts that went to the house". "With --table K only K's answers are written". Assumes nothing.
-use Rattle.std.specs.Prelude.{ℕ, ◌+◌, ◌-◌, ◌≤◌, ◌≡◌, Bool, true, false, List, [], ◌∷◌, ◌++◌, length, get_or, set, eqb}
+use Rattle.std.specs.Prelude.{ℕ, ◌+◌, ◌-◌, ◌≤◌, ◌≡◌, Bool, true, false, List, [], ◌∷◌, ◌++◌, length, get_or, set, eqb, Option, Some, None, Result, Ok, Err}
+use Rattle.paper.specs.declared.Sheet.{Sheet}
+use Rattle.paper.specs.declared.refusal.Refusal.{Refusal}
 use Rattle.laws.specs.Tests.{pick, either}
 use Rattle.paper.specs.Paper.{stand_in}
 use Rattle.paper.specs.RefusalNumbers.{taken}
 use Rattle.text.specs.Line.{number_line}
 use Rattle.text.specs.Codes.{eleven}
-use Rattle.text.specs.declared.Number.{Number}
-use Rattle.text.specs.declared.Number.TheVariants.{Value, Bad}
-use Rattle.text.specs.declared.sheet.SheetRead.{SheetRead}
 use Rattle.writing.specs.AnswerSheet.{Wrote}
 use Rattle.table.specs.declared.table.Table.{Table}
 use Rattle.table.specs.Take.{fresh_table, Sound}
 use Rattle.pool.specs.Jackpot.{most, fed_by, opened_with}
 use Rattle.frames.specs.Frames.{table_key, stray_due}
 use Rattle.couple.specs.declared.Pair.{Pair}
-use Rattle.text.specs.declared.sheet.SheetRead.TheVariants as read_as
 
 -- ---- the tables: table 1 stands first
 
@@ -84,13 +82,13 @@ abbrev pub refused : Pair → Given
 refused p = record { pair = record { shut = true; tables = p.tables; pool = p.pool; house = p.house }; bytes = eleven }
 
 -- "The pool, at opening too (else 11), never exceeds 999,999,999"
-abbrev pub pool_done : Pair → Number → Given
-pool_done p (Value v) = pick (eqb (opened_with v).code taken) (still (record { shut = p.shut; tables = p.tables; pool = (opened_with v).pool; house = p.house })) (refused p)
-pool_done p Bad = refused p
+abbrev pub pool_done : Pair → Option ℕ → Given
+pool_done p (Some v) = pick (eqb (opened_with v).code taken) (still (record { shut = p.shut; tables = p.tables; pool = (opened_with v).pool; house = p.house })) (refused p)
+pool_done p None = refused p
 
-abbrev pub sheet_done : Pair → ℕ → SheetRead → Given
-sheet_done p due (read_as.Read s) = still (record { shut = p.shut; tables = with_table p.tables (is_second due) (fresh_table s); pool = p.pool; house = p.house })
-sheet_done p due read_as.Bad = refused p
+abbrev pub sheet_done : Pair → ℕ → Result Sheet Refusal → Given
+sheet_done p due (Ok s) = still (record { shut = p.shut; tables = with_table p.tables (is_second due) (fresh_table s); pool = p.pool; house = p.house })
+sheet_done p due (Err why) = refused p
 
 -- ---- what a call says
 

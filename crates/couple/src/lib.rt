@@ -17,8 +17,8 @@ use paper::{STAND_IN, Sheet, TAKEN};
 use pool::{MOST, Pool, open_pool};
 use table::table::Table;
 use table::take::new_table;
-use text::sheet::{SheetRead, read_sheet};
-use text::{Number, read_key_number};
+use text::sheet::read_sheet;
+use text::read_key_number;
 use writing::{put_bytes, write_number_line};
 
 // The most bytes that are written to a piece: a `table` line, 16 at most, and an answer.
@@ -155,7 +155,7 @@ pub fn open_line(p: Pair, lines: &[u8], out: &mut [u8]) -> PairAfter
     ensures good { Good result.pair }
 {
     match read_key_number(lines, b"pool") {
-        Number::Value(v) => {
+        Some(v) => {
             let o = open_pool(v);
             if o.code == TAKEN {
                 let pool = o.pool;
@@ -166,7 +166,7 @@ pub fn open_line(p: Pair, lines: &[u8], out: &mut [u8]) -> PairAfter
             }
             refuse(p, out)
         }
-        Number::Bad => refuse(p, out),
+        None => refuse(p, out),
     }
 }
 
@@ -193,8 +193,8 @@ pub fn open_sheet(p: Pair, due: u8, lines: &[u8], out: &mut [u8]) -> PairAfter
     ensures good { Good result.pair }
 {
     match read_sheet(lines) {
-        SheetRead::Bad => refuse(p, out),
-        SheetRead::Read(s) => PairAfter {
+        Err(_) => refuse(p, out),
+        Ok(s) => PairAfter {
             pair: with_sheet(p, due, s),
             written: 0,
         },

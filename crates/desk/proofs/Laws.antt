@@ -10,6 +10,9 @@ use lib.ListN.{length, get_or, replicate, take, drop, set, drop_of_length-le}
 use lib.Seq.{drop-cons, take_all}
 use lib.Dec.{eqb}
 use borrow.Author.Tests.{le-leb, lt-leb, ne_eqb}
+use Rattle.std.specs.Prelude.{Option, Some, None, Result, Ok, Err}
+use Rattle.paper.specs.declared.refusal.Refusal.TheVariants.{NoRoom}
+use Rattle.paper.specs.declared.refusal.Refusal.{Refusal}
 use Rattle.laws.specs.Tests.{pick}
 use Rattle.text.specs.Line.{line_number, after_line, value_of}
 use Rattle.blocks.specs.Block.{block_of, block_from, line_kind}
@@ -17,14 +20,8 @@ use Rattle.blocks.specs.Entry.{parsed_of}
 use Rattle.writing.specs.AnswerSheet.{fits, written_of, sheet_after, over}
 use Rattle.blocks.specs.Codes.{code_of_block}
 use Rattle.text.proofs.Numbers.{number_back}
-use Rattle.text.specs.declared.Number.{Number}
-use Rattle.text.specs.declared.Number.TheVariants.{Value, Bad}
 use Rattle.blocks.specs.declared.Block.{Block}
 use Rattle.blocks.specs.declared.Block.TheVariants.{Raw, Malformed, Nothing}
-use Rattle.blocks.specs.declared.Parsed.{Parsed}
-use Rattle.blocks.specs.declared.Parsed.TheVariants.{Read, OutOfRange}
-use Rattle.writing.specs.declared.Written.{Written}
-use Rattle.writing.specs.declared.Written.TheVariants.{Bytes, NoRoom}
 use Rattle.paper.specs.declared.Entry.{Entry}
 use Rattle.paper.specs.declared.Entry.TheVariants.{Sit, Leave, Hand, Hole, Fold, Check, Call, Wager, Board, Dead, Settle, Void}
 use Rattle.chairs.specs.Chairs.{column_of, Numbered}
@@ -94,13 +91,13 @@ padded_within n ps k = pots_within ps (n - length ps) k
 
 -- ---- a number that was read is below 10 ^ 9
 
-from_small : (n k s a b : Number) → ((v : ℕ) → n ≡ Value v → v < 10 ^ 9) → number_of_block (block_from n k s a b) < 10 ^ 9
-from_small Bad k s a b h = omega arith
-from_small (Value n) Bad s a b h = omega arith
-from_small (Value n) (Value k) Bad a b h = omega arith
-from_small (Value n) (Value k) (Value s) Bad b h = omega arith
-from_small (Value n) (Value k) (Value s) (Value a) Bad h = omega arith
-from_small (Value n) (Value k) (Value s) (Value a) (Value b) h = h n refl
+from_small : (n k s a b : Option ℕ) → ((v : ℕ) → n ≡ Some v → v < 10 ^ 9) → number_of_block (block_from n k s a b) < 10 ^ 9
+from_small None k s a b h = omega arith
+from_small (Some n) None s a b h = omega arith
+from_small (Some n) (Some k) None a b h = omega arith
+from_small (Some n) (Some k) (Some s) None b h = omega arith
+from_small (Some n) (Some k) (Some s) (Some a) None h = omega arith
+from_small (Some n) (Some k) (Some s) (Some a) (Some b) h = h n refl
 
 pub block_small : (log : List ℕ) → number_of_block (block_of log) < 10 ^ 9
 unfolding block_of
@@ -179,9 +176,9 @@ small_payout t n e h = go (eqb (code_of t n e) 0)
 
 -- ---- a refusal changes nothing
 
-parsed_same : (t : Table) (n : ℕ) (p : Parsed) → ((judge_parsed t n p).code ≡ 0 → ⊥) → (judge_parsed t n p).table ≡ t
-parsed_same t n OutOfRange h = refl
-parsed_same t n (Read e) h = refused_same t n e h
+parsed_same : (t : Table) (n : ℕ) (p : Result Entry Refusal) → ((judge_parsed t n p).code ≡ 0 → ⊥) → (judge_parsed t n p).table ≡ t
+parsed_same t n (Err why) h = refl
+parsed_same t n (Ok e) h = refused_same t n e h
 
 pub block_same : (t : Table) (b : Block) → ((judge_block t b).code ≡ 0 → ⊥) → (judge_block t b).table ≡ t
 block_same t (Raw n k s a b) h = parsed_same t n (parsed_of k s a b) h
@@ -192,9 +189,9 @@ pub judged_same : (t : Table) (log : List ℕ) → ((judged_of t log).code ≡ 0
 unfolding judged_of
 judged_same t log h = block_same t (block_of log) h
 
-answered_same : (t : Table) (j : Judged) (w : Written) → ((j.code ≡ 0 → ⊥) → j.table ≡ t) → ((answered_from t j w).code ≡ 0 → ⊥) → (answered_from t j w).table ≡ t
-answered_same t j (Bytes k) q h = q h
-answered_same t j NoRoom q h = refl
+answered_same : (t : Table) (j : Judged) (w : Result ℕ Refusal) → ((j.code ≡ 0 → ⊥) → j.table ≡ t) → ((answered_from t j w).code ≡ 0 → ⊥) → (answered_from t j w).table ≡ t
+answered_same t j (Ok k) q h = q h
+answered_same t j (Err why) q h = refl
 
 -- after any code but 0 the table is the one before, and so is the count of taken entries, which is a field of it
 pub refusal_keeps : (t : Table) (log sheet : List ℕ) → ((answered_of t log sheet).code ≡ 0 → ⊥) → (answered_of t log sheet).table ≡ t
@@ -206,9 +203,9 @@ refusal_keeps t log sheet h = answered_same t (judged_of t log) (written_of (blo
 code_most : (t : Table) (n : ℕ) (e : Entry) → code_of t n e ≤ 10
 code_most t n e = ⊎_elim (λ z. omega arith) (λ z. z.1) (codes t n e)
 
-parsed_most : (t : Table) (n : ℕ) (p : Parsed) → (judge_parsed t n p).code ≤ 10
-parsed_most t n OutOfRange = omega arith
-parsed_most t n (Read e) = code_most t n e
+parsed_most : (t : Table) (n : ℕ) (p : Result Entry Refusal) → (judge_parsed t n p).code ≤ 10
+parsed_most t n (Err why) = omega arith
+parsed_most t n (Ok e) = code_most t n e
 
 block_most : (t : Table) (b : Block) → (judge_block t b).code ≤ 10
 block_most t (Raw n k s a b) = parsed_most t n (parsed_of k s a b)
@@ -223,7 +220,7 @@ pub twelve_keeps : (t : Table) (log sheet : List ℕ) → (answered_of t log she
 unfolding answered_of
 twelve_keeps t log sheet h = go (fits (block_bytes t log) sheet) h
   where
-    go : (b : Bool) → (answered_from t (judged_of t log) (pick b (Bytes (length (block_bytes t log))) NoRoom)).code ≡ 12 → pick b (over (block_bytes t log) sheet) sheet ≡ sheet
+    go : (b : Bool) → (answered_from t (judged_of t log) (pick b (Ok (length (block_bytes t log))) (Err NoRoom))).code ≡ 12 → pick b (over (block_bytes t log) sheet) sheet ≡ sheet
     go false e = refl
     go true e = absurd (omega (arith, judged_most t log, e))
 
@@ -234,17 +231,17 @@ twelve_when t log sheet h = rw (lt-leb (length (block_bytes t log)) (length shee
 
 -- ---- where there are bytes there is a block
 
-from_some : (t : Table) (n k s a b : Number) → (judge_block t (block_from n k s a b)).block ≡ true
-from_some t Bad k s a b = refl
-from_some t (Value n) Bad s a b = refl
-from_some t (Value n) (Value k) Bad a b = refl
-from_some t (Value n) (Value k) (Value s) Bad b = refl
-from_some t (Value n) (Value k) (Value s) (Value a) Bad = refl
-from_some t (Value n) (Value k) (Value s) (Value a) (Value b) = go (parsed_of k s a b)
+from_some : (t : Table) (n k s a b : Option ℕ) → (judge_block t (block_from n k s a b)).block ≡ true
+from_some t None k s a b = refl
+from_some t (Some n) None s a b = refl
+from_some t (Some n) (Some k) None a b = refl
+from_some t (Some n) (Some k) (Some s) None b = refl
+from_some t (Some n) (Some k) (Some s) (Some a) None = refl
+from_some t (Some n) (Some k) (Some s) (Some a) (Some b) = go (parsed_of k s a b)
   where
-    go : (p : Parsed) → (judge_parsed t n p).block ≡ true
-    go OutOfRange = refl
-    go (Read e) = refl
+    go : (p : Result Entry Refusal) → (judge_parsed t n p).block ≡ true
+    go (Err why) = refl
+    go (Ok e) = refl
 
 pub some_block : (t : Table) (log : List ℕ) → 0 < length log → (judged_of t log).block ≡ true
 unfolding judged_of block_of
@@ -274,8 +271,8 @@ some_bytes t log h =
 nothing_fits : (sheet : List ℕ) → fits [] sheet ≡ true
 nothing_fits sheet = le-leb 0 (length sheet) (omega arith)
 
-pub writes_none : (sheet : List ℕ) → written_of [] sheet ≡ Bytes 0
-writes_none sheet = ap (λ (b : Bool). pick b (Bytes 0) NoRoom) (nothing_fits sheet)
+pub writes_none : (sheet : List ℕ) → written_of [] sheet ≡ Ok 0
+writes_none sheet = ap (λ (b : Bool). pick b (Ok 0) (Err NoRoom)) (nothing_fits sheet)
 
 pub keeps_all : (sheet : List ℕ) → sheet_after [] sheet ≡ sheet
 keeps_all sheet = ap (λ (b : Bool). pick b (over [] sheet) sheet) (nothing_fits sheet)
@@ -325,7 +322,7 @@ made_shown n code t p {ps} {back} {k} {po} v b o kc r h w z =
     pots-eq : (z : Pots) {a : ℕ} {f : List Pot} → z.n ≡ a → z.list ≡ f → z ≡ record { n = a; list = f }
     pots-eq z e f = rw (e, f)
 
-pub answered_is : (t : Table) (k : Judged) (sheet : List ℕ) {j : Judged} {s : Shown} {w : Written} {r : Answered} {out : List ℕ}
+pub answered_is : (t : Table) (k : Judged) (sheet : List ℕ) {j : Judged} {s : Shown} {w : Result ℕ Refusal} {r : Answered} {out : List ℕ}
     → j ≡ k → j.block ≡ true → s ≡ shown_of j.n j.code j.table j.payout → w ≡ written_of (answer_bytes s) sheet → out ≡ sheet_after (answer_bytes s) sheet
     → r ≡ answered_from t j w → Sound r.table
     → (r ≡ answered_from t k (written_of (judged_bytes k) sheet)) × ((out ≡ sheet_after (judged_bytes k) sheet) × Sound r.table)
@@ -344,9 +341,9 @@ pub none_answered : (t : Table) (k : Judged) (sheet : List ℕ) {j : Judged} →
 none_answered t k sheet {j} p o h =
     let none : judged_bytes k ≡ [] =
     ap judged_bytes (sym p) ∙ ap (λ (z : Bool). pick z (answer_bytes (shown_of j.n j.code j.table j.payout)) []) o in
-    let said : ◌≡◌ {A = Answered} (record { block = false; code = j.code; table = j.table; written = 0 }) (answered_from t j (Bytes 0)) =
+    let said : ◌≡◌ {A = Answered} (record { block = false; code = j.code; table = j.table; written = 0 }) (answered_from t j (Ok 0)) =
     ap (λ (z : Bool). record { block = z; code = j.code; table = j.table; written = 0 }) (sym o) in (
-      said ∙ ap (λ (x : Judged). answered_from t x (Bytes 0)) p ∙ ap (answered_from t k) (sym (writes_none sheet) ∙ ap (λ (x : List ℕ). written_of x sheet) (sym none)),
+      said ∙ ap (λ (x : Judged). answered_from t x (Ok 0)) p ∙ ap (answered_from t k) (sym (writes_none sheet) ∙ ap (λ (x : List ℕ). written_of x sheet) (sym none)),
       (sym (keeps_all sheet) ∙ ap (λ (x : List ℕ). sheet_after x sheet) (sym none), h),
     )
 

@@ -5,13 +5,14 @@ use mathlib.Core.List.{List, [], ◌∷◌}
 use Prim.Native.Nat.{ℕ}
 use lib.Dec.{leb}
 use borrow.Author.Tests.{le-leb}
+use Rattle.std.specs.Prelude.{Result, Ok, Err}
+use Rattle.paper.specs.declared.refusal.Refusal.TheVariants.{BadSheet}
+use Rattle.paper.specs.declared.refusal.Refusal.{Refusal}
 use Rattle.paper.specs.SheetAndEntries.{between, all_of, is_sheet, dealt_from, stand_in}
 use Rattle.paper.specs.declared.Sheet.{Sheet}
 use Rattle.paper.proofs.Sheets.{good_ranged}
 use Rattle.text.specs.TableSheet.{sheet_of}
 use Rattle.text.proofs.SheetLaws.{sheet_is}
-use Rattle.text.specs.declared.sheet.SheetRead.{SheetRead}
-use Rattle.text.specs.declared.sheet.SheetRead.TheVariants.{Read, Bad}
 use Rattle.desk.specs.Log.{lone, lone_read, opened_of}
 
 -- a sheet stays one with no drop
@@ -31,37 +32,37 @@ lone_is s e =
     (le-leb s.drop 1000 (good_ranged s e).drop) e
 
 -- a good opening is the log's sheet with no drop
-abbrev sheet_in : SheetRead → Sheet
-sheet_in (Read s) = s
-sheet_in Bad = stand_in
+abbrev sheet_in : Result Sheet Refusal → Sheet
+sheet_in (Ok s) = s
+sheet_in (Err why) = stand_in
 
-abbrev is_read : SheetRead → Bool
-is_read (Read s) = true
-is_read Bad = false
+abbrev is_read : Result Sheet Refusal → Bool
+is_read (Ok s) = true
+is_read (Err why) = false
 
 pub record Lone (s : Sheet) : Type 0 where
   pub good : is_sheet s ≡ true
   pub drop : s.drop ≡ 0
 
-opened : (log : List ℕ) (s : Sheet) → opened_of log ≡ Read s → Lone s
+opened : (log : List ℕ) (s : Sheet) → opened_of log ≡ Ok s → Lone s
 unfolding opened_of
 opened log s e = go (sheet_of log) refl e
   where
-    go : (o : SheetRead) → sheet_of log ≡ o → lone_read o ≡ Read s → Lone s
-    go (Read u) q r = subst Lone (ap sheet_in r) (record { good = lone_is u (sheet_is log u q); drop = refl })
-    go Bad q r = absurd (false≢true (ap is_read r))
+    go : (o : Result Sheet Refusal) → sheet_of log ≡ o → lone_read o ≡ Ok s → Lone s
+    go (Ok u) q r = subst Lone (ap sheet_in r) (record { good = lone_is u (sheet_is log u q); drop = refl })
+    go (Err why) q r = absurd (false≢true (ap is_read r))
 
-pub opened_is : (log : List ℕ) (s : Sheet) → opened_of log ≡ Read s → is_sheet s ≡ true
+pub opened_is : (log : List ℕ) (s : Sheet) → opened_of log ≡ Ok s → is_sheet s ≡ true
 opened_is log s e = (opened log s e).good
 
-pub opened_lone : (log : List ℕ) (s : Sheet) → opened_of log ≡ Read s → s.drop ≡ 0
+pub opened_lone : (log : List ℕ) (s : Sheet) → opened_of log ≡ Ok s → s.drop ≡ 0
 opened_lone log s e = (opened log s e).drop
 
 -- what code reads: the sheet of the log, with no drop
-pub opened_read : (log : List ℕ) {o : SheetRead} {s u : Sheet} → o ≡ sheet_of log → o ≡ Read s → u ≡ lone s → Read u ≡ opened_of log
+pub opened_read : (log : List ℕ) {o : Result Sheet Refusal} {s u : Sheet} → o ≡ sheet_of log → o ≡ Ok s → u ≡ lone s → Ok u ≡ opened_of log
 unfolding opened_of
-opened_read log e f g = ap Read g ∙ ap lone_read (sym f ∙ e)
+opened_read log e f g = ap Ok g ∙ ap lone_read (sym f ∙ e)
 
-pub opened_bad : (log : List ℕ) {o : SheetRead} → o ≡ sheet_of log → o ≡ Bad → Bad ≡ opened_of log
+pub opened_bad : (log : List ℕ) {o : Result Sheet Refusal} → o ≡ sheet_of log → o ≡ Err BadSheet → (Err BadSheet) ≡ opened_of log
 unfolding opened_of
 opened_bad log e f = ap lone_read (sym f ∙ e)

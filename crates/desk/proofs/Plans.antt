@@ -5,14 +5,14 @@ use mathlib.Core.Bool.{Bool, true, false, not}
 use Prim.Native.Nat.{ℕ, suc, ◌+◌, ◌<◌, ◌^◌}
 use native.Mathlib.Omega.{arith}
 use lib.Dec.{eqb}
+use Rattle.std.specs.Prelude.{Result, Ok, Err}
+use Rattle.paper.specs.declared.refusal.Refusal.{Refusal}
 use Rattle.paper.specs.Paper.{out_of_range, not_next, wrong_moment, when, or_else, in_range}
 use Rattle.paper.specs.declared.Entry.{Entry}
 use Rattle.paper.specs.declared.Entry.TheVariants.{Void}
 use Rattle.blocks.specs.Entry.{parsed_of}
 use Rattle.blocks.specs.declared.Block.{Block}
 use Rattle.blocks.specs.declared.Block.TheVariants.{Raw, Malformed, Nothing}
-use Rattle.blocks.specs.declared.Parsed.{Parsed}
-use Rattle.blocks.specs.declared.Parsed.TheVariants.{Read, OutOfRange}
 use Rattle.table.specs.Settle.{no_payout}
 use Rattle.table.specs.Take.{Sound, code_of, payout_of, taken_of}
 use Rattle.table.specs.declared.table.Table.{Table}
@@ -49,10 +49,10 @@ void_judged t block n code = ap (judged_by (no_entry block n (suc code))) (void_
 
 -- ---- what is judged
 
-parsed_judged : (t : Table) (n : ℕ) (p : Parsed) → judged_by (plan_parsed n p) (taken_of t (plan_parsed n p).n (plan_parsed n p).entry) ≡ judge_parsed t n p
+parsed_judged : (t : Table) (n : ℕ) (p : Result Entry Refusal) → judged_by (plan_parsed n p) (taken_of t (plan_parsed n p).n (plan_parsed n p).entry) ≡ judge_parsed t n p
 unfolding taken_of
-parsed_judged t n OutOfRange = void_judged t true n 1
-parsed_judged t n (Read e) = refl
+parsed_judged t n (Err why) = void_judged t true n 1
+parsed_judged t n (Ok e) = refl
 
 block_judged : (t : Table) (b : Block) → judged_by (plan_of b) (taken_of t (plan_of b).n (plan_of b).entry) ≡ judge_block t b
 block_judged t (Raw n k s a b) = parsed_judged t n (parsed_of k s a b)
@@ -69,9 +69,9 @@ plan_judged t b {p} {k} e q r =
 
 -- ---- its numbers
 
-parsed_number : (n : ℕ) (p : Parsed) → (plan_parsed n p).n ≡ n
-parsed_number n OutOfRange = refl
-parsed_number n (Read e) = refl
+parsed_number : (n : ℕ) (p : Result Entry Refusal) → (plan_parsed n p).n ≡ n
+parsed_number n (Err why) = refl
+parsed_number n (Ok e) = refl
 
 block_number : (b : Block) → (plan_of b).n ≡ number_of_block b
 block_number (Raw n k s a b) = parsed_number n (parsed_of k s a b)
@@ -92,5 +92,5 @@ pub judged_small : (t : Table) (b : Block) {p : Planned} {k : Taken} {code : ℕ
     → (◌≡◌ {A = Judged} (record { block = p.block; n = p.n; code = code; table = k.table; payout = k.payout }) (judge_block t b)) × Sound k.table × SmallPaid k.payout × (p.n < 10 ^ 9)
 judged_small t b {p} h m e f r = (plan_judged t b e f.0 r, f.1, plan_paid t p.n p.entry h f.0, plan_number b e m)
 
-pub plan_raw : (b : Block) {n k s a c : ℕ} {p : Parsed} {r : Planned} → b ≡ Raw n k s a c → p ≡ parsed_of k s a c → r ≡ plan_parsed n p → r ≡ plan_of b
+pub plan_raw : (b : Block) {n k s a c : ℕ} {p : Result Entry Refusal} {r : Planned} → b ≡ Raw n k s a c → p ≡ parsed_of k s a c → r ≡ plan_parsed n p → r ≡ plan_of b
 plan_raw b {n} q e f = f ∙ ap (plan_parsed n) e ∙ ap plan_of (sym q)

@@ -8,6 +8,8 @@ use native.Mathlib.Omega.{arith}
 use lib.ListN.{length}
 use lib.Dec.{eqb}
 use borrow.Author.Tests.{le-leb, lt-leb}
+use Rattle.std.specs.Prelude.{Result, Ok, Err}
+use Rattle.paper.specs.declared.refusal.Refusal.{Refusal}
 use Rattle.laws.specs.Tests.{pick}
 use Rattle.laws.specs.Lists.{max_of}
 use Rattle.laws.specs.Often.{count}
@@ -16,8 +18,6 @@ use Rattle.blocks.specs.Block.{block_of}
 use Rattle.blocks.specs.Entry.{parsed_of}
 use Rattle.blocks.specs.declared.Block.{Block}
 use Rattle.blocks.specs.declared.Block.TheVariants.{Raw, Malformed, Nothing}
-use Rattle.blocks.specs.declared.Parsed.{Parsed}
-use Rattle.blocks.specs.declared.Parsed.TheVariants.{Read, OutOfRange}
 use Rattle.writing.specs.AnswerSheet.{sheet_after}
 use Rattle.paper.specs.declared.Entry.{Entry}
 use Rattle.paper.specs.declared.Entry.TheVariants.{Sit, Leave, Hand, Hole, Fold, Check, Call, Wager, Board, Dead, Settle, Void}
@@ -77,9 +77,9 @@ next_closed t n e = go (eqb (code_of t n e) 0)
     go true = by_closed t n e
     go false = λ z. absurd (false≢true z)
 
-parsed_closed : (t : Table) (n : ℕ) (p : Parsed) → Closed (judge_parsed t n p).table (judge_parsed t n p).payout
-parsed_closed t n OutOfRange = λ z. absurd (false≢true z)
-parsed_closed t n (Read e) = next_closed t n e
+parsed_closed : (t : Table) (n : ℕ) (p : Result Entry Refusal) → Closed (judge_parsed t n p).table (judge_parsed t n p).payout
+parsed_closed t n (Err why) = λ z. absurd (false≢true z)
+parsed_closed t n (Ok e) = next_closed t n e
 
 pub block_closed : (t : Table) (b : Block) → Closed (judge_block t b).table (judge_block t b).payout
 block_closed t (Raw n k s a b) = parsed_closed t n (parsed_of k s a b)
@@ -143,9 +143,9 @@ few n code t p size rows closed = record { pots = pots_within t size; rows = ome
 abbrev pub FewShown : Judged → Type 0
 FewShown j = Few (shown_of j.n j.code j.table j.payout)
 
-parsed_few : (t : Table) (n : ℕ) (p : Parsed) → Sound t → FewShown (judge_parsed t n p)
-parsed_few t n OutOfRange h = few n _ t no_payout h.standing.size (omega arith) (λ z. absurd (false≢true z))
-parsed_few t n (Read e) h =
+parsed_few : (t : Table) (n : ℕ) (p : Result Entry Refusal) → Sound t → FewShown (judge_parsed t n p)
+parsed_few t n (Err why) h = few n _ t no_payout h.standing.size (omega arith) (λ z. absurd (false≢true z))
+parsed_few t n (Ok e) h =
     few n (code_of t n e) (next_of t n e) (payout_of t n e) (standing_next t n e h h.standing).size (paid_within t n e h.standing.size) (next_closed t n e)
 
 block_few : (t : Table) (b : Block) → Sound t → FewShown (judge_block t b)

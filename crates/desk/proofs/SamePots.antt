@@ -9,12 +9,14 @@ use lib.ListN.{length, get_or, set}
 use lib.Dec.{eqb, leb}
 use native.Mathlib.Omega.{arith}
 use borrow.Author.Tests.{eqb-false}
+use Rattle.std.specs.Prelude.{Result, Ok, Err}
+use Rattle.paper.specs.declared.refusal.Refusal.TheVariants.{OutOfRange}
+use Rattle.paper.specs.declared.refusal.Refusal.{Refusal}
 use Rattle.laws.specs.Tests.{pick, either, one}
 use Rattle.laws.proofs.Tests.{test}
 use Rattle.blocks.specs.Entry.{entry_at, parsed_of}
 use Rattle.blocks.specs.declared.Block.{Block}
 use Rattle.blocks.specs.declared.Block.TheVariants.{Raw, Malformed, Nothing}
-use Rattle.blocks.specs.declared.Parsed.TheVariants.{Read, OutOfRange}
 use Rattle.paper.specs.SheetAndEntries.{made, makes_entry}
 use Rattle.paper.specs.declared.Entry.{Entry}
 use Rattle.chairs.specs.Chairs.{column_of, chair_at, put_at, no_chair, sweep_of, seated_of, held_of, acted_of}
@@ -32,8 +34,6 @@ use Rattle.table.specs.Settle.{totals_of, lives_of, pots_now, back_now}
 use Rattle.table.specs.Take.{code_of, applied_to, next_of}
 use Rattle.table.specs.declared.table.Table.{Table}
 use Rattle.writing.specs.AnswerSheet.{written_of, sheet_after}
-use Rattle.writing.specs.declared.Written.{Written}
-use Rattle.writing.specs.declared.Written.TheVariants.{Bytes}
 use Rattle.answers.specs.declared.Shown.{Shown}
 use Rattle.answers.specs.Answer.{answer_bytes}
 use Rattle.desk.specs.declared.Judged.{Judged}
@@ -126,7 +126,7 @@ raw_alike : (t : Table) (n k s a b : ℕ) → quiet_kind k ≡ true → Alike (j
 unfolding parsed_of
 raw_alike t n k s a b h = go (makes_entry (made k s a b))
   where
-    go : (z : Bool) → Alike (judge_parsed t n (pick z (Read (entry_at k s a b)) OutOfRange)).table.chairs t.chairs
+    go : (z : Bool) → Alike (judge_parsed t n (pick z (Ok (entry_at k s a b)) (Err OutOfRange))).table.chairs t.chairs
     go true = next_alike t n (entry_at k s a b) (at_alike t k s a b h)
     go false = (refl, refl)
 
@@ -174,12 +174,12 @@ now_shows t k = record { count = k.0; list = k.1; few = k.2; back = k.3 }
 
 -- ---- what is written, with the pots of the table after the block
 
-pub none_written : (j : Judged) (sheet : List ℕ) → j.block ≡ false → (Bytes 0 ≡ written_of (judged_bytes j) sheet) × (sheet ≡ sheet_after (judged_bytes j) sheet)
+pub none_written : (j : Judged) (sheet : List ℕ) → j.block ≡ false → (Ok 0 ≡ written_of (judged_bytes j) sheet) × (sheet ≡ sheet_after (judged_bytes j) sheet)
 none_written j sheet o =
     let z : [] ≡ judged_bytes j = ap (λ (x : Bool). pick x (answer_bytes (shown_of j.n j.code j.table j.payout)) []) (sym o) in
     (sym (writes_none sheet) ∙ ap (λ (l : List ℕ). written_of l sheet) z, sym (keeps_all sheet) ∙ ap (λ (l : List ℕ). sheet_after l sheet) z)
 
-pub shown_written : (j : Judged) (sheet : List ℕ) {s : Shown} {w : Written} {out : List ℕ} → j.block ≡ true → s ≡ shown_of j.n j.code j.table j.payout
+pub shown_written : (j : Judged) (sheet : List ℕ) {s : Shown} {w : Result ℕ Refusal} {out : List ℕ} → j.block ≡ true → s ≡ shown_of j.n j.code j.table j.payout
     → w ≡ written_of (answer_bytes s) sheet → out ≡ sheet_after (answer_bytes s) sheet → (w ≡ written_of (judged_bytes j) sheet) × (out ≡ sheet_after (judged_bytes j) sheet)
 shown_written j sheet {s} o q e f =
     let z : answer_bytes s ≡ judged_bytes j =

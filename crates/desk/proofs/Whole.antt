@@ -1,4 +1,7 @@
 -- Laws of the whole log.
+use Rattle.std.specs.Prelude.{Result, Ok, Err}
+use Rattle.paper.specs.declared.refusal.Refusal.TheVariants.{BadSheet, NoRoom}
+use Rattle.paper.specs.declared.refusal.Refusal.{Refusal}
 use Rattle.desk.specs.Log.{opened_of, blocks_from, eleven, output_from, output_of, fitting, table_in, blocks_in, answers_in, output_in, output_in_from}
 use mathlib.Core.Path.{◌≡◌, refl, sym, ap, subst, ◌∙◌}
 use mathlib.Core.List.{List, [], ◌++◌, append_assoc, append-nil}
@@ -19,9 +22,6 @@ use Rattle.blocks.proofs.Blocks.{rest_shorter}
 use Rattle.text.proofs.Lines.{after_lines_no_longer}
 use Rattle.text.specs.TableSheet.{sheet_lines, sheet_end}
 use Rattle.paper.specs.declared.Sheet.{Sheet}
-use Rattle.text.specs.declared.sheet.SheetRead.{SheetRead}
-use Rattle.text.specs.declared.sheet.SheetRead.TheVariants.{Read, Bad}
-use Rattle.writing.specs.declared.Written.TheVariants.{Bytes, NoRoom}
 use Rattle.table.specs.declared.table.Table.{Table}
 use Rattle.table.specs.Take.{Sound, fresh_table}
 use Rattle.desk.specs.declared.Answered.{Answered}
@@ -108,9 +108,9 @@ module _ (t : Table) (log sheet : List ℕ) where
   unfolding answered_of
   answered_parts = go (fits (block_bytes t log) sheet)
     where
-      go : (b : Bool) → ((answered_from t (judged_of t log) (pick b (Bytes (length (block_bytes t log))) NoRoom)).table ≡ pick b (judged_of t log).table t)
+      go : (b : Bool) → ((answered_from t (judged_of t log) (pick b (Ok (length (block_bytes t log))) (Err NoRoom))).table ≡ pick b (judged_of t log).table t)
           × Wrote (pick b (block_bytes t log) []) sheet (pick b (over (block_bytes t log) sheet) sheet)
-          (answered_from t (judged_of t log) (pick b (Bytes (length (block_bytes t log))) NoRoom)).written
+          (answered_from t (judged_of t log) (pick b (Ok (length (block_bytes t log))) (Err NoRoom))).written
       go true = (refl, record { count = refl; sheet = refl })
       go false = (refl, record { count = refl; sheet = refl })
 
@@ -185,11 +185,11 @@ module _ {t : Table} {log out : List ℕ} {table : Table} {left now : List ℕ} 
 
 -- ---- the two answers of running a log
 
-pub run_bad : (log : List ℕ) (o : SheetRead) (room : ℕ) → o ≡ opened_of log → o ≡ Bad → output_in log room ≡ fitting eleven room
+pub run_bad : (log : List ℕ) (o : Result Sheet Refusal) (room : ℕ) → o ≡ opened_of log → {why : Refusal} → o ≡ Err why → output_in log room ≡ fitting eleven room
 unfolding output_in
 run_bad log o room p q = rw (← p, q)
 
-pub run_good : (log : List ℕ) (o : SheetRead) (s : Sheet) (room : ℕ) {t : Table} {left : List ℕ} → o ≡ opened_of log → o ≡ Read s → t ≡ fresh_table s → left ≡ sheet_end log
+pub run_good : (log : List ℕ) (o : Result Sheet Refusal) (s : Sheet) (room : ℕ) {t : Table} {left : List ℕ} → o ≡ opened_of log → o ≡ Ok s → t ≡ fresh_table s → left ≡ sheet_end log
     → output_in log room ≡ answers_in t left room
 unfolding output_in
 run_good log o s room p q e f = rw (← p, q, e, f)
@@ -203,8 +203,8 @@ pub run_enough : (log : List ℕ) (room : ℕ) → length (output_of log) ≤ ro
 unfolding output_in output_of answers_in
 run_enough log room h = go (opened_of log) h
   where
-    go : (o : SheetRead) → length (output_from o log) ≤ room → output_in_from o log room ≡ output_from o log
-    go Bad i = rw (le-leb 8 room i)
-    go (Read s) i =
+    go : (o : Result Sheet Refusal) → length (output_from o log) ≤ room → output_in_from o log room ≡ output_from o log
+    go (Err why) i = rw (le-leb 8 room i)
+    go (Ok s) i =
         let e = fuel_free (length log) (length (sheet_end log)) (fresh_table s) (sheet_end log) (end_within log) (omega arith) in
         room_enough (length (sheet_end log)) (fresh_table s) (sheet_end log) room (rw e at i) ∙ sym e

@@ -1,16 +1,14 @@
 -- Document 01, "The answer block" and "Refusal numbers": one block read, taken and answered.
 -- "12 stands in place of any of 0 to 10. After any of 1 to 10, or 12, the table and the count of taken entries equal those before."
-use Rattle.std.specs.Prelude.{ℕ, ◌<◌, ◌^◌, true, false, ◌≡◌, List, [], ◌∷◌, length, get_or}
+use Rattle.std.specs.Prelude.{ℕ, ◌<◌, ◌^◌, true, false, ◌≡◌, List, [], ◌∷◌, length, get_or, Result, Ok, Err}
+use Rattle.paper.specs.declared.Entry.{Entry}
+use Rattle.paper.specs.declared.refusal.Refusal.{Refusal}
 use Rattle.laws.specs.Tests.{pick}
 use Rattle.blocks.specs.Block.{block_of}
 use Rattle.blocks.specs.Entry.{parsed_of}
 use Rattle.writing.specs.AnswerSheet.{written_of}
 use Rattle.blocks.specs.declared.Block.{Block}
 use Rattle.blocks.specs.declared.Block.TheVariants.{Raw, Malformed, Nothing}
-use Rattle.blocks.specs.declared.Parsed.{Parsed}
-use Rattle.blocks.specs.declared.Parsed.TheVariants.{Read, OutOfRange}
-use Rattle.writing.specs.declared.Written.{Written}
-use Rattle.writing.specs.declared.Written.TheVariants.{Bytes, NoRoom}
 use Rattle.blocks.specs.Codes.{code_of_block, code_of_parsed}
 use Rattle.writing.specs.Codes.{code_of_written}
 use Rattle.table.specs.declared.table.Table.{Table}
@@ -61,9 +59,9 @@ abbrev pub no_block : Table → Judged
 no_block t = record { block = false; n = 0; code = code_of_block Nothing; table = t; payout = no_payout }
 
 -- refusal 2, or the table's own answer
-abbrev pub judge_parsed : Table → ℕ → Parsed → Judged
-judge_parsed t n OutOfRange = refused_at t n (code_of_parsed OutOfRange)
-judge_parsed t n (Read e) = record { block = true; n = n; code = code_of t n e; table = next_of t n e; payout = payout_of t n e }
+abbrev pub judge_parsed : Table → ℕ → Result Entry Refusal → Judged
+judge_parsed t n (Err why) = refused_at t n (code_of_parsed (Err why))
+judge_parsed t n (Ok e) = record { block = true; n = n; code = code_of t n e; table = next_of t n e; payout = payout_of t n e }
 
 -- refusal 1; n is 0 after it
 abbrev pub judge_block : Table → Block → Judged
@@ -84,9 +82,9 @@ unfoldable pub block_bytes : Table → List ℕ → List ℕ
 block_bytes t log = judged_bytes (judged_of t log)
 
 -- refusal 12: a block whose answer was not written is not taken
-abbrev pub answered_from : Table → Judged → Written → Answered
-answered_from t j (Bytes k) = record { block = j.block; code = j.code; table = j.table; written = k }
-answered_from t j NoRoom = record { block = j.block; code = code_of_written NoRoom; table = t; written = 0 }
+abbrev pub answered_from : Table → Judged → Result ℕ Refusal → Answered
+answered_from t j (Ok k) = record { block = j.block; code = j.code; table = j.table; written = k }
+answered_from t j (Err why) = record { block = j.block; code = code_of_written (Err why); table = t; written = 0 }
 
 unfoldable pub answered_of : Table → List ℕ → List ℕ → Answered
 answered_of t log sheet = answered_from t (judged_of t log) (written_of (block_bytes t log) sheet)

@@ -1,14 +1,13 @@
 -- The whole paper as one function: a log, that is the sheet and then block after block, to what is written.
 -- "Reading uses up five lines at a time, whatever the code, 12 too; a last block without its fifth LF is malformed. No bytes left means no block."
 -- Refusal 11: "the program writes code=11 and one LF, nothing else, and ends".
-use Rattle.std.specs.Prelude.{ℕ, zero, suc, ◌-◌, List, [], ◌++◌, length, eqb, leb}
+use Rattle.std.specs.Prelude.{ℕ, zero, suc, ◌-◌, List, [], ◌++◌, length, eqb, leb, Result, Ok, Err}
+use Rattle.paper.specs.declared.refusal.Refusal.{Refusal}
 use Rattle.laws.specs.Tests.{pick}
 use Rattle.blocks.specs.Block.{rest_of}
 use Rattle.paper.specs.declared.Sheet.{Sheet}
 use Rattle.text.specs.TableSheet.{sheet_of, sheet_end}
 pub use Rattle.text.specs.Codes.{eleven}
-use Rattle.text.specs.declared.sheet.SheetRead.{SheetRead}
-use Rattle.text.specs.declared.sheet.SheetRead.TheVariants.{Read, Bad}
 use Rattle.table.specs.declared.table.Table.{Table}
 use Rattle.table.specs.Take.{fresh_table}
 use Rattle.desk.specs.Desk.{judged_of, block_bytes}
@@ -32,17 +31,17 @@ lone s = record {
   drop = 0;
 }
 
-abbrev pub lone_read : SheetRead → SheetRead
-lone_read (Read s) = Read (lone s)
-lone_read Bad = Bad
+abbrev pub lone_read : Result Sheet Refusal → Result Sheet Refusal
+lone_read (Ok s) = Ok (lone s)
+lone_read (Err why) = Err why
 
 -- the sheet that a lone table goes by
-unfoldable pub opened_of : List ℕ → SheetRead
+unfoldable pub opened_of : List ℕ → Result Sheet Refusal
 opened_of log = lone_read (sheet_of log)
 
-abbrev pub output_from : SheetRead → List ℕ → List ℕ
-output_from (Read s) log = blocks_from (length log) (fresh_table s) (sheet_end log)
-output_from Bad log = eleven
+abbrev pub output_from : Result Sheet Refusal → List ℕ → List ℕ
+output_from (Ok s) log = blocks_from (length log) (fresh_table s) (sheet_end log)
+output_from (Err why) log = eleven
 
 -- what is written for a log
 unfoldable pub output_of : List ℕ → List ℕ
@@ -66,9 +65,9 @@ blocks_in (suc k) t log room =
 unfoldable pub answers_in : Table → List ℕ → ℕ → List ℕ
 answers_in t log room = blocks_in (length log) t log room
 
-abbrev pub output_in_from : SheetRead → List ℕ → ℕ → List ℕ
-output_in_from (Read s) log room = answers_in (fresh_table s) (sheet_end log) room
-output_in_from Bad log room = fitting eleven room
+abbrev pub output_in_from : Result Sheet Refusal → List ℕ → ℕ → List ℕ
+output_in_from (Ok s) log room = answers_in (fresh_table s) (sheet_end log) room
+output_in_from (Err why) log room = fitting eleven room
 
 unfoldable pub output_in : List ℕ → ℕ → List ℕ
 output_in log room = output_in_from (opened_of log) log room

@@ -11,12 +11,11 @@ ghost use Rattle.desk.specs.Room.{room_of};
 ghost use Rattle.desk.specs.Plans.{no_entry, plan_parsed, plan_of};
 
 use answers::{Jackpot, PaidRow, Shown, ShownPayout, answer_len, write_answer};
-use blocks::{Block, Parsed};
-use paper::{Entry, MALFORMED, NO_ROOM, OUT_OF_RANGE, TAKEN, or_else};
+use blocks::Block;
+use paper::{Entry, MALFORMED, NO_ROOM, OUT_OF_RANGE, Refusal, TAKEN, or_else};
 use quiet::shown_with;
 use table::settle::stands_now;
 use table::table::Table;
-use writing::Written;
 
 pub mod log;
 pub mod quiet;
@@ -119,12 +118,12 @@ fn no_entry(block: bool, n: u32, code: u8) -> Planned
     }
 }
 
-fn plan_parsed(n: u32, p: Parsed) -> Planned
+fn plan_parsed(n: u32, p: Result<Entry, Refusal>) -> Planned
     ensures { result ≡ plan_parsed n p }
 {
     match p {
-        Parsed::OutOfRange => no_entry(true, n, OUT_OF_RANGE),
-        Parsed::Read(e) => Planned {
+        Err(_) => no_entry(true, n, OUT_OF_RANGE),
+        Ok(e) => Planned {
             block: true,
             n,
             code: TAKEN,
@@ -206,7 +205,7 @@ pub fn answer_block(table: Table, b: Block, sheet: &mut [u8]) -> Answered
     let paid = j.payout;
     let s = shown_of(j.n, j.code, u, paid);
     let w = write_answer(sheet, s);
-    let Written::Bytes(k) = w else {
+    let Ok(k) = w else {
         return Answered {
             block: j.block,
             code: NO_ROOM,

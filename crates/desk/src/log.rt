@@ -6,10 +6,10 @@ ghost use Rattle.desk.specs.Log.{answers_in, lone, opened_of, output_in, eleven,
 
 use crate::answer;
 use blocks::rest;
-use paper::Sheet;
+use paper::{Refusal, Sheet};
 use table::table::Table;
 use table::take::new_table;
-use text::sheet::{SheetRead, after_sheet, read_sheet};
+use text::sheet::{after_sheet, read_sheet};
 
 // The answers to the blocks of a log, each written behind the last where there is room for it.
 pub fn blocks(t: Table, log: &[u8], out: &mut [u8]) -> usize
@@ -40,13 +40,10 @@ pub fn lone(s: Sheet) -> Sheet
 }
 
 // The sheet that a lone table goes by.
-pub fn read_lone_sheet(log: &[u8]) -> SheetRead
+pub fn read_lone_sheet(log: &[u8]) -> Result<Sheet, Refusal>
     ensures { result ≡ opened_of log.now }
 {
-    match read_sheet(log) {
-        SheetRead::Read(s) => SheetRead::Read(lone(s)),
-        SheetRead::Bad => SheetRead::Bad,
-    }
+    read_sheet(log).map(lone)
 }
 
 // The one line of a bad sheet.
@@ -64,7 +61,7 @@ pub fn run(log: &[u8], out: &mut [u8]) -> usize
     ensures { Wrote (output_in log.now (length out.old)) out.old out.new result }
 {
     match read_lone_sheet(log) {
-        SheetRead::Bad => refuse_sheet(out),
-        SheetRead::Read(s) => blocks(new_table(s), after_sheet(log), out),
+        Err(_) => refuse_sheet(out),
+        Ok(s) => blocks(new_table(s), after_sheet(log), out),
     }
 }

@@ -11,11 +11,10 @@ use crate::{Judged, payout_shown, wide};
 use answers::{Shown, write_answer};
 use blocks::Block;
 use laws::either;
-use paper::TAKEN;
+use paper::{Refusal, TAKEN};
 use pots::Stands;
 use table::settle::stands_now;
 use table::table::Table;
-use writing::Written;
 
 // By its place in the table of kinds: sit and leave (0 and 1), hole (3), check (5), board (8).
 fn quiet_kind(kind: u32) -> bool
@@ -90,13 +89,13 @@ pub fn shown_with(n: u32, code: u8, t: Table, stands: Stands, paid: table::table
 }
 
 // The answer that shows what was judged, at the front of the sheet, with the pots of the table after it; where there was no block nothing is written.
-pub fn write_judged(j: Judged, stands: Stands, sheet: &mut [u8]) -> Written
+pub fn write_judged(j: Judged, stands: Stands, sheet: &mut [u8]) -> Result<usize, Refusal>
     requires { Sound j.table × (j.n < 10 ^ 9) × SmallPaid j.payout × Closed j.table j.payout × ShowsPots j.table stands }
     ensures answer { result ≡ written_of (judged_bytes j) sheet.old }
     ensures bytes { sheet.new ≡ sheet_after (judged_bytes j) sheet.old }
 {
     if !j.block {
-        return Written::Bytes(0);
+        return Ok(0);
     }
     let u = j.table;
     let paid = j.payout;

@@ -9,11 +9,10 @@ use lib.ListN.{length, take, drop, length-append, length-take, length-drop}
 use lib.Seq.{drop-append-le, take_at}
 use lib.Dec.{eqb, ltb}
 use borrow.Author.Tests.{ltb-true, lt-ltb, le-ltb, eq-eqb, ne_eqb}
+use Rattle.std.specs.Prelude.{Option, Some}
 use Rattle.laws.specs.Tests.{pick}
 use Rattle.laws.proofs.Tests.{test}
 use Rattle.writing.specs.AnswerSheet.{over}
-use Rattle.text.specs.declared.Number.{Number}
-use Rattle.text.specs.declared.Number.TheVariants.{Value}
 use Rattle.text.specs.TableSheet.{sheet_lines}
 use Rattle.lines.specs.declared.Fill.{Fill}
 use Rattle.lines.specs.declared.Progress.{Progress}
@@ -27,7 +26,7 @@ use Rattle.frames.specs.Frames.{table_in, table_of, wanted, kept_next, table_nex
 
 -- ---- the table of a number
 
-pub table_none : (x : Number) {v : ℕ} → x ≡ Value v → (v ≡ 1 → ⊥) → (v ≡ 2 → ⊥) → 0 ≡ table_in x
+pub table_none : (x : Option ℕ) {v : ℕ} → x ≡ Some v → (v ≡ 1 → ⊥) → (v ≡ 2 → ⊥) → 0 ≡ table_in x
 table_none x {v} e n m = sym (ap table_in e ∙ rw (ne_eqb v 1 n, ne_eqb v 2 m))
 
 -- ---- how many lines are gathered

@@ -3,10 +3,8 @@
 -- block cut short .. Lines that stand where a `table` line is due and are none are of no table: the first of a run of them is answered at once .. the others are passed
 -- over (bytes behind the last LF count as such a line)."
 -- What any bytes are cut into, as they come, oldest first. Of each line 33 bytes are kept, as at a lone table. Assumes nothing.
-use Rattle.std.specs.Prelude.{ℕ, ◌+◌, ◌-◌, ◌≤◌, ◌<◌, List, [], ◌∷◌, ◌++◌, true, false, length, drop, eqb, ltb}
+use Rattle.std.specs.Prelude.{ℕ, ◌+◌, ◌-◌, ◌≤◌, ◌<◌, List, [], ◌∷◌, ◌++◌, true, false, length, drop, eqb, ltb, Option, Some, None}
 use Rattle.laws.specs.Tests.{pick}
-use Rattle.text.specs.declared.Number.{Number}
-use Rattle.text.specs.declared.Number.TheVariants.{Value, Bad}
 use Rattle.text.specs.Line.{line_number}
 use Rattle.text.specs.TableSheet.{sheet_lines}
 use Rattle.lines.specs.Kept.{Kept, nothing, keep_of, Gathered, fill_of, Room}
@@ -19,9 +17,9 @@ use Rattle.frames.specs.declared.Heard.{Heard}
 abbrev pub table_key : List ℕ
 table_key = 116 ∷ 97 ∷ 98 ∷ 108 ∷ 101 ∷ []
 
-abbrev pub table_in : Number → ℕ
-table_in (Value v) = pick (eqb v 1) 1 (pick (eqb v 2) 2 0)
-table_in Bad = 0
+abbrev pub table_in : Option ℕ → ℕ
+table_in (Some v) = pick (eqb v 1) 1 (pick (eqb v 2) 2 0)
+table_in None = 0
 
 -- the table that a line begins a block of, 0 where it is no good `table` line
 unfoldable pub table_of : List ℕ → ℕ

@@ -10,7 +10,7 @@ ghost use Rattle.frames.specs.Frames.{table_in, table_of, wanted, last_due, kept
 
 use lines::{Fill, empty, gather};
 use text::sheet::LINES;
-use text::{Number, read_key_number};
+use text::read_key_number;
 
 // What is due: 0 the pool's line, 1 and 2 the sheets of the tables, 3 a `table` line, 4 a `table` line within a run of lines of no table, 5 and 6 the lines of a block
 // of table 1 and table 2.
@@ -68,11 +68,11 @@ pub fn start() -> Frame
 }
 
 // 1 or 2 where a number is a table's, else 0.
-fn table_in(x: Number) -> u8
+fn table_in(x: Option<u32>) -> u8
     ensures { (result ≡ table_in x) × (result ≤ 2) }
 {
     match x {
-        Number::Value(v) => {
+        Some(v) => {
             if v == 1 {
                 return 1;
             }
@@ -81,7 +81,7 @@ fn table_in(x: Number) -> u8
             }
             0
         }
-        Number::Bad => 0,
+        None => 0,
     }
 }
 

@@ -4,10 +4,11 @@ use mathlib.Core.Bool.{Bool, true, false, false≢true}
 use mathlib.Core.List.{List}
 use Prim.Native.Nat.{ℕ, ◌-◌}
 use lib.Dec.{eqb, leb}
+use Rattle.std.specs.Prelude.{Result, Ok, Err}
+use Rattle.paper.specs.declared.Entry.{Entry}
+use Rattle.paper.specs.declared.refusal.Refusal.{Refusal}
 use Rattle.laws.specs.Tests.{pick, both, either}
 use Rattle.blocks.specs.declared.Block.{Block}
-use Rattle.blocks.specs.declared.Parsed.{Parsed}
-use Rattle.blocks.specs.declared.Parsed.TheVariants.{Read, OutOfRange}
 use Rattle.table.specs.Settle.{no_payout}
 use Rattle.table.specs.declared.table.Table.{Table}
 use Rattle.records.specs.Stored.{entry_in}
@@ -44,9 +45,9 @@ righted_closed t n p = go p.ok
     go true = λ z. absurd (false≢true z)
     go false = λ z. absurd (false≢true z)
 
-replayed_closed : (t : Table) (n : ℕ) (x : Parsed) (log : List ℕ) → ClosedOf (replayed_of t n x log)
-replayed_closed t n (Read e) log = righted_closed t n (played_to t.sheet (replacing (n - 1) e (entry_in log)) t.taken)
-replayed_closed t n OutOfRange log = λ z. absurd (false≢true z)
+replayed_closed : (t : Table) (n : ℕ) (x : Result Entry Refusal) (log : List ℕ) → ClosedOf (replayed_of t n x log)
+replayed_closed t n (Ok e) log = righted_closed t n (played_to t.sheet (replacing (n - 1) e (entry_in log)) t.taken)
+replayed_closed t n (Err why) log = λ z. absurd (false≢true z)
 
 pub right_closed : (t : Table) (shared : Bool) (r : Right) (log : List ℕ) {j : Judged} → j ≡ judged_right t shared r log → Closed j.table j.payout
 unfolding judged_right

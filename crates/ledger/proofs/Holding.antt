@@ -7,6 +7,9 @@ use native.Mathlib.Omega.{arith}
 use lib.ListN.{length}
 use lib.Dec.{eqb, leb}
 use borrow.Author.Tests.{eqb-true, eqb-false}
+use Rattle.std.specs.Prelude.{Result, Ok, Err}
+use Rattle.paper.specs.declared.Entry.{Entry}
+use Rattle.paper.specs.declared.refusal.Refusal.{Refusal}
 use Rattle.laws.specs.Tests.{pick, both, either}
 use Rattle.paper.specs.SheetAndEntries.{is_sheet}
 use Rattle.paper.specs.declared.Numbers.{Numbers}
@@ -14,11 +17,7 @@ use Rattle.blocks.specs.Block.{block_of}
 use Rattle.blocks.specs.Entry.{parsed_of}
 use Rattle.blocks.specs.declared.Block.{Block}
 use Rattle.blocks.specs.declared.Block.TheVariants.{Raw, Malformed, Nothing}
-use Rattle.blocks.specs.declared.Parsed.{Parsed}
-use Rattle.blocks.specs.declared.Parsed.TheVariants.{Read, OutOfRange}
 use Rattle.writing.specs.AnswerSheet.{written_of, sheet_after}
-use Rattle.writing.specs.declared.Written.{Written}
-use Rattle.writing.specs.declared.Written.TheVariants.{Bytes, NoRoom}
 use Rattle.table.specs.Take.{Sound}
 use Rattle.table.specs.declared.table.Table.{Table}
 use Rattle.table.proofs.Refusals.{taken_counted, refused_same}
@@ -56,9 +55,9 @@ one_no h = omega (arith, h)
 fifteen_no : ◌≡◌ {A = ℕ} 15 0 → ⊥
 fifteen_no h = omega (arith, h)
 
-parsed_counts : (t : Table) (n : ℕ) (p : Parsed) → Counts t (judge_parsed t n p)
-parsed_counts t n (Read e) = record { sheet = next_sheet t n e; more = taken_counted t n e; same = refused_same t n e }
-parsed_counts t n OutOfRange = refused_counts t n 2 two_no
+parsed_counts : (t : Table) (n : ℕ) (p : Result Entry Refusal) → Counts t (judge_parsed t n p)
+parsed_counts t n (Ok e) = record { sheet = next_sheet t n e; more = taken_counted t n e; same = refused_same t n e }
+parsed_counts t n (Err why) = refused_counts t n 2 two_no
 
 block_counts : (t : Table) (b : Block) → Counts t (judge_block t b)
 block_counts t (Raw n k s a b) = parsed_counts t n (parsed_of k s a b)
@@ -87,21 +86,21 @@ module _ (b : Book) (x : Numbers) (j : Judged) (h : Held b) (c : Counts b.table 
   bytes_held false e =
       record { sound = s; sheet = good; hands = omega (arith, h.hands, ap (λ (u : Table). u.taken) (c.same (eqb-false j.code 0 e))) }
 
-  pub told_held : (w : Written) → Held (answered_as b j (hands_after (was_taken w j.code) b x) w).book
-  told_held (Bytes k) = bytes_held (eqb j.code 0) refl
-  told_held NoRoom = h
+  pub told_held : (w : Result ℕ Refusal) → Held (answered_as b j (hands_after (was_taken w j.code) b x) w).book
+  told_held (Ok k) = bytes_held (eqb j.code 0) refl
+  told_held (Err why) = h
 
-pub right_held : (b : Book) (shared : Bool) (r : Right) (log : List ℕ) (w : Written) → Held b → Sound (judged_right b.table shared r log).table
+pub right_held : (b : Book) (shared : Bool) (r : Right) (log : List ℕ) (w : Result ℕ Refusal) → Held b → Sound (judged_right b.table shared r log).table
     → Held (answered_as b (judged_right b.table shared r log) b.hands w).book
-right_held b shared r log (Bytes k) h s =
+right_held b shared r log (Ok k) h s =
     let c = judged_keeps b.table shared r log in
     record { sound = s; sheet = ap is_sheet c.0 ∙ h.sheet; hands = omega (arith, h.hands, c.1) }
-right_held b shared r log NoRoom h s = h
+right_held b shared r log (Err why) h s = h
 
 -- ---- the calls composed
 
 module _ (b : Book) (block : Block) (log index sheet : List ℕ) where
-  pub entered_is : {j : Judged} {w : Written} {ok : Bool} {x : Numbers} {hands : ℕ} {r : Answered} {l i sh : List ℕ} → Held b → Sound j.table
+  pub entered_is : {j : Judged} {w : Result ℕ Refusal} {ok : Bool} {x : Numbers} {hands : ℕ} {r : Answered} {l i sh : List ℕ} → Held b → Sound j.table
       → j ≡ judged_entry b block (length log) (length index) → w ≡ written_of (judged_bytes j) sheet → sh ≡ sheet_after (judged_bytes j) sheet
       → ok ≡ was_taken w j.code → x ≡ numbers_in block → hands ≡ hands_after ok b x → l ≡ log_after ok b x log → i ≡ index_kept ok b x index
       → r ≡ answered_as b j hands w
@@ -110,11 +109,11 @@ module _ (b : Book) (block : Block) (log index sheet : List ℕ) where
   unfolding entered_of log_entered index_entered sheet_entered
   entered_is {j} {w} {ok} {x} {hands} {r} {l} {i} {sh} h s ej ew es eo ex eh el ei er =
       let J : Judged = judged_here b block log index in
-      let W : Written = written_of (judged_bytes J) sheet in
+      let W : Result ℕ Refusal = written_of (judged_bytes J) sheet in
       let T : Bool = taken_here b block log index sheet in
       let X : Numbers = numbers_in block in
       let fw : w ≡ W = ew ∙ ap (λ (y : Judged). written_of (judged_bytes y) sheet) ej in
-      let fo : ok ≡ T = eo ∙ ap (λ (y : Written). was_taken y j.code) fw ∙ ap (λ (y : Judged). was_taken W y.code) ej in
+      let fo : ok ≡ T = eo ∙ ap (λ (y : Result ℕ Refusal). was_taken y j.code) fw ∙ ap (λ (y : Judged). was_taken W y.code) ej in
       let fh : hands ≡ hands_after T b X = eh ∙ ap (λ (y : Bool). hands_after y b x) fo ∙ ap (hands_after T b) ex in
       let fr : r ≡ answered_as b J (hands_after T b X) W =
       er ∙ ap (λ (y : Judged). answered_as b y hands w) ej ∙ ap (λ (y : ℕ). answered_as b J y w) fh ∙ ap (answered_as b J (hands_after T b X)) fw in
@@ -136,7 +135,7 @@ module _ (b : Book) (block : Block) (log index sheet : List ℕ) where
       )
 
 module _ (b : Book) (shared : Bool) (r : Right) (log index sheet : List ℕ) where
-  pub righted_is : {seen : List ℕ} {j : Judged} {w : Written} {ok : Bool} {n : ℕ} {x : Numbers} {a : Answered} {l i sh : List ℕ} → Held b → Sound j.table
+  pub righted_is : {seen : List ℕ} {j : Judged} {w : Result ℕ Refusal} {ok : Bool} {n : ℕ} {x : Numbers} {a : Answered} {l i sh : List ℕ} → Held b → Sound j.table
       → seen ≡ log → j ≡ judged_right b.table shared r seen → w ≡ written_of (judged_bytes j) sheet → sh ≡ sheet_after (judged_bytes j) sheet
       → ok ≡ was_taken w j.code → n ≡ number_of r → x ≡ numbers_in r.block
       → l ≡ righting.log_after ok n x log → i ≡ righting.index_after ok b.table n x log index → a ≡ answered_as b j b.hands w
@@ -145,12 +144,12 @@ module _ (b : Book) (shared : Bool) (r : Right) (log index sheet : List ℕ) whe
   unfolding righted_of log_righted index_righted sheet_righted
   righted_is {seen} {j} {w} {ok} {n} {x} {a} {l} {i} {sh} h s ez ey ew es eo en ex el ei ea =
       let J : Judged = judged_right b.table shared r log in
-      let W : Written = written_of (judged_bytes J) sheet in
+      let W : Result ℕ Refusal = written_of (judged_bytes J) sheet in
       let T : Bool = taken_right b shared r log sheet in
       let X : Numbers = numbers_in r.block in
       let ej : j ≡ J = ey ∙ ap (judged_right b.table shared r) ez in
       let fw : w ≡ W = ew ∙ ap (λ (y : Judged). written_of (judged_bytes y) sheet) ej in
-      let fo : ok ≡ T = eo ∙ ap (λ (y : Written). was_taken y j.code) fw ∙ ap (λ (y : Judged). was_taken W y.code) ej in
+      let fo : ok ≡ T = eo ∙ ap (λ (y : Result ℕ Refusal). was_taken y j.code) fw ∙ ap (λ (y : Judged). was_taken W y.code) ej in
       let fa : a ≡ answered_as b J b.hands W = ea ∙ ap (λ (y : Judged). answered_as b y b.hands w) ej ∙ ap (answered_as b J b.hands) fw in
       let sound : Sound J.table = subst (λ (y : Judged). Sound y.table) ej s in (
         fa,

@@ -7,14 +7,15 @@ use native.Mathlib.Omega.{arith}
 use lib.ListN.{length}
 use lib.Dec.{eqb, leb}
 use borrow.Author.Tests.{leb-true}
+use Rattle.std.specs.Prelude.{Result, Ok, Err}
+use Rattle.paper.specs.declared.refusal.Refusal.TheVariants.{NoRoom}
+use Rattle.paper.specs.declared.refusal.Refusal.{Refusal}
 use Rattle.laws.specs.Tests.{pick, both, either}
 use Rattle.paper.specs.SheetAndEntries.{made}
 use Rattle.paper.specs.declared.Numbers.{Numbers}
 use Rattle.blocks.specs.declared.Block.{Block}
 use Rattle.blocks.specs.declared.Block.TheVariants.{Raw, Malformed, Nothing}
 use Rattle.writing.specs.AnswerSheet.{fits, written_of}
-use Rattle.writing.specs.declared.Written.{Written}
-use Rattle.writing.specs.declared.Written.TheVariants.{Bytes, NoRoom}
 use Rattle.table.specs.Take.{Sound}
 use Rattle.table.specs.declared.table.Table.{Table}
 use Rattle.records.specs.Stored.{entry_in, put_record}
@@ -68,17 +69,17 @@ entry_judged b block log index {x} {full} {j} {r} e f g h =
 
 -- ---- its answer
 
-pub taken_bytes : (w : Written) (code : ℕ) {k : ℕ} → w ≡ Bytes k → eqb code 0 ≡ was_taken w code
-taken_bytes w code e = ap (λ (x : Written). was_taken x code) (sym e)
+pub taken_bytes : (w : Result ℕ Refusal) (code : ℕ) {k : ℕ} → w ≡ Ok k → eqb code 0 ≡ was_taken w code
+taken_bytes w code e = ap (λ (x : Result ℕ Refusal). was_taken x code) (sym e)
 
-pub taken_none : (w : Written) (code : ℕ) → w ≡ NoRoom → false ≡ was_taken w code
-taken_none w code e = ap (λ (x : Written). was_taken x code) (sym e)
+pub taken_none : (w : Result ℕ Refusal) (code : ℕ) {why : Refusal} → w ≡ Err why → false ≡ was_taken w code
+taken_none w code e = ap (λ (x : Result ℕ Refusal). was_taken x code) (sym e)
 
-pub told_bytes : (b : Book) (j : Judged) (hands : ℕ) (w : Written) {k : ℕ} → w ≡ Bytes k
+pub told_bytes : (b : Book) (j : Judged) (hands : ℕ) (w : Result ℕ Refusal) {k : ℕ} → w ≡ Ok k
     → record { block = j.block; code = j.code; book = record { table = j.table; hands = hands }; written = k } ≡ answered_as b j hands w
 told_bytes b j hands w e = ap (answered_as b j hands) (sym e)
 
-pub told_none : (b : Book) (j : Judged) (hands : ℕ) (w : Written) → w ≡ NoRoom
+pub told_none : (b : Book) (j : Judged) (hands : ℕ) (w : Result ℕ Refusal) {why : Refusal} → w ≡ Err why
     → record { block = j.block; code = 12; book = b; written = 0 } ≡ answered_as b j hands w
 told_none b j hands w e = ap (answered_as b j hands) (sym e)
 
@@ -86,7 +87,7 @@ told_none b j hands w e = ap (answered_as b j hands) (sym e)
 pub told_within : (b : Book) (j : Judged) (hands : ℕ) (bs sheet : List ℕ) → (answered_as b j hands (written_of bs sheet)).written ≤ length sheet
 told_within b j hands bs sheet = go (fits bs sheet) refl
   where
-    go : (x : Bool) → fits bs sheet ≡ x → (answered_as b j hands (pick x (Bytes (length bs)) NoRoom)).written ≤ length sheet
+    go : (x : Bool) → fits bs sheet ≡ x → (answered_as b j hands (pick x (Ok (length bs)) (Err NoRoom))).written ≤ length sheet
     go true e = leb-true (length bs) (length sheet) e
     go false e = omega arith
 

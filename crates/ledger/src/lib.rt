@@ -22,13 +22,11 @@ use desk::Judged;
 use desk::quiet::write_judged;
 use fresh::{put_row_if, write_rows};
 use judged::{judge_entry, numbers_in};
-use paper::{NO_ROOM, Numbers, Sheet, TAKEN};
+use paper::{NO_ROOM, Numbers, Refusal, Sheet, TAKEN};
 use records::put_record;
 use table::settle::stands_now;
 use table::table::Table;
 use table::take::new_table;
-use text::sheet::value_in;
-use writing::Written;
 
 // The table and how many hands were opened: so many rows has the index. As many entries as the table has taken are stored.
 #[derive(Clone, Copy)]
@@ -56,7 +54,7 @@ pub struct Answered {
 }
 
 // The block that shows what was judged, at the front of the sheet, with the pots looked for.
-fn put_answer(j: Judged, sheet: &mut [u8]) -> Written
+fn put_answer(j: Judged, sheet: &mut [u8]) -> Result<usize, Refusal>
     requires { Sound j.table × SmallPaid j.payout × (j.n < 10 ^ 9) × Closed j.table j.payout }
     ensures answer { result ≡ written_of (judged_bytes j) sheet.old }
     ensures bytes { sheet.new ≡ sheet_after (judged_bytes j) sheet.old }
@@ -66,21 +64,21 @@ fn put_answer(j: Judged, sheet: &mut [u8]) -> Written
 }
 
 // A block is taken where its code is 0 and its answer was written.
-fn was_taken(w: Written, code: u8) -> bool
+fn was_taken(w: Result<usize, Refusal>, code: u8) -> bool
     ensures { result ≡ was_taken w code }
 {
     match w {
-        Written::Bytes(_) => code == TAKEN,
-        Written::NoRoom => false,
+        Ok(_) => code == TAKEN,
+        Err(_) => false,
     }
 }
 
 // What is said of a block that was judged, and whose answer was written or not. One whose answer was not written is not taken: code 12.
-fn told(b: Book, j: Judged, hands: u32, w: Written) -> Answered
+fn told(b: Book, j: Judged, hands: u32, w: Result<usize, Refusal>) -> Answered
     ensures { result ≡ answered_as b j hands w }
 {
     match w {
-        Written::Bytes(k) => {
+        Ok(k) => {
             let t = j.table;
             Answered {
                 block: j.block,
@@ -89,7 +87,7 @@ fn told(b: Book, j: Judged, hands: u32, w: Written) -> Answered
                 written: k,
             }
         }
-        Written::NoRoom => Answered {
+        Err(_) => Answered {
             block: j.block,
             code: NO_ROOM,
             book: b,
@@ -169,7 +167,7 @@ pub fn correct(
     let j = judge_right(t, shared, r, &log[0..]);
     let w = put_answer(j, sheet);
     let ok = was_taken(w, j.code);
-    rewrite(ok, t, value_in(number), numbers_in(block), log, index);
+    rewrite(ok, t, number.unwrap_or(0), numbers_in(block), log, index);
     told(b, j, b.hands, w)
 }
 

@@ -9,14 +9,13 @@ use native.Mathlib.Omega.{arith}
 use lib.ListN.{length, get_or}
 use lib.Dec.{eqb, ltb}
 use borrow.Author.Tests.{ne_eqb, eqb-true, eqb-false}
+use Rattle.std.specs.Prelude.{Option, Some, None, Err}
+use Rattle.paper.specs.declared.refusal.Refusal.TheVariants.{BadSheet}
 use Rattle.laws.specs.Tests.{pick}
 use Rattle.laws.proofs.Tests.{test}
 use Rattle.text.specs.Line.{line_len, after_line, after_lines, line_number}
 use Rattle.text.specs.Number.{number_of, well_formed}
 use Rattle.text.specs.TableSheet.{sheet_lines, sheet_keys, sheet_number, is_value, sheet_of}
-use Rattle.text.specs.declared.Number.{Number}
-use Rattle.text.specs.declared.Number.TheVariants as number
-use Rattle.text.specs.declared.sheet.SheetRead.TheVariants as read_as
 use Rattle.text.proofs.SheetLaws.{good_not, sheet_bad}
 use Rattle.blocks.specs.Block.{kind_of, line_kind, block_from, block_of}
 use Rattle.blocks.specs.declared.Block.TheVariants.{Malformed}
@@ -83,47 +82,47 @@ marked_long k (b ∷ bs) n h = ⊎_elim
 
 -- ---- a block of it is malformed
 
-no_number : (key x : List ℕ) → 32 < line_len x → line_number key x ≡ number.Bad
+no_number : (key x : List ℕ) → 32 < line_len x → line_number key x ≡ None
 unfolding number_of well_formed
 no_number key x h = ap number_of (value_long key x h)
 
-no_kind : (x : List ℕ) → 32 < line_len x → line_kind x ≡ number.Bad
+no_kind : (x : List ℕ) → 32 < line_len x → line_kind x ≡ None
 unfolding kind_of
 no_kind x h = ap kind_of (value_long (100 ∷ 111 ∷ []) x h)
 
-bad_2 : (n k s a b : Number) → k ≡ number.Bad → block_from n k s a b ≡ Malformed
-bad_2 n k s a b e = ap (λ (x : Number). block_from n x s a b) e ∙ go n
+bad_2 : (n k s a b : Option ℕ) → k ≡ None → block_from n k s a b ≡ Malformed
+bad_2 n k s a b e = ap (λ (x : Option ℕ). block_from n x s a b) e ∙ go n
   where
-    go : (n : Number) → block_from n number.Bad s a b ≡ Malformed
-    go number.Bad = refl
-    go (number.Value n) = refl
+    go : (n : Option ℕ) → block_from n None s a b ≡ Malformed
+    go None = refl
+    go (Some n) = refl
 
-bad_3 : (n k s a b : Number) → s ≡ number.Bad → block_from n k s a b ≡ Malformed
-bad_3 n k s a b e = ap (λ (x : Number). block_from n k x a b) e ∙ go n k
+bad_3 : (n k s a b : Option ℕ) → s ≡ None → block_from n k s a b ≡ Malformed
+bad_3 n k s a b e = ap (λ (x : Option ℕ). block_from n k x a b) e ∙ go n k
   where
-    go : (n k : Number) → block_from n k number.Bad a b ≡ Malformed
-    go number.Bad k = refl
-    go (number.Value n) number.Bad = refl
-    go (number.Value n) (number.Value k) = refl
+    go : (n k : Option ℕ) → block_from n k None a b ≡ Malformed
+    go None k = refl
+    go (Some n) None = refl
+    go (Some n) (Some k) = refl
 
-bad_4 : (n k s a b : Number) → a ≡ number.Bad → block_from n k s a b ≡ Malformed
-bad_4 n k s a b e = ap (λ (x : Number). block_from n k s x b) e ∙ go n k s
+bad_4 : (n k s a b : Option ℕ) → a ≡ None → block_from n k s a b ≡ Malformed
+bad_4 n k s a b e = ap (λ (x : Option ℕ). block_from n k s x b) e ∙ go n k s
   where
-    go : (n k s : Number) → block_from n k s number.Bad b ≡ Malformed
-    go number.Bad k s = refl
-    go (number.Value n) number.Bad s = refl
-    go (number.Value n) (number.Value k) number.Bad = refl
-    go (number.Value n) (number.Value k) (number.Value s) = refl
+    go : (n k s : Option ℕ) → block_from n k s None b ≡ Malformed
+    go None k s = refl
+    go (Some n) None s = refl
+    go (Some n) (Some k) None = refl
+    go (Some n) (Some k) (Some s) = refl
 
-bad_5 : (n k s a b : Number) → b ≡ number.Bad → block_from n k s a b ≡ Malformed
+bad_5 : (n k s a b : Option ℕ) → b ≡ None → block_from n k s a b ≡ Malformed
 bad_5 n k s a b e = ap (block_from n k s a) e ∙ go n k s a
   where
-    go : (n k s a : Number) → block_from n k s a number.Bad ≡ Malformed
-    go number.Bad k s a = refl
-    go (number.Value n) number.Bad s a = refl
-    go (number.Value n) (number.Value k) number.Bad a = refl
-    go (number.Value n) (number.Value k) (number.Value s) number.Bad = refl
-    go (number.Value n) (number.Value k) (number.Value s) (number.Value a) = refl
+    go : (n k s a : Option ℕ) → block_from n k s a None ≡ Malformed
+    go None k s a = refl
+    go (Some n) None s a = refl
+    go (Some n) (Some k) None a = refl
+    go (Some n) (Some k) (Some s) None = refl
+    go (Some n) (Some k) (Some s) (Some a) = refl
 
 some_block : (raw : List ℕ) → 0 < length raw → block_of raw
     ≡ block_from (line_number (110 ∷ []) raw) (line_kind (after_line raw)) (line_number (115 ∷ 101 ∷ 97 ∷ 116 ∷ []) (after_line (after_line raw)))
@@ -141,11 +140,11 @@ long_block i raw l h p =
     (line_number (110 ∷ []) raw) (line_kind second) (line_number (115 ∷ 101 ∷ 97 ∷ 116 ∷ []) third) (line_number (97 ∷ []) fourth) (line_number (98 ∷ []) fifth)
     (λ q. no_number (110 ∷ []) raw q) (λ q. no_kind second q) (λ q. no_number (115 ∷ 101 ∷ 97 ∷ 116 ∷ []) third q) (λ q. no_number (97 ∷ []) fourth q) (λ q. no_number (98 ∷ []) fifth q)
   where
-    go : (i : ℕ) → i ≤ 4 → 32 < line_len (after_lines i raw) → (n k s a b : Number)
-        → (32 < line_len raw → n ≡ number.Bad) → (32 < line_len (after_line raw) → k ≡ number.Bad) → (32 < line_len (after_line (after_line raw)) → s ≡ number.Bad)
-        → (32 < line_len (after_line (after_line (after_line raw))) → a ≡ number.Bad) → (32 < line_len (after_line (after_line (after_line (after_line raw)))) → b ≡ number.Bad)
+    go : (i : ℕ) → i ≤ 4 → 32 < line_len (after_lines i raw) → (n k s a b : Option ℕ)
+        → (32 < line_len raw → n ≡ None) → (32 < line_len (after_line raw) → k ≡ None) → (32 < line_len (after_line (after_line raw)) → s ≡ None)
+        → (32 < line_len (after_line (after_line (after_line raw))) → a ≡ None) → (32 < line_len (after_line (after_line (after_line (after_line raw)))) → b ≡ None)
         → block_from n k s a b ≡ Malformed
-    go zero l p n k s a b e f g h j = ap (λ (x : Number). block_from x k s a b) (e p)
+    go zero l p n k s a b e f g h j = ap (λ (x : Option ℕ). block_from x k s a b) (e p)
     go (suc zero) l p n k s a b e f g h j = bad_2 n k s a b (f p)
     go (suc (suc zero)) l p n k s a b e f g h j = bad_3 n k s a b (g p)
     go (suc (suc (suc zero))) l p n k s a b e f g h j = bad_4 n k s a b (h p)
@@ -181,7 +180,7 @@ bad_block (b ∷ bs) h l e =
     long_block s.line (b ∷ bs) (omega (arith, s.among)) (omega arith) s.long
 
 -- and a sheet is bad
-pub bad_sheet : (raw : List ℕ) → (keep_all nothing raw).bad ≡ true → lfs raw ≤ sheet_lines → after_lines sheet_lines raw ≡ [] → sheet_of raw ≡ read_as.Bad
+pub bad_sheet : (raw : List ℕ) → (keep_all nothing raw).bad ≡ true → lfs raw ≤ sheet_lines → after_lines sheet_lines raw ≡ [] → sheet_of raw ≡ Err BadSheet
 unfolding sheet_number
 bad_sheet raw h l e =
     let s = spoilt sheet_lines raw h l e in

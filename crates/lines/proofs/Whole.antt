@@ -9,6 +9,8 @@ use native.Mathlib.Omega.{arith}
 use lib.ListN.{length, get_or, take, drop, length-take, take-append-drop, drop_of_length-le}
 use lib.Dec.{eqb, ltb, leb}
 use borrow.Author.Tests.{leb-true, leb-false}
+use Rattle.std.specs.Prelude.{Err}
+use Rattle.paper.specs.declared.refusal.Refusal.TheVariants.{BadSheet}
 use Rattle.laws.specs.Tests.{pick, both}
 use Rattle.laws.proofs.Tests.{test}
 use Rattle.text.specs.Number.{number_of, well_formed}
@@ -16,7 +18,6 @@ use Rattle.text.specs.Line.{line_len, line_of, line_ended, has_key, value_of, af
 use Rattle.blocks.specs.Block.{block_of}
 use Rattle.blocks.specs.Front.{block_ended}
 use Rattle.text.specs.TableSheet.{sheet_lines, sheet_keys, sheet_number, is_value, sheet_of}
-use Rattle.text.specs.declared.sheet.SheetRead.TheVariants.{Bad}
 use Rattle.text.proofs.SheetLaws.{good_not, sheet_bad, sheet_same}
 use Rattle.lines.specs.Kept.{Kept, nothing, keep_all, Gathered, gather_of}
 use Rattle.lines.proofs.Cut.{ended, cap, lfs, cap_lf, cap_in, kept_bytes, lfs_lf, lfs_on, ended_is, value_same, cap_lines, cap_value, cap_block, lines_front, lines_lfs, front_line, front_block, lines_none}
@@ -77,7 +78,7 @@ number_open k l h =
     let z : lfs (after_lines k l) ≡ 0 = omega (arith, lines_lfs k l (omega arith)) in
     ap (λ (v : List ℕ). is_value (number_of v)) (value_open (get_or sheet_keys k []) (after_lines k l) (none_ended (after_lines k l) z))
 
-pub sheet_open : (l : List ℕ) → lfs l < sheet_lines → sheet_of l ≡ Bad
+pub sheet_open : (l : List ℕ) → lfs l < sheet_lines → sheet_of l ≡ Err BadSheet
 sheet_open l h = sheet_bad l (good_not sheet_lines (lfs l) l h (number_open (lfs l) l refl))
 
 -- ---- a log whose fifth line is ended has five LFs

@@ -7,6 +7,9 @@ use native.Mathlib.Omega.{arith}
 use lib.ListN.{length, length-append}
 use lib.Dec.{leb}
 use borrow.Author.Tests.{leb-true, eq-eqb, ne_eqb, le-leb, lt-leb}
+use Rattle.std.specs.Prelude.{Result, Ok, Err}
+use Rattle.paper.specs.declared.refusal.Refusal.TheVariants.{OutOfRange, NoRoom}
+use Rattle.paper.specs.declared.refusal.Refusal.{Refusal}
 use Rattle.laws.specs.Tests.{pick}
 use Rattle.paper.specs.declared.Sheet.{Sheet}
 use Rattle.paper.specs.declared.Entry.{Entry}
@@ -19,13 +22,9 @@ use Rattle.text.proofs.Lines.{line_count}
 use Rattle.text.proofs.Numbers.{count_most}
 use Rattle.blocks.specs.declared.Block.{Block}
 use Rattle.blocks.specs.declared.Block.TheVariants.{Raw}
-use Rattle.blocks.specs.declared.Parsed.{Parsed}
-use Rattle.logs.specs.declared.Put.{Put}
-use Rattle.logs.specs.declared.Put.TheVariants.{Bytes, NoRoom}
 use Rattle.logs.specs.declared.copy.Copied.{Copied}
 use Rattle.logs.specs.LogText.{entry_text, is_entry, put_of, put_after}
 use Rattle.logs.specs.FairCopy.{entry_copy, form_copy, block_copy, note_text, note_most, note_in, copied_as, left_as, entry_copied, form_copied, copied_of}
-use Rattle.blocks.specs.declared.Parsed.TheVariants as parsed
 
 -- no bytes are written anywhere
 after_none : (buffer : List ℕ) → buffer ≡ sheet_after [] buffer
@@ -44,30 +43,30 @@ pub copied_within : (good : Bool) (bs buffer : List ℕ) → (copied_as (put_of 
 copied_within false bs buffer = omega arith
 copied_within true bs buffer = go (fits bs buffer) refl
   where
-    go : (b : Bool) → fits bs buffer ≡ b → (copied_as (pick b (Bytes (length bs)) NoRoom)).written ≤ length buffer
+    go : (b : Bool) → fits bs buffer ≡ b → (copied_as (pick b (Ok (length bs)) (Err NoRoom))).written ≤ length buffer
     go true e = leb-true (length bs) (length buffer) e
     go false e = omega arith
 
 -- ---- the numbers of a block: an entry, or none
 
-module _ (sheet : Sheet) (n : ℕ) (p : Parsed) (buffer : List ℕ) where
-  pub entry_none : {r : Copied} → p ≡ parsed.OutOfRange → r ≡ left_as 2 → (r ≡ entry_copied sheet n p buffer) × (buffer ≡ sheet_after (entry_copy sheet n p) buffer)
-  entry_none {r} q f = (f ∙ sym (ap (λ (x : Parsed). entry_copied sheet n x buffer) q), after_none buffer ∙ ap (λ (x : Parsed). sheet_after (entry_copy sheet n x) buffer) (sym q))
+module _ (sheet : Sheet) (n : ℕ) (p : Result Entry Refusal) (buffer : List ℕ) where
+  pub entry_none : {r : Copied} {why : Refusal} → p ≡ Err why → r ≡ left_as 2 → (r ≡ entry_copied sheet n p buffer) × (buffer ≡ sheet_after (entry_copy sheet n p) buffer)
+  entry_none {r} q f = (f ∙ sym (ap (λ (x : Result Entry Refusal). entry_copied sheet n x buffer) q), after_none buffer ∙ ap (λ (x : Result Entry Refusal). sheet_after (entry_copy sheet n x) buffer) (sym q))
 
-  pub entry_put : {e : Entry} {w : Put} {r : Copied} {new : List ℕ} → p ≡ parsed.Read e → w ≡ put_of (is_entry sheet n e) (entry_text n e) buffer
+  pub entry_put : {e : Entry} {w : Result ℕ Refusal} {r : Copied} {new : List ℕ} → p ≡ Ok e → w ≡ put_of (is_entry sheet n e) (entry_text n e) buffer
       → new ≡ put_after (is_entry sheet n e) (entry_text n e) buffer → r ≡ copied_as w
       → (r ≡ entry_copied sheet n p buffer) × (new ≡ sheet_after (entry_copy sheet n p) buffer)
   entry_put {e} {w} {r} {new} q f g h = (
-    h ∙ ap copied_as f ∙ ap (λ (x : Parsed). entry_copied sheet n x buffer) (sym q),
-    g ∙ put_copy (is_entry sheet n e) (entry_text n e) buffer ∙ ap (λ (x : Parsed). sheet_after (entry_copy sheet n x) buffer) (sym q),
+    h ∙ ap copied_as f ∙ ap (λ (x : Result Entry Refusal). entry_copied sheet n x buffer) (sym q),
+    g ∙ put_copy (is_entry sheet n e) (entry_text n e) buffer ∙ ap (λ (x : Result Entry Refusal). sheet_after (entry_copy sheet n x) buffer) (sym q),
   )
 
   pub entry_within : (entry_copied sheet n p buffer).written ≤ length buffer
   entry_within = go p
     where
-      go : (x : Parsed) → (entry_copied sheet n x buffer).written ≤ length buffer
-      go (parsed.Read e) = copied_within (is_entry sheet n e) (entry_text n e) buffer
-      go parsed.OutOfRange = omega arith
+      go : (x : Result Entry Refusal) → (entry_copied sheet n x buffer).written ≤ length buffer
+      go (Ok e) = copied_within (is_entry sheet n e) (entry_text n e) buffer
+      go (Err why) = omega arith
 
 -- ---- a block: five numbers, or malformed
 
@@ -75,14 +74,14 @@ module _ (sheet : Sheet) (log buffer : List ℕ) where
   abbrev Said : Copied → List ℕ → Type 0
   Said r new = (r ≡ copied_of sheet log buffer) × ((new ≡ sheet_after (block_copy sheet log) buffer) × (r.written ≤ length buffer))
 
-  pub raw_copied : {blk : Block} {p : Parsed} {r : Copied} {new : List ℕ} {n k s a b : ℕ} → blk ≡ block_of log → blk ≡ Raw n k s a b → p ≡ parsed_of k s a b
+  pub raw_copied : {blk : Block} {p : Result Entry Refusal} {r : Copied} {new : List ℕ} {n k s a b : ℕ} → blk ≡ block_of log → blk ≡ Raw n k s a b → p ≡ parsed_of k s a b
       → r ≡ entry_copied sheet n p buffer → new ≡ sheet_after (entry_copy sheet n p) buffer → Said r new
   unfolding copied_of block_copy
   raw_copied {blk} {p} {r} {new} {n} {k} {s} {a} {b} e f g h i =
       let q : Raw n k s a b ≡ block_of log = sym f ∙ e in (
-        h ∙ ap (λ (x : Parsed). entry_copied sheet n x buffer) g ∙ ap (λ (x : Block). form_copied sheet x buffer) q,
+        h ∙ ap (λ (x : Result Entry Refusal). entry_copied sheet n x buffer) g ∙ ap (λ (x : Block). form_copied sheet x buffer) q,
         (
-          i ∙ ap (λ (x : Parsed). sheet_after (entry_copy sheet n x) buffer) g ∙ ap (λ (x : Block). sheet_after (form_copy sheet x) buffer) q,
+          i ∙ ap (λ (x : Result Entry Refusal). sheet_after (entry_copy sheet n x) buffer) g ∙ ap (λ (x : Block). sheet_after (form_copy sheet x) buffer) q,
           omega (arith, ap (λ (c : Copied). c.written) h, entry_within sheet n p buffer),
         ),
       )

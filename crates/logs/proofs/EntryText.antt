@@ -8,6 +8,7 @@ use native.Mathlib.Omega.{arith}
 use lib.ListN.{length, get_or, length-append}
 use lib.Dec.{leb, eqb}
 use borrow.Author.Tests.{leb-true, eqb-true}
+use Rattle.std.specs.Prelude.{Option, Some, None, Ok}
 use Rattle.laws.specs.Tests.{pick, both}
 use Rattle.laws.proofs.Tests.{both_true}
 use Rattle.laws.proofs.Rules.{all_below, below_all}
@@ -21,10 +22,7 @@ use Rattle.text.specs.Line.{after_line, line_number, number_line, value_of, afte
 use Rattle.blocks.specs.Block.{rest_of, place_in, all_letters, is_word, kind_of, line_kind, block_from, block_of}
 use Rattle.laws.specs.Listing.{same_list}
 use Rattle.blocks.specs.Entry.{parsed_of}
-use Rattle.text.specs.declared.Number.{Number}
-use Rattle.text.specs.declared.Number.TheVariants.{Value, Bad}
 use Rattle.blocks.specs.declared.Block.TheVariants.{Raw, Nothing}
-use Rattle.blocks.specs.declared.Parsed.TheVariants.{Read}
 use Rattle.laws.proofs.Members.{same_list_law}
 use Rattle.blocks.proofs.Blocks.{block_five}
 use Rattle.text.proofs.Lines.{line_count}
@@ -83,12 +81,12 @@ module _ (k : ℕ) (rest : List ℕ) (h : k < 12) where
   no_do : NoLF (100 ∷ 111 ∷ [])
   no_do = letters_no (100 ∷ 111 ∷ []) refl
 
-  pub kind_read : line_kind (word_line (name k) ++ rest) ≡ Value k
+  pub kind_read : line_kind (word_line (name k) ++ rest) ≡ Some k
   unfolding kind_of
   kind_read =
       let p = word_is in
       let most : length (name k) ≤ 8 = (word_parts (name k) p.0).1 in
-      let known : kind_of (name k) ≡ Value k = rw p.0 (ap Value p.1) in
+      let known : kind_of (name k) ≡ Some k = rw p.0 (ap Some p.1) in
       ap (λ (l : List ℕ). kind_of (value_of (100 ∷ 111 ∷ []) l)) (word_shape (name k) rest)
       ∙ ap kind_of (value_is (100 ∷ 111 ∷ []) (name k) rest no_do no_lf (omega arith))
       ∙ known
@@ -109,18 +107,18 @@ place_is (t ∷ ts) w h = go (same_list w t) refl h (λ i. place_is ts w i)
     go false e i r = r (omega arith)
 
 -- the word of a kind that was read
-word_was : (w : List ℕ) (k : ℕ) → kind_of w ≡ Value k → k < 12 → (0 < length w) × (name k ≡ w)
+word_was : (w : List ℕ) (k : ℕ) → kind_of w ≡ Some k → k < 12 → (0 < length w) × (name k ≡ w)
 unfolding kind_of
 word_was w k e h = go (is_word w) refl e
   where
-    go : (b : Bool) → is_word w ≡ b → pick b (Value (place_in kind_names w)) Bad ≡ Value k → (0 < length w) × (name k ≡ w)
+    go : (b : Bool) → is_word w ≡ b → pick b (Some (place_in kind_names w)) None ≡ Some k → (0 < length w) × (name k ≡ w)
     go true p q =
         let m : place_in kind_names w ≡ k = cc in
         let l : 1 ≤ length w = (word_parts w p).0 in
         (omega arith, ap name (sym m) ∙ place_is kind_names w (omega arith))
     go false p q = let z : ◌≡◌ {A = ℕ} 0 1 = cc in absurd (omega arith)
 
-kind_back : (log : List ℕ) (k : ℕ) → line_kind log ≡ Value k → k < 12 → log ≡ word_line (name k) ++ after_line log
+kind_back : (log : List ℕ) (k : ℕ) → line_kind log ≡ Some k → k < 12 → log ≡ word_line (name k) ++ after_line log
 kind_back log k e h =
     let w = value_of (100 ∷ 111 ∷ []) log in
     let p = word_was w k e h in
@@ -208,7 +206,7 @@ module _ (sheet : Sheet) (n : ℕ) (e : Entry) (h : is_entry sheet n e ≡ true)
   abbrev x : Numbers
   x = numbers_of e
 
-  pub entry_read : (block_of (entry_text n e ++ rest) ≡ Raw n x.kind x.seat x.a x.b) × (parsed_of x.kind x.seat x.a x.b ≡ Read e)
+  pub entry_read : (block_of (entry_text n e ++ rest) ≡ Raw n x.kind x.seat x.a x.b) × (parsed_of x.kind x.seat x.a x.b ≡ Ok e)
   entry_read = (block_read n x (entry_small sheet n e h) rest, entry_back e)
 
   pub entry_rest : rest_of (entry_text n e ++ rest) ≡ rest
@@ -217,20 +215,20 @@ module _ (sheet : Sheet) (n : ℕ) (e : Entry) (h : is_entry sheet n e ≡ true)
 -- ---- a block that was read is written back
 
 -- none of the five readings of a block is bad
-from_five : (p q r s t : Number) (n k seat a b : ℕ) → block_from p q r s t ≡ Raw n k seat a b
-    → (p ≡ Value n) × (q ≡ Value k) × (r ≡ Value seat) × (s ≡ Value a) × (t ≡ Value b)
-from_five Bad q r s t n k seat a b e = let z : ◌≡◌ {A = ℕ} 0 1 = cc in absurd (omega arith)
-from_five (Value n') Bad r s t n k seat a b e = let z : ◌≡◌ {A = ℕ} 0 1 = cc in absurd (omega arith)
-from_five (Value n') (Value k') Bad s t n k seat a b e = let z : ◌≡◌ {A = ℕ} 0 1 = cc in absurd (omega arith)
-from_five (Value n') (Value k') (Value seat') Bad t n k seat a b e = let z : ◌≡◌ {A = ℕ} 0 1 = cc in absurd (omega arith)
-from_five (Value n') (Value k') (Value seat') (Value a') Bad n k seat a b e = let z : ◌≡◌ {A = ℕ} 0 1 = cc in absurd (omega arith)
-from_five (Value n') (Value k') (Value seat') (Value a') (Value b') n k seat a b e = (cc, cc, cc, cc, cc)
+from_five : (p q r s t : Option ℕ) (n k seat a b : ℕ) → block_from p q r s t ≡ Raw n k seat a b
+    → (p ≡ Some n) × (q ≡ Some k) × (r ≡ Some seat) × (s ≡ Some a) × (t ≡ Some b)
+from_five None q r s t n k seat a b e = let z : ◌≡◌ {A = ℕ} 0 1 = cc in absurd (omega arith)
+from_five (Some n') None r s t n k seat a b e = let z : ◌≡◌ {A = ℕ} 0 1 = cc in absurd (omega arith)
+from_five (Some n') (Some k') None s t n k seat a b e = let z : ◌≡◌ {A = ℕ} 0 1 = cc in absurd (omega arith)
+from_five (Some n') (Some k') (Some seat') None t n k seat a b e = let z : ◌≡◌ {A = ℕ} 0 1 = cc in absurd (omega arith)
+from_five (Some n') (Some k') (Some seat') (Some a') None n k seat a b e = let z : ◌≡◌ {A = ℕ} 0 1 = cc in absurd (omega arith)
+from_five (Some n') (Some k') (Some seat') (Some a') (Some b') n k seat a b e = (cc, cc, cc, cc, cc)
 
 block_lines : (log : List ℕ) (n k seat a b : ℕ) → block_of log ≡ Raw n k seat a b
-    → (line_number (110 ∷ []) log ≡ Value n) × (line_kind (after_line log) ≡ Value k)
-    × (line_number (115 ∷ 101 ∷ 97 ∷ 116 ∷ []) (after_line (after_line log)) ≡ Value seat)
-    × (line_number (97 ∷ []) (after_line (after_line (after_line log))) ≡ Value a)
-    × (line_number (98 ∷ []) (after_line (after_line (after_line (after_line log)))) ≡ Value b)
+    → (line_number (110 ∷ []) log ≡ Some n) × (line_kind (after_line log) ≡ Some k)
+    × (line_number (115 ∷ 101 ∷ 97 ∷ 116 ∷ []) (after_line (after_line log)) ≡ Some seat)
+    × (line_number (97 ∷ []) (after_line (after_line (after_line log))) ≡ Some a)
+    × (line_number (98 ∷ []) (after_line (after_line (after_line (after_line log)))) ≡ Some b)
 unfolding block_of
 block_lines log n k seat a b e = go (eqb (length log) 0) e
   where
@@ -239,10 +237,10 @@ block_lines log n k seat a b e = go (eqb (length log) 0) e
         (block_from (line_number (110 ∷ []) log) (line_kind (after_line log)) (line_number (115 ∷ 101 ∷ 97 ∷ 116 ∷ []) (after_line (after_line log)))
         (line_number (97 ∷ []) (after_line (after_line (after_line log)))) (line_number (98 ∷ []) (after_line (after_line (after_line (after_line log))))))
         ≡ Raw n k seat a b
-        → (line_number (110 ∷ []) log ≡ Value n) × (line_kind (after_line log) ≡ Value k)
-        × (line_number (115 ∷ 101 ∷ 97 ∷ 116 ∷ []) (after_line (after_line log)) ≡ Value seat)
-        × (line_number (97 ∷ []) (after_line (after_line (after_line log))) ≡ Value a)
-        × (line_number (98 ∷ []) (after_line (after_line (after_line (after_line log)))) ≡ Value b)
+        → (line_number (110 ∷ []) log ≡ Some n) × (line_kind (after_line log) ≡ Some k)
+        × (line_number (115 ∷ 101 ∷ 97 ∷ 116 ∷ []) (after_line (after_line log)) ≡ Some seat)
+        × (line_number (97 ∷ []) (after_line (after_line (after_line log))) ≡ Some a)
+        × (line_number (98 ∷ []) (after_line (after_line (after_line (after_line log)))) ≡ Some b)
     go true q = let z : ◌≡◌ {A = ℕ} 0 1 = cc in absurd (omega arith)
     go false q =
         from_five (line_number (110 ∷ []) log) (line_kind (after_line log)) (line_number (115 ∷ 101 ∷ 97 ∷ 116 ∷ []) (after_line (after_line log)))
@@ -266,7 +264,7 @@ block_back log n k seat a b e h =
     ∙ sym (shape n (made k seat a b) (after_line l4))
 
 -- "a block the reader accepts is written back byte for byte"
-pub accepted_back : (log : List ℕ) (n k seat a b : ℕ) (e : Entry) → block_of log ≡ Raw n k seat a b → parsed_of k seat a b ≡ Read e → log ≡ entry_text n e ++ rest_of log
+pub accepted_back : (log : List ℕ) (n k seat a b : ℕ) (e : Entry) → block_of log ≡ Raw n k seat a b → parsed_of k seat a b ≡ Ok e → log ≡ entry_text n e ++ rest_of log
 accepted_back log n k seat a b e p q =
     let r = read_is k seat a b e q in
     block_back log n k seat a b p (kind_known k seat a b r.0)

@@ -9,6 +9,8 @@ use native.Mathlib.Omega.{arith}
 use lib.ListN.{length, length-append}
 use lib.Dec.{eqb}
 use borrow.Author.Tests.{eqb-true, eqb-false, ne_eqb}
+use Rattle.std.specs.Prelude.{Result, Ok, Err}
+use Rattle.paper.specs.declared.refusal.Refusal.{Refusal}
 use Rattle.laws.specs.Tests.{pick}
 use Rattle.laws.specs.Lists.{All}
 use Rattle.laws.proofs.Tests.{test}
@@ -21,8 +23,6 @@ use Rattle.blocks.specs.Entry.{parsed_of}
 use Rattle.text.specs.TableSheet.{sheet_lines, sheet_of, sheet_end}
 use Rattle.blocks.specs.declared.Block.{Block}
 use Rattle.blocks.specs.declared.Block.TheVariants.{Raw, Malformed, Nothing}
-use Rattle.blocks.specs.declared.Parsed.{Parsed}
-use Rattle.text.specs.declared.sheet.SheetRead.{SheetRead}
 use Rattle.blocks.proofs.Blocks.{rest_shorter}
 use Rattle.text.proofs.Lines.{after_lines_no_longer}
 use Rattle.text.proofs.SheetLaws.{sheet_is}
@@ -31,8 +31,6 @@ use Rattle.logs.specs.FairCopy.{entry_code, form_code, block_code, entry_copy, f
 use Rattle.logs.proofs.SheetText.{sheet_read, sheet_rest, sheet_back}
 use Rattle.logs.proofs.EntryText.{entry_read, entry_rest, accepted_back}
 use Rattle.logs.proofs.KindRows.{block_count}
-use Rattle.blocks.specs.declared.Parsed.TheVariants as parsed
-use Rattle.text.specs.declared.sheet.SheetRead.TheVariants as read_as
 
 abbrev pub Zero : ℕ → Type 0
 Zero c = c ≡ 0
@@ -50,10 +48,10 @@ block_case : (sheet : Sheet) (log : List ℕ) → ((block_copy sheet log ≡ [])
 unfolding block_copy block_code
 block_case sheet log = form (block_of log) refl
   where
-    read : (n k s a b : ℕ) (p : Parsed) → block_of log ≡ Raw n k s a b → parsed_of k s a b ≡ p
+    read : (n k s a b : ℕ) (p : Result Entry Refusal) → block_of log ≡ Raw n k s a b → parsed_of k s a b ≡ p
         → ((entry_copy sheet n p ≡ []) × (entry_code sheet n p ≡ 0 → ⊥)) ⊎ ((form_copy sheet (block_of log) ≡ entry_copy sheet n p) → Stands sheet log)
-    read n k s a b parsed.OutOfRange e f = inl (refl, λ z. omega arith)
-    read n k s a b (parsed.Read x) e f = ⊎_elim
+    read n k s a b (Err why) e f = inl (refl, λ z. omega arith)
+    read n k s a b (Ok x) e f = ⊎_elim
         (λ t. inr (λ c. record { n = n; entry = x; good = t; copy = c ∙ ap (λ (g : Bool). pick g (entry_text n x) []) t; back = accepted_back log n k s a b x e f }))
         (λ t. inl (ap (λ (g : Bool). pick g (entry_text n x) []) t, λ z. omega (arith, ap (λ (g : Bool). when (not g) 2) t)))
         (test (is_entry sheet n x))
@@ -103,13 +101,13 @@ copies_clean (suc j) (suc k) sheet log = ⊎_elim
     (test (eqb (length log) 0))
 
 -- "its output is a log that the clerk reads without a code 1 or 2", and with the same sheet
-pub fair_clean : (log : List ℕ) (s : Sheet) → sheet_of log ≡ read_as.Read s
-    → (sheet_of (fair_copy log) ≡ read_as.Read s) × ((j : ℕ) → All Zero (codes_from j s (sheet_end (fair_copy log))))
+pub fair_clean : (log : List ℕ) (s : Sheet) → sheet_of log ≡ Ok s
+    → (sheet_of (fair_copy log) ≡ Ok s) × ((j : ℕ) → All Zero (codes_from j s (sheet_end (fair_copy log))))
 unfolding fair_copy
 fair_clean log s e =
     let good = sheet_is log s e in
     let more : List ℕ = copies_from (length log) s (sheet_end log) in
-    let is : fair_from (sheet_of log) log ≡ sheet_text s ++ more = ap (λ (o : SheetRead). fair_from o log) e in (
+    let is : fair_from (sheet_of log) log ≡ sheet_text s ++ more = ap (λ (o : Result Sheet Refusal). fair_from o log) e in (
       ap sheet_of is ∙ sheet_read s good more,
       λ j. subst (λ (l : List ℕ). All Zero (codes_from j s l)) (sym (ap sheet_end is ∙ sheet_rest s good more)) (copies_clean j (length log) s (sheet_end log)),
     )
@@ -138,9 +136,9 @@ copies_same (suc k) sheet log h z = ⊎_elim
     (block_case sheet log))
     (test (eqb (length log) 0))
 
-pub fair_same : (log : List ℕ) (s : Sheet) → sheet_of log ≡ read_as.Read s → All Zero (codes_from (length log) s (sheet_end log)) → fair_copy log ≡ log
+pub fair_same : (log : List ℕ) (s : Sheet) → sheet_of log ≡ Ok s → All Zero (codes_from (length log) s (sheet_end log)) → fair_copy log ≡ log
 unfolding fair_copy sheet_end
 fair_same log s e z =
-    ap (λ (o : SheetRead). fair_from o log) e
+    ap (λ (o : Result Sheet Refusal). fair_from o log) e
     ∙ ap (λ (l : List ℕ). sheet_text s ++ l) (copies_same (length log) s (sheet_end log) (after_lines_no_longer sheet_lines log) z)
     ∙ sym (sheet_back log s e)

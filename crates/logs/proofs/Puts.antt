@@ -7,6 +7,8 @@ use native.Mathlib.Omega.{arith}
 use lib.ListN.{length, get_or, drop, length-append, length-drop}
 use borrow.Author.Tests.{le-leb, lt-leb}
 use borrow.Rule.Slice.PartMut.{mid_of, put_mid}
+use Rattle.std.specs.Prelude.{Ok, Err}
+use Rattle.paper.specs.declared.refusal.Refusal.TheVariants.{OutOfRange, NoRoom}
 use Rattle.laws.specs.Tests.{both}
 use Rattle.paper.specs.Paper.{sheet_values, is_sheet, in_range}
 use Rattle.paper.proofs.Sheets.{good_small}
@@ -17,7 +19,6 @@ use Rattle.writing.specs.AnswerSheet.{Wrote, fits}
 use Rattle.text.specs.TableSheet.{sheet_lines, sheet_keys}
 use Rattle.writing.proofs.Sheets.{then}
 use Rattle.text.proofs.Parts.{part_is}
-use Rattle.logs.specs.declared.Put.TheVariants.{Bytes, OutOfRange, NoRoom}
 use Rattle.logs.specs.LogText.{number_lines, sheet_text, is_entry, put_of, put_after}
 use Rattle.logs.proofs.SheetText.{lines_on, lines_end}
 
@@ -92,13 +93,13 @@ module _ {vs old now : List ℕ} {k at : ℕ} (g : Going vs old now k at) where
 -- ---- the three answers
 
 module _ (good : Bool) (bs old : List ℕ) where
-  pub put_refused : good ≡ false → (OutOfRange ≡ put_of good bs old) × (old ≡ put_after good bs old)
+  pub put_refused : good ≡ false → (Err OutOfRange ≡ put_of good bs old) × (old ≡ put_after good bs old)
   put_refused e = (rw e, rw e)
 
-  pub put_short : good ≡ true → length old < length bs → (NoRoom ≡ put_of good bs old) × (old ≡ put_after good bs old)
+  pub put_short : good ≡ true → length old < length bs → (Err NoRoom ≡ put_of good bs old) × (old ≡ put_after good bs old)
   put_short e h = let f : fits bs old ≡ false = lt-leb (length bs) (length old) h in (rw (e, f), rw (e, f))
 
-  pub put_done : {new : List ℕ} {r : ℕ} → good ≡ true → length bs ≤ length old → Wrote bs old new r → (Bytes r ≡ put_of good bs old) × (new ≡ put_after good bs old)
+  pub put_done : {new : List ℕ} {r : ℕ} → good ≡ true → length bs ≤ length old → Wrote bs old new r → (Ok r ≡ put_of good bs old) × (new ≡ put_after good bs old)
   put_done {new} {r} e h w = let f : fits bs old ≡ true = le-leb (length bs) (length old) h in (rw (e, f, w.count), rw (e, f) w.sheet)
 
 -- the two tests of an entry

@@ -10,6 +10,7 @@ use lib.ListN.{length, get_or, drop, drop_of_length-le}
 use lib.Seq.{drop-cons}
 use lib.Dec.{leb}
 use borrow.Author.Tests.{leb-true}
+use Rattle.std.specs.Prelude.{Option, Some, None, Ok}
 use Rattle.laws.specs.Tests.{both}
 use Rattle.laws.proofs.Tests.{both_true}
 use Rattle.laws.proofs.Rules.{all_below, below_all}
@@ -20,13 +21,10 @@ use Rattle.paper.proofs.Sheets.{good_small, sheet_made}
 use Rattle.text.specs.Line.{after_line, line_number, number_line, after_lines}
 use Rattle.blocks.specs.Block.{all_letters}
 use Rattle.text.specs.TableSheet.{sheet_lines, sheet_keys, sheet_number, is_value, value_in, all_good, values_from, sheet_with, sheet_of, sheet_end}
-use Rattle.text.specs.declared.Number.{Number}
-use Rattle.text.specs.declared.Number.TheVariants.{Value, Bad}
 use Rattle.text.proofs.RoundTrip.{NoLF, read_line, read_rest}
 use Rattle.text.proofs.ReadBack.{line_back}
 use Rattle.text.proofs.SheetLaws.{good_each, value_at, sheet_good, sheet_said}
 use Rattle.logs.specs.LogText.{number_lines, sheet_text}
-use Rattle.text.specs.declared.sheet.SheetRead.TheVariants as read_as
 
 -- ---- lines by a table of keys, of any length
 
@@ -59,7 +57,7 @@ after_lines_law (suc k) (key ∷ ks) (v ∷ vs) rest f h =
 
 -- and the next one is read
 line_number_law : (k : ℕ) (ks : List (List ℕ)) (vs rest : List ℕ) → Fit ks vs → k < length ks
-    → line_number (get_or ks k []) (number_lines (drop k ks) (drop k vs) ++ rest) ≡ Value (get_or vs k 0)
+    → line_number (get_or ks k []) (number_lines (drop k ks) (drop k vs) ++ rest) ≡ Some (get_or vs k 0)
 line_number_law k [] vs rest f h = absurd (omega arith)
 line_number_law k (key ∷ ks) [] rest f h = absurd (omega (arith, (f 0 (omega arith)).3))
 line_number_law zero (key ∷ ks) (v ∷ vs) rest f h =
@@ -98,7 +96,7 @@ fit s good k h =
 -- ---- reading what was written
 
 module _ (s : Sheet) (good : is_sheet s ≡ true) (rest : List ℕ) where
-  number_read : (k : ℕ) → k < sheet_lines → sheet_number k (sheet_text s ++ rest) ≡ Value (get_or (sheet_values s) k 0)
+  number_read : (k : ℕ) → k < sheet_lines → sheet_number k (sheet_text s ++ rest) ≡ Some (get_or (sheet_values s) k 0)
   unfolding sheet_number sheet_text
   number_read k h =
       rw (after_lines_law k sheet_keys (sheet_values s) rest (fit s good) (omega arith), line_number_law k sheet_keys (sheet_values s) rest (fit s good) h)
@@ -110,7 +108,7 @@ module _ (s : Sheet) (good : is_sheet s ≡ true) (rest : List ℕ) where
   values_read : (n k : ℕ) → k + n ≡ sheet_lines → values_from n k (sheet_text s ++ rest) ≡ drop k (sheet_values s)
   values_read zero k h = sym (drop_of_length-le (sheet_values s) {i = k} (omega arith))
   values_read (suc n) k h =
-      ap (λ (x : Number). value_in x ∷ values_from n (k + 1) (sheet_text s ++ rest)) (number_read k (omega arith))
+      ap (λ (x : Option ℕ). value_in x ∷ values_from n (k + 1) (sheet_text s ++ rest)) (number_read k (omega arith))
       ∙ ap (λ (vs : List ℕ). get_or (sheet_values s) k 0 ∷ vs) (values_read n (k + 1) (omega arith) ∙ ap (λ (i : ℕ). drop i (sheet_values s)) (add-one k))
       ∙ sym (drop-cons (sheet_values s) k 0 (omega arith))
 
@@ -119,10 +117,10 @@ module _ (s : Sheet) (good : is_sheet s ≡ true) (rest : List ℕ) where
   with_read = ap sheet_by (values_read sheet_lines 0 refl) ∙ sheet_made s
 
   -- the same sheet
-  pub sheet_read : sheet_of (sheet_text s ++ rest) ≡ read_as.Read s
+  pub sheet_read : sheet_of (sheet_text s ++ rest) ≡ Ok s
   sheet_read =
       let e = with_read in
-      sheet_good (sheet_text s ++ rest) (all_read sheet_lines (omega arith)) (ap is_sheet e ∙ good) ∙ ap read_as.Read e
+      sheet_good (sheet_text s ++ rest) (all_read sheet_lines (omega arith)) (ap is_sheet e ∙ good) ∙ ap Ok e
 
   -- and the rest
   pub sheet_rest : sheet_end (sheet_text s ++ rest) ≡ rest
@@ -131,9 +129,9 @@ module _ (s : Sheet) (good : is_sheet s ≡ true) (rest : List ℕ) where
 
 -- ---- a sheet that was read is written back
 
-value_was : (x : Number) → is_value x ≡ true → x ≡ Value (value_in x)
-value_was Bad e = absurd (true≢false (sym e))
-value_was (Value v) e = refl
+value_was : (x : Option ℕ) → is_value x ≡ true → x ≡ Some (value_in x)
+value_was None e = absurd (true≢false (sym e))
+value_was (Some v) e = refl
 
 -- the sheet's k-th number is that of the k-th line
 with_row : (log : List ℕ) (k : ℕ) → k < sheet_lines → get_or (sheet_values (sheet_with log)) k 0 ≡ value_in (sheet_number k log)
@@ -144,14 +142,14 @@ after_next : (k : ℕ) (log : List ℕ) → after_line (after_lines k log) ≡ a
 after_next zero log = refl
 after_next (suc k) log = after_next k (after_line log)
 
-module _ (log : List ℕ) (s : Sheet) (e : sheet_of log ≡ read_as.Read s) where
-  line_was : (k : ℕ) → k < sheet_lines → line_number (get_or sheet_keys k []) (after_lines k log) ≡ Value (get_or (sheet_values s) k 0)
+module _ (log : List ℕ) (s : Sheet) (e : sheet_of log ≡ Ok s) where
+  line_was : (k : ℕ) → k < sheet_lines → line_number (get_or sheet_keys k []) (after_lines k log) ≡ Some (get_or (sheet_values s) k 0)
   unfolding sheet_number
   line_was k h =
       let p = sheet_said log s e in
       value_was (line_number (get_or sheet_keys k []) (after_lines k log)) (good_each sheet_lines k log h p.0)
-      ∙ ap Value (sym (with_row log k h))
-      ∙ ap (λ (t : Sheet). Value (get_or (sheet_values t) k 0)) p.1
+      ∙ ap Some (sym (with_row log k h))
+      ∙ ap (λ (t : Sheet). Some (get_or (sheet_values t) k 0)) p.1
 
   lines_were : (j k : ℕ) → k + j ≡ sheet_lines → after_lines k log ≡ number_lines (drop k sheet_keys) (drop k (sheet_values s)) ++ after_lines sheet_lines log
   lines_were zero k q =

@@ -1,9 +1,12 @@
 -- Document 01, "The table sheet and the entries": "Text is key=value lines in a fixed order, each ended by one LF". Request No. 1: "the part that writes a
 -- table sheet and any entry in 01's text form into a lent buffer, with code 12 when it is too short and no byte changed .. Numbers outside 01's ranges,
 -- seats read against the sheet, get code 2 before 12, and nothing is written." Assumes nothing.
-use Rattle.std.specs.Prelude.{ℕ, ◌<◌, ◌^◌, List, [], ◌∷◌, ◌++◌, Bool, length, get_or}
+use Rattle.std.specs.Prelude.{ℕ, ◌<◌, ◌^◌, List, [], ◌∷◌, ◌++◌, Bool, length, get_or, Result, Ok, Err}
+use Rattle.paper.specs.declared.refusal.Refusal.TheVariants.{OutOfRange, NoRoom}
+use Rattle.paper.specs.declared.refusal.Refusal.{Refusal}
 use Rattle.laws.specs.Tests.{pick, both}
-use Rattle.paper.specs.RefusalNumbers.{taken, out_of_range, no_room}
+use Rattle.paper.specs.RefusalNumbers.{taken}
+use Rattle.paper.specs.Refusals.{number_of}
 use Rattle.paper.specs.SheetAndEntries.{kind_names, numbers_of, sheet_values, is_sheet, in_range}
 use Rattle.paper.specs.declared.Sheet.{Sheet}
 use Rattle.paper.specs.declared.Numbers.{Numbers}
@@ -11,8 +14,6 @@ use Rattle.paper.specs.declared.Entry.{Entry}
 use Rattle.text.specs.Line.{number_line}
 use Rattle.text.specs.TableSheet.{sheet_keys}
 use Rattle.writing.specs.AnswerSheet.{fits, sheet_after}
-use Rattle.logs.specs.declared.Put.{Put}
-use Rattle.logs.specs.declared.Put.TheVariants.{Bytes, OutOfRange, NoRoom}
 
 -- ---- the sheet: its lines are those of text's one table
 
@@ -58,14 +59,13 @@ is_entry sheet n e = both (is_sheet sheet) (in_range sheet n e)
 
 -- ---- what is answered, and the lent buffer afterwards: 2 before 12, and with either no byte changed
 
-abbrev pub put_of : Bool → List ℕ → List ℕ → Put
-put_of good bs buffer = pick good (pick (fits bs buffer) (Bytes (length bs)) NoRoom) OutOfRange
+abbrev pub put_of : Bool → List ℕ → List ℕ → Result ℕ Refusal
+put_of good bs buffer = pick good (pick (fits bs buffer) (Ok (length bs)) (Err NoRoom)) (Err OutOfRange)
 
 abbrev pub put_after : Bool → List ℕ → List ℕ → List ℕ
 put_after good bs buffer = pick good (sheet_after bs buffer) buffer
 
 -- the paper's number for each answer
-abbrev pub code_of_put : Put → ℕ
-code_of_put (Bytes k) = taken
-code_of_put OutOfRange = out_of_range
-code_of_put NoRoom = no_room
+abbrev pub code_of_put : Result ℕ Refusal → ℕ
+code_of_put (Ok k) = taken
+code_of_put (Err why) = number_of why

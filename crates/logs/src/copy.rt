@@ -5,10 +5,10 @@ ghost use Rattle.writing.specs.AnswerSheet.{Wrote, sheet_after};
 ghost use Rattle.logs.specs.LogText.{sheet_text, put_of, put_after};
 ghost use Rattle.logs.specs.FairCopy.{entry_copy, block_copy, note_text, note_in, next_number, copied_as, left_as, entry_copied, copied_of};
 
-use crate::{Put, write_entry, write_sheet};
-use blocks::{Block, Parsed, entry_of, read_block};
+use crate::{write_entry, write_sheet};
+use blocks::{Block, entry_of, read_block};
 use laws::least;
-use paper::{MALFORMED, NO_ROOM, OUT_OF_RANGE, Sheet, TAKEN};
+use paper::{Entry, MALFORMED, OUT_OF_RANGE, Refusal, Sheet, TAKEN};
 use writing::{put_bytes, put_digits, write_number_line};
 
 // No line about a block that is left out is longer.
@@ -27,26 +27,25 @@ fn left_out(code: u8) -> Copied
     Copied { code, written: 0 }
 }
 
-fn told(p: Put) -> Copied
+fn told(p: Result<usize, Refusal>) -> Copied
     ensures { result ≡ copied_as p }
 {
     match p {
-        Put::Bytes(k) => Copied {
+        Ok(k) => Copied {
             code: TAKEN,
             written: k,
         },
-        Put::OutOfRange => left_out(OUT_OF_RANGE),
-        Put::NoRoom => left_out(NO_ROOM),
+        Err(why) => left_out(why.number()),
     }
 }
 
-fn copy_entry(sheet: Sheet, n: u32, p: Parsed, buffer: &mut [u8]) -> Copied
+fn copy_entry(sheet: Sheet, n: u32, p: Result<Entry, Refusal>, buffer: &mut [u8]) -> Copied
     ensures answer { result ≡ entry_copied sheet n p buffer.old }
     ensures bytes { buffer.new ≡ sheet_after (entry_copy sheet n p) buffer.old }
 {
     match p {
-        Parsed::OutOfRange => left_out(OUT_OF_RANGE),
-        Parsed::Read(e) => told(write_entry(sheet, n, e, buffer)),
+        Err(_) => left_out(OUT_OF_RANGE),
+        Ok(e) => told(write_entry(sheet, n, e, buffer)),
     }
 }
 

@@ -4,9 +4,8 @@ ghost use Rattle.paper.specs.SheetAndEntries.{kind_names};
 ghost use Rattle.writing.specs.AnswerSheet.{Wrote};
 ghost use Rattle.logs.specs.LogText.{word_line, block_text, entry_text, is_entry, put_of, put_after, SmallEntry};
 
-use crate::Put;
 use laws::both;
-use paper::{Entry, Numbers, Sheet, in_range, is_sheet, numbers_of};
+use paper::{Entry, Numbers, Refusal, Sheet, in_range, is_sheet, numbers_of};
 use writing::{digit_count, put_bytes, write_number_line};
 
 // A kind's line with its LF, and how many bytes it has.
@@ -106,16 +105,16 @@ fn put_block(buffer: &mut [u8], n: u32, x: Numbers) -> usize
 
 // The entry and its n at the front of the buffer; or nothing, where a number is outside its range, the seat read against the sheet, or the buffer is too
 // short.
-pub fn write_entry(sheet: Sheet, n: u32, e: Entry, buffer: &mut [u8]) -> Put
+pub fn write_entry(sheet: Sheet, n: u32, e: Entry, buffer: &mut [u8]) -> Result<usize, Refusal>
     ensures answer { result ≡ put_of (is_entry sheet n e) (entry_text n e) buffer.old }
     ensures bytes { buffer.new ≡ put_after (is_entry sheet n e) (entry_text n e) buffer.old }
 {
     if both(is_sheet(sheet), in_range(sheet, n, e)) {
         let x = numbers_of(e);
         if buffer.len() < block_len(n, x) {
-            return Put::NoRoom;
+            return Err(Refusal::NoRoom);
         }
-        return Put::Bytes(put_block(buffer, n, x));
+        return Ok(put_block(buffer, n, x));
     }
-    Put::OutOfRange
+    Err(Refusal::OutOfRange)
 }

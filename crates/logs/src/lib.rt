@@ -7,11 +7,3 @@ mod sheet;
 
 pub use entry::write_entry;
 pub use sheet::write_sheet;
-
-// How many bytes were written; that a number is outside its range: code 2; or that the buffer is too short: code 12.
-#[derive(Clone, Copy)]
-pub enum Put {
-    Bytes(usize),
-    OutOfRange,
-    NoRoom,
-}

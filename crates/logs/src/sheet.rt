@@ -4,8 +4,7 @@ ghost use Rattle.paper.specs.Paper.{sheet_values, is_sheet};
 ghost use Rattle.writing.specs.AnswerSheet.{Wrote};
 ghost use Rattle.logs.specs.LogText.{sheet_text, put_of, put_after};
 
-use crate::Put;
-use paper::{Sheet, is_sheet};
+use paper::{Refusal, Sheet, is_sheet};
 use text::sheet::LINES;
 use writing::sheet::{line_len, put_line};
 
@@ -49,15 +48,15 @@ fn put_sheet(s: Sheet, buffer: &mut [u8]) -> usize
 }
 
 // The sheet at the front of the buffer; or nothing, where a number is outside its range or the buffer is too short.
-pub fn write_sheet(s: Sheet, buffer: &mut [u8]) -> Put
+pub fn write_sheet(s: Sheet, buffer: &mut [u8]) -> Result<usize, Refusal>
     ensures answer { result ≡ put_of (is_sheet s) (sheet_text s) buffer.old }
     ensures bytes { buffer.new ≡ put_after (is_sheet s) (sheet_text s) buffer.old }
 {
     if is_sheet(s) {
         if buffer.len() < sheet_len(s) {
-            return Put::NoRoom;
+            return Err(Refusal::NoRoom);
         }
-        return Put::Bytes(put_sheet(s, buffer));
+        return Ok(put_sheet(s, buffer));
     }
-    Put::OutOfRange
+    Err(Refusal::OutOfRange)
 }

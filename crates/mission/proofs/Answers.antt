@@ -9,10 +9,11 @@ use native.Mathlib.Omega.{arith}
 use lib.ListN.{length}
 use lib.Dec.{leb}
 use borrow.Author.Tests.{ne_eqb, leb-false}
+use Rattle.std.specs.Prelude.{Ok, Err}
+use Rattle.paper.specs.declared.refusal.Refusal.TheVariants.{NoRoom}
 use Rattle.laws.specs.Tests.{pick}
 use Rattle.blocks.specs.Block.{rest_of}
 use Rattle.writing.specs.AnswerSheet.{fits, over, sheet_after}
-use Rattle.writing.specs.declared.Written.TheVariants.{Bytes, NoRoom}
 use Rattle.table.specs.declared.table.Table.{Table}
 use Rattle.desk.specs.Desk.{judged_of, block_bytes, answered_from, answered_of}
 use Rattle.desk.specs.Log.{blocks_from}
@@ -24,8 +25,8 @@ module _ (t : Table) (log sheet : List ℕ) where
   unfolding answered_of
   codes = go (fits (block_bytes t log) sheet)
     where
-      go : (b : Bool) → ((answered_from t (judged_of t log) (pick b (Bytes (length (block_bytes t log))) NoRoom)).code ≤ 10)
-          ⊎ ((answered_from t (judged_of t log) (pick b (Bytes (length (block_bytes t log))) NoRoom)).code ≡ 12)
+      go : (b : Bool) → ((answered_from t (judged_of t log) (pick b (Ok (length (block_bytes t log))) (Err NoRoom))).code ≤ 10)
+          ⊎ ((answered_from t (judged_of t log) (pick b (Ok (length (block_bytes t log))) (Err NoRoom))).code ≡ 12)
       go true = inl (judged_most t log)
       go false = inr refl
 
@@ -42,7 +43,7 @@ module _ (t : Table) (log sheet : List ℕ) where
   long_sheet h = go (fits (block_bytes t log) sheet) refl
     where
       go : (b : Bool) → fits (block_bytes t log) sheet ≡ b
-          → ((answered_from t (judged_of t log) (pick b (Bytes (length (block_bytes t log))) NoRoom)).code ≡ (judged_of t log).code) × (pick b (over (block_bytes t log) sheet) sheet ≡ over (block_bytes t log) sheet)
+          → ((answered_from t (judged_of t log) (pick b (Ok (length (block_bytes t log))) (Err NoRoom))).code ≡ (judged_of t log).code) × (pick b (over (block_bytes t log) sheet) sheet ≡ over (block_bytes t log) sheet)
       go true e = (refl, refl)
       go false e = absurd (omega (arith, h, borrow-short e))
         where

@@ -1,5 +1,7 @@
 -- One theorem at the top: for every list of parts, whatever bytes they hold and wherever they are cut, the bytes that are handed to `write`, and that the mission's
 -- demands 1, 2 and 3 hold of them. Assumes nothing.
+use Rattle.std.specs.Prelude.{Result, Ok, Err}
+use Rattle.paper.specs.declared.refusal.Refusal.{Refusal}
 use Rattle.desk.specs.Log.{opened_of, output_of}
 use Rattle.desk.proofs.Opened.{opened_is}
 use Prim.Native.Nat.{ℕ, ◌≤◌}
@@ -8,8 +10,6 @@ use mathlib.Core.List.{List, [], ◌∷◌}
 use lib.ListN.{length}
 use Rattle.laws.specs.Lists.{All}
 use Rattle.paper.specs.declared.Sheet.{Sheet}
-use Rattle.text.specs.declared.sheet.SheetRead.{SheetRead}
-use Rattle.text.specs.declared.sheet.SheetRead.TheVariants.{Read, Bad}
 use Rattle.table.specs.declared.table.Table.{Table}
 use Rattle.history.specs.AsNoted.{AsNoted}
 use Rattle.history.specs.Notebook.{notebook}
@@ -31,7 +31,7 @@ each P Q f [] a = tt
 each P Q f (g ∷ gs) a = (f g a.0, each P Q f gs a.1)
 
 -- of one log
-log_answered : (log : List ℕ) (s : Sheet) → opened_of log ≡ Read s → Answered s log (output_of log)
+log_answered : (log : List ℕ) (s : Sheet) → opened_of log ≡ Ok s → Answered s log (output_of log)
 log_answered log s e =
     let all = shown_right log s e in
     let ok = opened_is log s e in
@@ -47,9 +47,9 @@ log_answered log s e =
 pub log_box : (log : List ℕ) → Box (opened_of log) log (output_of log)
 log_box log = go (opened_of log) refl
   where
-    go : (o : SheetRead) → opened_of log ≡ o → Box o log (output_of log)
-    go (Read s) e = log_answered log s e
-    go Bad e = written_bad log e
+    go : (o : Result Sheet Refusal) → opened_of log ≡ o → Box o log (output_of log)
+    go (Ok s) e = log_answered log s e
+    go (Err why) e = written_bad log e
 
 -- of its parts, any number of them, none and empty ones too: what is handed to `write` where each call of `feed` and the close are lent room for the longest answer
 pub the_box : (room : ℕ) (buf : List ℕ) (parts : List (List ℕ)) → longest_answer ≤ room → kept_most ≤ length buf

@@ -1,4 +1,6 @@
 -- Each answer to a log shows what the clerk of demand 3 finds from the entries that are taken by then. For every log with a good sheet. Assumes nothing.
+use Rattle.std.specs.Prelude.{Result, Ok, Err}
+use Rattle.paper.specs.declared.refusal.Refusal.{Refusal}
 use Rattle.desk.specs.Log.{opened_of}
 use Rattle.desk.proofs.Opened.{opened_is}
 use Prim.Native.Nat.{ℕ, zero, suc, ◌+◌, ◌≤◌}
@@ -26,9 +28,6 @@ use Rattle.blocks.specs.Entry.{parsed_of}
 use Rattle.text.specs.TableSheet.{sheet_end}
 use Rattle.blocks.specs.declared.Block.{Block}
 use Rattle.blocks.specs.declared.Block.TheVariants.{Raw, Malformed, Nothing}
-use Rattle.blocks.specs.declared.Parsed.{Parsed}
-use Rattle.text.specs.declared.sheet.SheetRead.{SheetRead}
-use Rattle.text.specs.declared.sheet.SheetRead.TheVariants.{Read}
 use Rattle.table.specs.declared.table.Table.{Table}
 use Rattle.table.specs.declared.table.Payout.{Payout as Paid}
 use Rattle.table.specs.Settle.{pots_now, back_now, no_payout}
@@ -58,7 +57,6 @@ use Rattle.history.proofs.Reached.{reached_standing}
 use Rattle.history.proofs.Turns.{turn_as_noted}
 use Rattle.mission.proofs.Payout.{payout_right}
 use Rattle.mission.proofs.Reached.{Reaches, taken_next, one_reached, fresh_reached}
-use Rattle.blocks.specs.declared.Parsed.TheVariants as parsed
 
 -- ---- pots
 alike_amounts : {R : ℕ → ℕ → Type 0} {ps qs : List Pot} → Alike R ps qs → amounts_of ps ≡ amounts_of qs
@@ -133,7 +131,7 @@ module _ (sheet : Sheet) (ok : is_sheet sheet ≡ true) (es : List Entry) (had :
 
   -- an answer that takes nothing: it is refused, and shows the table as it was
   module _ (block : Block) (n code : ℕ) (most : code ≤ 10) (some : code ≡ 0 → ⊥) (by : code ≡ code_of_any sheet es block)
-      (never : (m kind seat a b : ℕ) (e : Entry) → block ≡ Raw m kind seat a b → parsed_of kind seat a b ≡ parsed.Read e → Allowed t m e → code ≡ 0) where
+      (never : (m kind seat a b : ℕ) (e : Entry) → block ≡ Raw m kind seat a b → parsed_of kind seat a b ≡ Ok e → Allowed t m e → code ≡ 0) where
     refused-right : Right sheet (record { shown = shown_of n code t no_payout; block = block; had = es; taken = es })
     unfolding shown_of
     refused-right =
@@ -213,7 +211,7 @@ code_most t n e = ⊎_elim (λ (z : code_of t n e ≡ 0). omega arith) (λ (p : 
 -- what each block gets
 module _ (sheet : Sheet) (ok : is_sheet sheet ≡ true) where
   -- an entry that is read is taken where its code is 0
-  read_right : (n kind seat a b : ℕ) (e : Entry) (es : List Entry) → AllTaken sheet es → parsed_of kind seat a b ≡ parsed.Read e
+  read_right : (n kind seat a b : ℕ) (e : Entry) (es : List Entry) → AllTaken sheet es → parsed_of kind seat a b ≡ Ok e
       → Right sheet (record { shown = shown_of n (code_of (run sheet es) n e) (next_of (run sheet es) n e) (payout_of (run sheet es) n e); block = Raw n kind seat a b; had = es; taken = pick (eqb (code_of (run sheet es) n e) 0) (e ∷ es) es })
   unfolding next_of payout_of
   read_right n kind seat a b e es h r =
@@ -233,23 +231,23 @@ module _ (sheet : Sheet) (ok : is_sheet sheet ≡ true) where
       coded : code_of (run sheet es) n e ≡ code_of_read sheet es n (parsed_of kind seat a b)
       coded = code_as_noted sheet ok es h n e ∙ ap (code_of_read sheet es n) (sym r)
 
-      same_block : {m kind' seat' a' b' : ℕ} {x : Entry} → Raw n kind seat a b ≡ Raw m kind' seat' a' b' → parsed_of kind' seat' a' b' ≡ parsed.Read x → Allowed (run sheet es) m x → code_of (run sheet es) n e ≡ 0
+      same_block : {m kind' seat' a' b' : ℕ} {x : Entry} → Raw n kind seat a b ≡ Raw m kind' seat' a' b' → parsed_of kind' seat' a' b' ≡ Ok x → Allowed (run sheet es) m x → code_of (run sheet es) n e ≡ 0
       same_block {m} {kind'} {seat'} {a'} {b'} {x} p s w =
           coded ∙ ap (code_of_any sheet es) p ∙ ap (code_of_read sheet es m) s ∙ sym (code_as_noted sheet ok es h m x) ∙ allowed_taken (run sheet es) m x w
 
-  parsed_right : (n kind seat a b : ℕ) (p : Parsed) (es : List Entry) → AllTaken sheet es → parsed_of kind seat a b ≡ p
+  parsed_right : (n kind seat a b : ℕ) (p : Result Entry Refusal) (es : List Entry) → AllTaken sheet es → parsed_of kind seat a b ≡ p
       → Right sheet (record { shown = shown_by (judge_parsed (run sheet es) n p); block = Raw n kind seat a b; had = es; taken = parsed_adds (run sheet es) n p es })
-  parsed_right n kind seat a b (parsed.Read e) es h r = read_right n kind seat a b e es h r
-  parsed_right n kind seat a b parsed.OutOfRange es h r =
+  parsed_right n kind seat a b (Ok e) es h r = read_right n kind seat a b e es h r
+  parsed_right n kind seat a b (Err why) es h r =
       refused-right sheet ok es h (Raw n kind seat a b) n 2 (omega arith) (λ z. omega arith) (ap (code_of_read sheet es n) (sym r))
       (λ m kind' seat' a' b' x p s w. absurd (unread p s))
     where
-      unread : {m kind' seat' a' b' : ℕ} {x : Entry} → Raw n kind seat a b ≡ Raw m kind' seat' a' b' → parsed_of kind' seat' a' b' ≡ parsed.Read x → ⊥
+      unread : {m kind' seat' a' b' : ℕ} {x : Entry} → Raw n kind seat a b ≡ Raw m kind' seat' a' b' → parsed_of kind' seat' a' b' ≡ Ok x → ⊥
       unread {m} {kind'} {seat'} {a'} {b'} {x} p s = true≢false (sym (ap isRead s) ∙ sym (ap readBlock p) ∙ ap isRead r)
         where
-          isRead : Parsed → Bool
-          isRead (parsed.Read e) = true
-          isRead parsed.OutOfRange = false
+          isRead : Result Entry Refusal → Bool
+          isRead (Ok e) = true
+          isRead (Err why) = false
 
           readBlock : Block → Bool
           readBlock (Raw n kind seat a b) = isRead (parsed_of kind seat a b)
@@ -297,8 +295,8 @@ module _ (sheet : Sheet) (ok : is_sheet sheet ≡ true) where
       go false r = (one_right t log es h, r)
 
 -- each answer to a log is right
-pub shown_right : (log : List ℕ) (s : Sheet) → opened_of log ≡ Read s → All (Right s) (given_of log)
+pub shown_right : (log : List ℕ) (s : Sheet) → opened_of log ≡ Ok s → All (Right s) (given_of log)
 unfolding given_of
 shown_right log s e =
-    subst (λ (o : SheetRead). All (Right s) (given_by o log)) (sym e)
+    subst (λ (o : Result Sheet Refusal). All (Right s) (given_by o log)) (sym e)
     (all_right s (opened_is log s e) (length log) (fresh_table s) (sheet_end log) [] (fresh_reached s))

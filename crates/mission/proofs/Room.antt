@@ -1,4 +1,5 @@
 -- Change request No. 8: of all answers to a log, whatever its bytes, none has more than 27 lines or 540 bytes. Assumes nothing.
+use Rattle.std.specs.Prelude.{Ok}
 use Rattle.desk.specs.Log.{opened_of}
 use Rattle.desk.proofs.Opened.{opened_is}
 use Prim.Native.Nat.{ℕ, zero, suc, ◌≤◌, ◌<◌}
@@ -16,7 +17,6 @@ use Rattle.paper.specs.declared.Sheet.{Sheet}
 use Rattle.paper.specs.declared.Entry.{Entry}
 use Rattle.blocks.specs.Block.{rest_of, block_of}
 use Rattle.text.specs.TableSheet.{sheet_end}
-use Rattle.text.specs.declared.sheet.SheetRead.TheVariants.{Read}
 use Rattle.table.specs.declared.table.Table.{Table}
 use Rattle.table.specs.Take.{Sound, fresh_table}
 use Rattle.table.proofs.Standing.{sound_fresh}
@@ -48,6 +48,6 @@ from_within (suc k) t log es h = go (eqb (length log) 0) refl (from_within k (ju
         let same = some_bytes t log (not_none (eqb-false (length log) 0 z)) in
         (record { lines = omega (arith, ap (count 10) same, lines_most t log h); bytes = omega (arith, ap length same, bytes_most t log h) }, r)
 
-pub answers_within : (log : List ℕ) (s : Sheet) → opened_of log ≡ Read s → All Within (given_of log)
+pub answers_within : (log : List ℕ) (s : Sheet) → opened_of log ≡ Ok s → All Within (given_of log)
 unfolding given_of
 answers_within log s e = rw e (from_within (length log) (fresh_table s) (sheet_end log) [] (sound_fresh s (opened_is log s e)))

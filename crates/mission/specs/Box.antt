@@ -1,9 +1,8 @@
 -- The whole way: from the bytes of a log to what is written for it, and what the mission demands of that. Assumes nothing.
-use Rattle.std.specs.Prelude.{ℕ, ◌≡◌, List}
+use Rattle.std.specs.Prelude.{ℕ, ◌≡◌, List, Result, Ok, Err}
+use Rattle.paper.specs.declared.refusal.Refusal.{Refusal}
 use Rattle.laws.specs.Lists.{All}
 use Rattle.paper.specs.declared.Sheet.{Sheet}
-use Rattle.text.specs.declared.sheet.SheetRead.{SheetRead}
-use Rattle.text.specs.declared.sheet.SheetRead.TheVariants.{Read, Bad}
 use Rattle.answers.specs.Answer.{joined}
 use Rattle.desk.specs.Log.{eleven}
 use Rattle.history.specs.AsNoted.{AsNoted}
@@ -23,6 +22,6 @@ pub record Answered (sheet : Sheet) (log bytes : List ℕ) : Type 0 where
   pub stacks : (k s : ℕ) → Balanced sheet (taken_in k sheet log) s
 
 -- with a bad one `code=11` and nothing else
-abbrev pub Box : SheetRead → List ℕ → List ℕ → Type 0
-Box (Read s) log bytes = Answered s log bytes
-Box Bad log bytes = bytes ≡ eleven
+abbrev pub Box : Result Sheet Refusal → List ℕ → List ℕ → Type 0
+Box (Ok s) log bytes = Answered s log bytes
+Box (Err why) log bytes = bytes ≡ eleven

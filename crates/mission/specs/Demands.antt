@@ -1,6 +1,7 @@
 -- The mission's three demands, of one answer of the box: of the numbers that it shows and of its bytes. What they are held against is read from the sheet and the
 -- taken entries: the notebook (history/specs/Notebook). Lists of entries have the newest first. Assumes nothing.
-use Rattle.std.specs.Prelude.{ℕ, ◌+◌, ◌≤◌, ◌<◌, true, ◌≡◌, List, [], ◌∷◌, ◌++◌, map, take, eqb}
+use Rattle.std.specs.Prelude.{ℕ, ◌+◌, ◌≤◌, ◌<◌, true, ◌≡◌, List, [], ◌∷◌, ◌++◌, map, take, eqb, Result, Ok, Err}
+use Rattle.paper.specs.declared.refusal.Refusal.{Refusal}
 use Rattle.laws.specs.Tests.{pick}
 use Rattle.laws.specs.Lists.{All, sum_of}
 use Rattle.paper.specs.RefusalNumbers.{taken, malformed, out_of_range}
@@ -13,8 +14,6 @@ use Rattle.blocks.specs.Entry.{parsed_of}
 use Rattle.text.specs.Line.{number_line}
 use Rattle.blocks.specs.declared.Block.{Block}
 use Rattle.blocks.specs.declared.Block.TheVariants.{Raw, Malformed, Nothing}
-use Rattle.blocks.specs.declared.Parsed.{Parsed}
-use Rattle.blocks.specs.declared.Parsed.TheVariants.{Read, OutOfRange}
 use Rattle.answers.specs.declared.PaidRow.{PaidRow}
 use Rattle.answers.specs.declared.ShownPayout.{ShownPayout}
 use Rattle.answers.specs.declared.Shown.{Shown}
@@ -43,9 +42,9 @@ pub record Demand1 (sheet : Sheet) (g : Given) : Type 0 where
 -- ---- demand 2
 
 -- the code of a block by the notebook
-abbrev pub code_of_read : Sheet → List Entry → ℕ → Parsed → ℕ
-code_of_read sheet es n OutOfRange = out_of_range
-code_of_read sheet es n (Read e) = code_by sheet es n e
+abbrev pub code_of_read : Sheet → List Entry → ℕ → Result Entry Refusal → ℕ
+code_of_read sheet es n (Err why) = out_of_range
+code_of_read sheet es n (Ok e) = code_by sheet es n e
 
 abbrev pub code_of_any : Sheet → List Entry → Block → ℕ
 code_of_any sheet es (Raw n kind seat a b) = code_of_read sheet es n (parsed_of kind seat a b)
@@ -63,7 +62,7 @@ pub record Done (sheet : Sheet) (g : Given) : Type 0 where
 pub record Demand2 (sheet : Sheet) (g : Given) : Type 0 where
   pub code : g.shown.code ≡ code_of_any sheet g.had g.block
   pub done : g.shown.code ≡ taken → Done sheet g
-  pub legal : (n kind seat a b : ℕ) (e : Entry) → g.block ≡ Raw n kind seat a b → parsed_of kind seat a b ≡ Read e → Allowed (run sheet g.had) n e → g.shown.code ≡ taken
+  pub legal : (n kind seat a b : ℕ) (e : Entry) → g.block ≡ Raw n kind seat a b → parsed_of kind seat a b ≡ Ok e → Allowed (run sheet g.had) n e → g.shown.code ≡ taken
   pub turn : g.shown.turn ≡ turn_of sheet g.taken
   pub mark : g.shown.mark ≡ (notebook sheet g.taken).play.mark
   -- "Of two hands the better by the published order wins": at a settle, of every pot

@@ -11,15 +11,15 @@ use mathlib.Core.Logic.{◌⊎◌, inl, inr, ⊎_elim}
 use lib.ListN.{length}
 use lib.Dec.{eqb, ltb}
 use borrow.Author.Tests.{eqb-true}
+use Rattle.std.specs.Prelude.{Option, Some, None, Result, Ok, Err}
+use Rattle.paper.specs.declared.Sheet.{Sheet}
+use Rattle.paper.specs.declared.refusal.Refusal.{Refusal}
 use Rattle.laws.specs.Tests.{pick, both, either}
 use Rattle.laws.specs.Lists.{All, whole}
 use Rattle.laws.proofs.Tests.{test, both_true}
 use Rattle.paper.specs.RefusalNumbers.{taken}
 use Rattle.text.specs.Line.{line_number, number_line}
 use Rattle.text.specs.TableSheet.{sheet_of}
-use Rattle.text.specs.declared.Number.{Number}
-use Rattle.text.specs.declared.Number.TheVariants.{Value, Bad}
-use Rattle.text.specs.declared.sheet.SheetRead.{SheetRead}
 use Rattle.table.specs.declared.table.Table.{Table}
 use Rattle.pool.specs.Jackpot.{opened_with}
 use Rattle.shared.specs.Shared.{bytes_at}
@@ -34,7 +34,6 @@ use Rattle.neighbours.proofs.Blanks.{line_after, blanked_append, blanked_length}
 use Rattle.neighbours.proofs.Answers.{answer_ended}
 use Rattle.neighbours.proofs.Order.{of_table, is_due, behind, in_order, pieces_ordered}
 use Rattle.neighbours.proofs.Tables.{still_open, open_in, pool_by, table_runs, blank_runs, table_run, answers_run}
-use Rattle.text.specs.declared.sheet.SheetRead.TheVariants as read_as
 
 -- ---- what is shown changes nothing of the pair
 
@@ -87,17 +86,17 @@ none_shown true answer = refl
 none_shown false answer = refl
 
 -- an opening that is not refused says nothing
-pool_silent : (p : Pair) (x : Number) → (pool_done p x).pair.shut ≡ false → (pool_done p x).bytes ≡ []
-pool_silent p (Value v) = go (eqb (opened_with v).code taken)
+pool_silent : (p : Pair) (x : Option ℕ) → (pool_done p x).pair.shut ≡ false → (pool_done p x).bytes ≡ []
+pool_silent p (Some v) = go (eqb (opened_with v).code taken)
   where
     go : (b : Bool) → (pool_by p v b).pair.shut ≡ false → (pool_by p v b).bytes ≡ []
     go true h = refl
     go false h = absurd (true≢false h)
-pool_silent p Bad = λ h. absurd (true≢false h)
+pool_silent p None = λ h. absurd (true≢false h)
 
-sheet_silent : (p : Pair) (due : ℕ) (x : SheetRead) → (sheet_done p due x).pair.shut ≡ false → (sheet_done p due x).bytes ≡ []
-sheet_silent p due (read_as.Read s) h = refl
-sheet_silent p due read_as.Bad h = absurd (true≢false h)
+sheet_silent : (p : Pair) (due : ℕ) (x : Result Sheet Refusal) → (sheet_done p due x).pair.shut ≡ false → (sheet_done p due x).bytes ≡ []
+sheet_silent p due (Ok s) h = refl
+sheet_silent p due (Err why) h = absurd (true≢false h)
 
 -- a block is one of table 1 or table 2
 whole_of : (due d : ℕ) (lines : List ℕ) → is_due due (Whole d lines) ≡ true → ltb d 3 ≡ false → of_table d ≡ true

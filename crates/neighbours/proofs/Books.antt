@@ -9,15 +9,15 @@ use mathlib.Core.Logic.{◌⊎◌, inl, inr, ⊎_elim}
 use native.Mathlib.Omega.{arith}
 use lib.Dec.{eqb, ltb}
 use borrow.Author.Tests.{eqb-true, ne_eqb}
+use Rattle.std.specs.Prelude.{Option, Some, None, Result, Ok, Err}
+use Rattle.paper.specs.declared.Sheet.{Sheet}
+use Rattle.paper.specs.declared.refusal.Refusal.{Refusal}
 use Rattle.laws.specs.Tests.{pick}
 use Rattle.laws.proofs.Tests.{test, both_true}
 use Rattle.laws.proofs.Sums.{le_or_lt}
 use Rattle.paper.specs.RefusalNumbers.{taken}
 use Rattle.text.specs.Line.{line_number}
 use Rattle.text.specs.TableSheet.{sheet_of, value_in}
-use Rattle.text.specs.declared.Number.{Number}
-use Rattle.text.specs.declared.Number.TheVariants.{Value, Bad}
-use Rattle.text.specs.declared.sheet.SheetRead.{SheetRead}
 use Rattle.table.specs.declared.table.Table.{Table}
 use Rattle.royal.specs.Royal.{royal_now}
 use Rattle.pool.specs.Jackpot.{most, fits_in, fed_by, settled_pool, opened_with, no_hand}
@@ -37,7 +37,6 @@ use Rattle.neighbours.specs.Keyed.{is_shut}
 use Rattle.neighbours.specs.Hands.{pool_said, opening_in, opening_of, pool_of, which_of, played_by, played_to, hands_in, hands_of}
 use Rattle.neighbours.proofs.Order.{of_table, is_due, behind, in_order, pieces_ordered}
 use Rattle.neighbours.proofs.Tables.{still_open, open_in, pool_by}
-use Rattle.text.specs.declared.sheet.SheetRead.TheVariants as read_as
 
 -- ---- hands one behind the other
 
@@ -81,9 +80,9 @@ feeds_answer p due lines =
     let s = one_hand p.pool (which_of (is_second due)) h j.payout.settled in
     (s.0, ap (fed_by p.house) s.1)
 
-feeds_sheet : (p : Pair) (due : ℕ) (x : SheetRead) → Feeds p [] (sheet_done p due x)
-feeds_sheet p due (read_as.Read s) = feeds_still p (sheet_done p due (read_as.Read s)) refl refl
-feeds_sheet p due read_as.Bad = feeds_still p (sheet_done p due read_as.Bad) refl refl
+feeds_sheet : (p : Pair) (due : ℕ) (x : Result Sheet Refusal) → Feeds p [] (sheet_done p due x)
+feeds_sheet p due (Ok s) = feeds_still p (sheet_done p due (Ok s)) refl refl
+feeds_sheet p due (Err why) = feeds_still p (sheet_done p due (Err why)) refl refl
 
 feeds_whole : (p : Pair) (due : ℕ) (lines : List ℕ) → eqb due 0 ≡ false → Feeds p (played_to p (Whole due lines)) (whole_done 0 p due lines)
 unfolding whole_done
@@ -153,15 +152,15 @@ feeds_run p (x ∷ xs) due sum l i h e =
 
 -- ---- the line `pool`
 
-pool_opens : (p : Pair) (x : Number) → (pool_done p x).pair.shut ≡ false
+pool_opens : (p : Pair) (x : Option ℕ) → (pool_done p x).pair.shut ≡ false
     → ((pool_done p x).pair.pool ≡ (opened_with (value_in x)).pool) × ((pool_done p x).pair.house ≡ p.house) × ((opened_with (value_in x)).code ≡ taken)
-pool_opens p (Value v) h = go (test (eqb (opened_with v).code taken)) h
+pool_opens p (Some v) h = go (test (eqb (opened_with v).code taken)) h
   where
     go : (eqb (opened_with v).code taken ≡ true) ⊎ (eqb (opened_with v).code taken ≡ false) → (pool_by p v (eqb (opened_with v).code taken)).pair.shut ≡ false
         → ((pool_by p v (eqb (opened_with v).code taken)).pair.pool ≡ (opened_with v).pool) × ((pool_by p v (eqb (opened_with v).code taken)).pair.house ≡ p.house) × ((opened_with v).code ≡ taken)
     go (inl e) k = (ap (λ (b : Bool). (pool_by p v b).pair.pool) e, ap (λ (b : Bool). (pool_by p v b).pair.house) e, eqb-true (opened_with v).code taken e)
     go (inr e) k = absurd (true≢false (sym (ap (λ (b : Bool). (pool_by p v b).pair.shut) e) ∙ k))
-pool_opens p Bad h = absurd (true≢false h)
+pool_opens p None h = absurd (true≢false h)
 
 opened_held : (v : ℕ) → (opened_with v).code ≡ taken → (opened_with v).pool.held ≡ v
 opened_held v e =
@@ -200,7 +199,7 @@ books_on x xs v s n i h f =
 books_whole : (d : ℕ) (lines : List ℕ) (xs : List Piece) → d ≡ 0 → in_order 1 xs ≡ true → (ran 0 start_of (Whole d lines ∷ xs)).pair.shut ≡ false → Books (Whole d lines ∷ xs)
 unfolding whole_done
 books_whole d lines xs e i h =
-    let x : Number = line_number pool_key lines in
+    let x : Option ℕ = line_number pool_key lines in
     let z : piece_in 0 start_of (Whole d lines) ≡ pool_done start_of x = open_in 0 start_of (Whole d lines) refl ∙ ap (λ (k : ℕ). whole_done 0 start_of k lines) e in
     let o = still_open 0 (piece_in 0 start_of (Whole d lines)).pair xs h in
     let f = pool_opens start_of x (sym (ap (λ (g : Given). g.pair.shut) z) ∙ o) in

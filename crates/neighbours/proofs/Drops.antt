@@ -8,6 +8,8 @@ use mathlib.Core.Logic.{◌⊎◌, inl, inr}
 use native.Mathlib.Omega.{arith}
 use lib.Dec.{eqb}
 use borrow.Author.Tests.{eqb-true}
+use Rattle.std.specs.Prelude.{Result, Ok, Err}
+use Rattle.paper.specs.declared.refusal.Refusal.{Refusal}
 use Rattle.laws.specs.Tests.{pick, one}
 use Rattle.laws.proofs.Tests.{test}
 use Rattle.paper.specs.declared.Entry.{Entry}
@@ -18,8 +20,6 @@ use Rattle.pots.specs.Hand.{drop_of}
 use Rattle.pots.proofs.Drops.{drop_most, drop_none}
 use Rattle.blocks.specs.declared.Block.{Block}
 use Rattle.blocks.specs.declared.Block.TheVariants.{Raw, Malformed, Nothing}
-use Rattle.blocks.specs.declared.Parsed.{Parsed}
-use Rattle.blocks.specs.declared.Parsed.TheVariants.{Read, OutOfRange}
 use Rattle.blocks.specs.Block.{block_of}
 use Rattle.blocks.specs.Entry.{parsed_of}
 use Rattle.table.specs.Take.{kind_code, applied_to, payout_by, code_of, next_of, payout_of}
@@ -135,9 +135,9 @@ few_next t n e sum f = go (eqb (code_of t n e) 0) (λ z. eqb-true (code_of t n e
 pub few_same : (t : Table) (sum : ℕ) → Few t sum → Few t (sum + 0)
 few_same t sum f = few_less t sum (sum + 0) (omega arith) f
 
-few_parsed : (t : Table) (n : ℕ) (p : Parsed) (sum : ℕ) → Few t sum → Few (judge_parsed t n p).table (sum + (judge_parsed t n p).payout.drop)
-few_parsed t n (Read e) sum f = few_next t n e sum f
-few_parsed t n OutOfRange sum f = few_same t sum f
+few_parsed : (t : Table) (n : ℕ) (p : Result Entry Refusal) (sum : ℕ) → Few t sum → Few (judge_parsed t n p).table (sum + (judge_parsed t n p).payout.drop)
+few_parsed t n (Ok e) sum f = few_next t n e sum f
+few_parsed t n (Err why) sum f = few_same t sum f
 
 few_block : (t : Table) (b : Block) (sum : ℕ) → Few t sum → Few (judge_block t b).table (sum + (judge_block t b).payout.drop)
 few_block t (Raw n kind seat a b) sum f = few_parsed t n (parsed_of kind seat a b) sum f

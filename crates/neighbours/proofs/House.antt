@@ -9,6 +9,8 @@ use native.Mathlib.Omega.{arith}
 use lib.ListN.{length}
 use lib.Dec.{eqb, ltb}
 use borrow.Author.Tests.{ltb-true, ltb-false, lt-ltb, ne_eqb, eqb-true}
+use Rattle.std.specs.Prelude.{Result, Ok, Err}
+use Rattle.paper.specs.declared.refusal.Refusal.{Refusal}
 use Rattle.laws.specs.Tests.{pick}
 use Rattle.laws.proofs.Tests.{test, both_true}
 use Rattle.paper.specs.Paper.{stand_in}
@@ -16,7 +18,6 @@ use Rattle.paper.specs.declared.Sheet.{Sheet}
 use Rattle.paper.proofs.Sheets.{good_ranged}
 use Rattle.text.specs.Line.{number_line}
 use Rattle.text.specs.TableSheet.{sheet_of}
-use Rattle.text.specs.declared.sheet.SheetRead.{SheetRead}
 use Rattle.text.proofs.SheetLaws.{sheet_is}
 use Rattle.table.specs.declared.table.Table.{Table}
 use Rattle.table.specs.Take.{fresh_table}
@@ -38,7 +39,6 @@ use Rattle.neighbours.proofs.Order.{of_table, of_table_most, is_due, behind, in_
 use Rattle.neighbours.proofs.Tables.{still_open, sheet_table, table_to, leads_in}
 use Rattle.neighbours.proofs.Drops.{Few, few_less, few_same, few_sum, few_judged}
 use Rattle.neighbours.proofs.Books.{pool_over, house_least}
-use Rattle.text.specs.declared.sheet.SheetRead.TheVariants as read_as
 
 -- ---- a block
 
@@ -80,9 +80,9 @@ few_answer false false ts lines sum f = few_own (table_at ts false) table1 lines
 few_fresh : (s : Sheet) → s.drop ≤ 1000 → Few (fresh_table s) 0
 few_fresh s m = record { drops = omega arith; taken = omega arith; most = m }
 
-few_sheet : (t : Table) (lines : List ℕ) (x : SheetRead) (sum : ℕ) → sheet_of lines ≡ x → sum ≡ 0 → Few t sum → Few (sheet_table t x) sum
-few_sheet t lines (read_as.Read s) sum e z f = subst (Few (fresh_table s)) (sym z) (few_fresh s (good_ranged s (sheet_is lines s e)).drop)
-few_sheet t lines read_as.Bad sum e z f = f
+few_sheet : (t : Table) (lines : List ℕ) (x : Result Sheet Refusal) (sum : ℕ) → sheet_of lines ≡ x → sum ≡ 0 → Few t sum → Few (sheet_table t x) sum
+few_sheet t lines (Ok s) sum e z f = subst (Few (fresh_table s)) (sym z) (few_fresh s (good_ranged s (sheet_is lines s e)).drop)
+few_sheet t lines (Err why) sum e z f = f
 
 -- a sheet is due in the opening, a block behind it
 early : (due d : ℕ) (lines : List ℕ) → is_due due (Whole d lines) ≡ true → ltb d 3 ≡ true → due < 3

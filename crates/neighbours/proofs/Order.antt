@@ -10,11 +10,10 @@ use native.Mathlib.Omega.{arith}
 use lib.ListN.{length, drop}
 use lib.Dec.{eqb, ltb}
 use borrow.Author.Tests.{lt-ltb, le-ltb, eq-eqb, ne_eqb, eqb-true}
+use Rattle.std.specs.Prelude.{Option, Some, None}
 use Rattle.laws.specs.Tests.{pick, both, either}
 use Rattle.laws.proofs.Tests.{test}
 use Rattle.laws.proofs.Sums.{le_or_lt}
-use Rattle.text.specs.declared.Number.{Number}
-use Rattle.text.specs.declared.Number.TheVariants.{Value, Bad}
 use Rattle.text.specs.Line.{line_number}
 use Rattle.lines.specs.Kept.{Kept, nothing, keep_of}
 use Rattle.frames.specs.declared.Next.{Next}
@@ -132,14 +131,14 @@ module _ (due : ℕ) (bytes : List ℕ) (small : due ≤ 6) where
 
 -- ---- byte after byte
 
-in_two : (x : Number) → table_in x ≤ 2
-in_two (Value v) = go (eqb v 1) (eqb v 2)
+in_two : (x : Option ℕ) → table_in x ≤ 2
+in_two (Some v) = go (eqb v 1) (eqb v 2)
   where
     go : (a b : Bool) → pick a 1 (pick b 2 0) ≤ 2
     go true b = omega arith
     go false true = omega arith
     go false false = omega arith
-in_two Bad = omega arith
+in_two None = omega arith
 
 of_two : (line : List ℕ) → table_of line ≤ 2
 unfolding table_of

@@ -7,10 +7,11 @@ use mathlib.Core.Path.{◌≡◌, refl, sym, ap, ap₂, ◌∙◌}
 use mathlib.Core.List.{List, [], ◌∷◌, ◌++◌}
 use lib.ListN.{length, drop}
 use lib.Dec.{leb}
+use Rattle.std.specs.Prelude.{Result, Ok, Err}
+use Rattle.paper.specs.declared.refusal.Refusal.TheVariants.{NoRoom}
+use Rattle.paper.specs.declared.refusal.Refusal.{Refusal}
 use Rattle.laws.specs.Tests.{pick}
 use Rattle.writing.specs.AnswerSheet.{sheet_after, written_of}
-use Rattle.writing.specs.declared.Written.{Written}
-use Rattle.writing.specs.declared.Written.TheVariants.{Bytes, NoRoom}
 use Rattle.table.specs.declared.table.Table.{Table}
 use Rattle.pool.specs.declared.Pool.{Pool}
 use Rattle.desk.specs.declared.Judged.{Judged}
@@ -30,7 +31,7 @@ module _ (t : Table) (p q : Pool) (log sheet : List ℕ) where
   same_length = same_room t p q log
 
   same_written : written_of (bytes_at t p log) sheet ≡ written_of (bytes_at t q log) sheet
-  same_written = ap (λ (n : ℕ). pick (leb n (length sheet)) (Bytes n) NoRoom) same_length
+  same_written = ap (λ (n : ℕ). pick (leb n (length sheet)) (Ok n) (Err NoRoom)) same_length
 
   behind : (r : Pool) (rest : List ℕ) → blanked (bytes_at t r log ++ rest) ≡ blanked (bytes_at t r log) ++ blanked rest
   behind r rest = blanked_append [] (bytes_at t r log) rest ∙ ap (λ (l : List ℕ). blanked (bytes_at t r log) ++ blanked_in l rest) (answer_ended t r log)
@@ -50,21 +51,21 @@ module _ (t : Table) (p q : Pool) (log sheet : List ℕ) where
       go true = over_same
       go false = refl
 
-written_apart : (t : Table) (p q : Pool) (j : Judged) (w : Written) → (shared_from t p j w).written ≡ (shared_from t q j w).written
-written_apart t p q j (Bytes k) = refl
-written_apart t p q j NoRoom = refl
+written_apart : (t : Table) (p q : Pool) (j : Judged) (w : Result ℕ Refusal) → (shared_from t p j w).written ≡ (shared_from t q j w).written
+written_apart t p q j (Ok k) = refl
+written_apart t p q j (Err why) = refl
 
 call_same : (t : Table) (p q : Pool) (x : Call) → gives_at t p x ≡ gives_at t q x
 call_same t p q x =
     let j : Judged = judged_at t x.log in
-    let w : Written = written_of (bytes_at t p x.log) x.sheet in
-    let v : Written = written_of (bytes_at t q x.log) x.sheet in
+    let w : Result ℕ Refusal = written_of (bytes_at t p x.log) x.sheet in
+    let v : Result ℕ Refusal = written_of (bytes_at t q x.log) x.sheet in
     let e : w ≡ v = same_written t p q x.log x.sheet in
     let l : List ℕ = blanked (sheet_after (bytes_at t p x.log) x.sheet) in
     ap (λ (c : ℕ). record { code = c; table = (shared_from t p j w).table; written = (shared_from t p j w).written; sheet = l }) (code_apart t p q j w)
     ∙ ap (λ (u : Table). record { code = (shared_from t q j w).code; table = u; written = (shared_from t p j w).written; sheet = l }) (table_apart t p q j w)
     ∙ ap (λ (n : ℕ). record { code = (shared_from t q j w).code; table = (shared_from t q j w).table; written = n; sheet = l }) (written_apart t p q j w)
-    ∙ ap (λ (z : Written). record { code = (shared_from t q j z).code; table = (shared_from t q j z).table; written = (shared_from t q j z).written; sheet = l }) e
+    ∙ ap (λ (z : Result ℕ Refusal). record { code = (shared_from t q j z).code; table = (shared_from t q j z).table; written = (shared_from t q j z).written; sheet = l }) e
     ∙ ap (λ (m : List ℕ). record { code = (shared_from t q j v).code; table = (shared_from t q j v).table; written = (shared_from t q j v).written; sheet = m }) (same_sheet t p q x.log x.sheet)
 
 -- ---- all calls

@@ -7,14 +7,14 @@ use mathlib.Core.List.{List, [], ◌∷◌, ◌++◌, map, map-append}
 use mathlib.Core.Logic.{⊎_elim}
 use lib.ListN.{length, length-set}
 use lib.Dec.{eqb, ltb}
+use Rattle.std.specs.Prelude.{Option, Some, None, Result, Ok, Err}
+use Rattle.paper.specs.declared.Sheet.{Sheet}
+use Rattle.paper.specs.declared.refusal.Refusal.{Refusal}
 use Rattle.laws.specs.Tests.{pick, both}
 use Rattle.laws.proofs.Tests.{test}
 use Rattle.paper.specs.RefusalNumbers.{taken}
 use Rattle.text.specs.Line.{line_number}
 use Rattle.text.specs.TableSheet.{sheet_of}
-use Rattle.text.specs.declared.Number.{Number}
-use Rattle.text.specs.declared.Number.TheVariants.{Value, Bad}
-use Rattle.text.specs.declared.sheet.SheetRead.{SheetRead}
 use Rattle.table.specs.declared.table.Table.{Table}
 use Rattle.table.specs.Take.{fresh_table}
 use Rattle.pool.specs.Jackpot.{opened_with}
@@ -30,7 +30,6 @@ use Rattle.pairs.proofs.Alone.{put_back}
 use Rattle.neighbours.specs.Blanked.{blanked}
 use Rattle.neighbours.specs.Keyed.{is_of, keyed_in, answer_to, answers_in}
 use Rattle.neighbours.proofs.Answers.{blanked_at}
-use Rattle.text.specs.declared.sheet.SheetRead.TheVariants as read_as
 
 -- ---- an opening that is not refused
 
@@ -52,9 +51,9 @@ pool_by p v b = pick b (still (record { shut = p.shut; tables = p.tables; pool =
 abbrev any_pool : Pool
 any_pool = record { held = 0 }
 
-abbrev pub sheet_table : Table → SheetRead → Table
-sheet_table t (read_as.Read s) = fresh_table s
-sheet_table t read_as.Bad = t
+abbrev pub sheet_table : Table → Result Sheet Refusal → Table
+sheet_table t (Ok s) = fresh_table s
+sheet_table t (Err why) = t
 
 abbrev pub table_to : Table → Piece → Table
 table_to t (Whole due lines) = pick (ltb due table_due) (sheet_table t (sheet_of lines)) (judged_at t lines).table
@@ -112,17 +111,17 @@ module _ (p : Pair) (n : length p.tables ≡ 2) (second : Bool) where
     length-set p.tables (pick (is_second due) 1 0) (judged_at (table_at p.tables (is_second due)) lines).table ∙ n,
   )
 
-  leads_pool : (f : Table → Table) (x : Number) → Leads false f (pool_done p x)
-  leads_pool f (Value v) = go (eqb (opened_with v).code taken)
+  leads_pool : (f : Table → Table) (x : Option ℕ) → Leads false f (pool_done p x)
+  leads_pool f (Some v) = go (eqb (opened_with v).code taken)
     where
       go : (b : Bool) → Leads false f (pool_by p v b)
       go true = (refl, n)
       go false = (refl, n)
-  leads_pool f Bad = (refl, n)
+  leads_pool f None = (refl, n)
 
-  leads_sheet : (due : ℕ) (x : SheetRead) → Leads (same_table second (is_second due)) (λ t. sheet_table t x) (sheet_done p due x)
-  leads_sheet due (read_as.Read s) = (at_own (λ t. fresh_table s) p.tables second (is_second due) n, length-set p.tables (pick (is_second due) 1 0) (fresh_table s) ∙ n)
-  leads_sheet due read_as.Bad = (sym (leads_same (same_table second (is_second due))), n)
+  leads_sheet : (due : ℕ) (x : Result Sheet Refusal) → Leads (same_table second (is_second due)) (λ t. sheet_table t x) (sheet_done p due x)
+  leads_sheet due (Ok s) = (at_own (λ t. fresh_table s) p.tables second (is_second due) n, length-set p.tables (pick (is_second due) 1 0) (fresh_table s) ∙ n)
+  leads_sheet due (Err why) = (sym (leads_same (same_table second (is_second due))), n)
 
   leads_whole : (due : ℕ) (lines : List ℕ) → Leads (is_of second (Whole due lines)) (λ t. table_to t (Whole due lines)) (whole_done 0 p due lines)
   unfolding whole_done

@@ -8,11 +8,12 @@ use native.Mathlib.Omega.{arith}
 use lib.ListN.{length, take, drop, length-append, length-drop}
 use lib.Seq.{take-append_seam}
 use borrow.Author.Tests.{eq-eqb, ne_eqb, lt-ltb, le-ltb, le-leb}
+use Rattle.std.specs.Prelude.{Ok, Err}
+use Rattle.paper.specs.declared.refusal.Refusal.TheVariants.{NoRoom}
 use Rattle.laws.specs.Tests.{pick}
 use Rattle.text.specs.Line.{line_number}
 use Rattle.text.specs.TableSheet.{sheet_of}
 use Rattle.writing.specs.AnswerSheet.{Wrote, over, sheet_after, written_of}
-use Rattle.writing.specs.declared.Written.TheVariants.{Bytes, NoRoom}
 use Rattle.table.specs.declared.table.Table.{Table}
 use Rattle.table.specs.Take.{Sound}
 use Rattle.pool.specs.Jackpot.{most}
@@ -117,7 +118,7 @@ module _ (only : ℕ) (p : Pair) (due : ℕ) (lines sheet : List ℕ) (g : Good 
     (room : length (bytes_at t p.pool lines) ≤ length sheet) {a : SharedAnswer} {sheet2 : List ℕ}
     (f : a ≡ shared_from t p.pool (judged_at t lines) (written_of (bytes_at t p.pool lines) sheet)) (h : sheet2 ≡ sheet_after (bytes_at t p.pool lines) sheet) where
   said_is : a ≡ said (judged_at t lines) (settled_at t p.pool (judged_at t lines)) (length (bytes_at t p.pool lines))
-  said_is = f ∙ ap (λ (z : Bool). shared_from t p.pool (judged_at t lines) (pick z (Bytes (length (bytes_at t p.pool lines))) NoRoom)) (le-leb (length (bytes_at t p.pool lines)) (length sheet) room)
+  said_is = f ∙ ap (λ (z : Bool). shared_from t p.pool (judged_at t lines) (pick z (Ok (length (bytes_at t p.pool lines))) (Err NoRoom))) (le-leb (length (bytes_at t p.pool lines)) (length sheet) room)
 
   sheet_is : sheet2 ≡ over (bytes_at t p.pool lines) sheet
   sheet_is = h ∙ ap (λ (z : Bool). pick z (over (bytes_at t p.pool lines) sheet) sheet) (le-leb (length (bytes_at t p.pool lines)) (length sheet) room)

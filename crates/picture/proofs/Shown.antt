@@ -9,6 +9,7 @@ use native.Mathlib.Omega.{arith}
 use lib.ListN.{length, get_or, drop, length-append}
 use lib.Dec.{eqb, leb, ltb}
 use borrow.Author.Tests.{leb-true, le-leb, lt-ltb, ne_eqb, eqb-false, not-true}
+use Rattle.std.specs.Prelude.{Option, Some, None}
 use Rattle.laws.specs.Lists.{All}
 use Rattle.laws.specs.Tests.{pick, both}
 use Rattle.laws.proofs.Tests.{both_true}
@@ -17,8 +18,6 @@ use Rattle.paper.specs.SheetAndEntries.{between}
 use Rattle.text.specs.Bytes.{all_within}
 use Rattle.text.specs.Number.{number_of, digits}
 use Rattle.text.specs.Line.{value_of, number_line, after_line}
-use Rattle.text.specs.declared.Number.{Number}
-use Rattle.text.specs.declared.Number.TheVariants.{Value, Bad}
 use Rattle.text.proofs.Numbers.{read_digits, number_none}
 use Rattle.text.proofs.RoundTrip.{NoLF, no_append, no_within, no_number, line_shape, value_is}
 use Rattle.text.proofs.ReadBack.{value_back}
@@ -104,11 +103,11 @@ keys_unlike i k h l e = unlike_at (tags keys) i k refl h l (tag_at keys i ∙ ap
 -- ---- which line it is
 
 -- no bytes are no number, behind whatever key
-none_as : (k : ℕ) (bs : List ℕ) → length bs ≡ 0 → number_as k bs ≡ Bad
+none_as : (k : ℕ) (bs : List ℕ) → length bs ≡ 0 → number_as k bs ≡ None
 unfolding number_as nine_of
 none_as k bs e = go (eqb k kind_jackpot)
   where
-    go : (t : Bool) → pick t (pick (eqb (length bs) 9) (number_of (after_zeros bs)) Bad) (number_of bs) ≡ Bad
+    go : (t : Bool) → pick t (pick (eqb (length bs) 9) (number_of (after_zeros bs)) None) (number_of bs) ≡ None
     go true = rw e
     go false = number_none bs e
 
@@ -131,11 +130,11 @@ module _ (k v : ℕ) (l : k < line_kinds) (q : v < 10 ^ 9) where
   form : written ≡ key k ++ (61 ∷ numeral k v) ++ (10 ∷ [])
   form = sym (append-nil written) ∙ line_form k v []
 
-  numeral_read : number_as k (numeral k v) ≡ Value v
+  numeral_read : number_as k (numeral k v) ≡ Some v
   unfolding number_as
   numeral_read = go (eqb k kind_jackpot)
     where
-      go : (t : Bool) → pick t (nine_of (pick t (nine_digits v) (digits v))) (number_of (pick t (nine_digits v) (digits v))) ≡ Value v
+      go : (t : Bool) → pick t (nine_of (pick t (nine_digits v) (digits v))) (number_of (pick t (nine_digits v) (digits v))) ≡ Some v
       go true = nine_read v q
       go false = read_digits v q
 
@@ -160,7 +159,7 @@ module _ (k v : ℕ) (l : k < line_kinds) (q : v < 10 ^ 9) where
   other : (j : ℕ) → j < k → (line_at j written).kind ≡ line_kinds
   unfolding line_at
   other j h =
-      ⊎_elim (λ (z : length (value_of (key j) written) ≤ 0). ap (λ (x : Number). (line_with j (get_or mosts j 0) x).kind) (none_as j (value_of (key j) written) (omega arith)))
+      ⊎_elim (λ (z : length (value_of (key j) written) ≤ 0). ap (λ (x : Option ℕ). (line_with j (get_or mosts j 0) x).kind) (none_as j (value_of (key j) written) (omega arith)))
       (λ (z : 0 < length (value_of (key j) written)).
       let x : List ℕ = value_of (key j) written in
       let shapes : key k ++ (61 ∷ numeral k v) ++ (10 ∷ []) ≡ key j ++ (61 ∷ x) ++ (10 ∷ after_line written) = sym form ∙ value_back (key j) written z in

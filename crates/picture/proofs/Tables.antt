@@ -7,12 +7,12 @@ use native.Mathlib.Omega.{arith}
 use lib.ListN.{length, get_or, take}
 use lib.Dec.{leb, eqb}
 use borrow.Author.Tests.{leb-true, eqb-true}
+use Rattle.std.specs.Prelude.{Option}
 use Rattle.laws.specs.Tests.{both}
 use Rattle.laws.proofs.Tests.{both_true}
 use Rattle.laws.proofs.Rules.{all_below, below_all}
 use Rattle.laws.specs.Listing.{same_list}
 use Rattle.text.specs.Line.{value_of}
-use Rattle.text.specs.declared.Number.{Number}
 use Rattle.laws.proofs.Members.{same_list_law}
 use Rattle.figures.specs.Words.{bytes, refusals}
 use Rattle.picture.specs.Lines.{keys, line_kinds, mosts, number_as, line_with, line_at, Answering, no_line}
@@ -58,7 +58,7 @@ key_row k h =
     (leb-true _ _ p.0, same_list_law _ _ q.0, eqb-true _ _ r.0, leb-true _ _ r.1)
 
 -- what the reading of a line by its key answered
-pub line_said : (k : ℕ) (bs : List ℕ) {x : Number} {r : Line} → k < line_kinds → x ≡ number_as k (value_of (take ((key_at k).count - 0) (key_at k).letters) bs)
+pub line_said : (k : ℕ) (bs : List ℕ) {x : Option ℕ} {r : Line} → k < line_kinds → x ≡ number_as k (value_of (take ((key_at k).count - 0) (key_at k).letters) bs)
     → r ≡ line_with k (key_at k).most x → r ≡ line_at k bs
 unfolding line_at
 line_said k bs h f g =

@@ -10,11 +10,11 @@ use lib.ListN.{length, get_or, drop, replicate, length-drop}
 use lib.Seq.{drop-cons}
 use lib.Dec.{eqb, leb, ltb}
 use borrow.Author.Tests.{eq-eqb, ne_eqb, eqb-true, eqb-false, lt-ltb, ltb-true, not-true}
+use Rattle.std.specs.Prelude.{Some}
 use Rattle.laws.specs.Tests.{both}
 use Rattle.laws.proofs.Tests.{both_true}
 use Rattle.laws.proofs.Sums.{le_or_lt}
 use Rattle.text.specs.Number.{all_digits, digits, leads_well, well_formed}
-use Rattle.text.specs.declared.Number.TheVariants.{Value}
 use Rattle.text.proofs.Numbers.{digits_formed, read_digits}
 use Rattle.text.proofs.RoundTrip.{NoLF, no_append, no_number}
 use Rattle.writing.specs.Nine.{nine_digits, nine_line}
@@ -83,7 +83,7 @@ module _ (n : ℕ) (p : n < 10 ^ 9) where
   unfolding nine_digits well_formed
   nine_back = zeros_back (9 - length (digits n)) (digits n) (both_true (leads_well (digits n)) (both (leb (length (digits n)) 9) (all_digits (digits n))) (digits_formed n p)).0
 
-  pub nine_read : nine_of (nine_digits n) ≡ Value n
+  pub nine_read : nine_of (nine_digits n) ≡ Some n
   unfolding nine_of
   nine_read = rw (nine_is n, nine_back) (read_digits n p)
 

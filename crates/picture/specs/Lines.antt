@@ -1,11 +1,9 @@
 -- Which answer line a line is. Document 01, "The answer block": its keys, and the numbers that the box writes behind them; and request No. 7's key `jackpot`.
-use Rattle.std.specs.Prelude.{ℕ, zero, suc, ◌+◌, ◌-◌, ◌≤◌, ◌<◌, ◌≡◌, List, [], ◌∷◌, Bool, length, get_or, eqb, leb, ltb}
+use Rattle.std.specs.Prelude.{ℕ, zero, suc, ◌+◌, ◌-◌, ◌≤◌, ◌<◌, ◌≡◌, List, [], ◌∷◌, Bool, length, get_or, eqb, leb, ltb, Option, Some, None}
 use Rattle.laws.specs.Tests.{pick, both}
 use Rattle.text.specs.Number.{number_of}
 use Rattle.text.specs.Line.{value_of, number_line}
 use Rattle.writing.specs.Nine.{nine_line}
-use Rattle.text.specs.declared.Number.{Number}
-use Rattle.text.specs.declared.Number.TheVariants.{Value, Bad}
 use Rattle.figures.specs.Words.{bytes, refusals}
 use Rattle.figures.specs.ScreenRow.{kind_jackpot}
 use Rattle.picture.specs.declared.Line.{Line}
@@ -58,11 +56,11 @@ unfoldable pub zero_leads : List ℕ → ℕ → Bool
 zero_leads bs i = both (ltb (i + 1) (length bs)) (eqb (get_or bs i 0) 48)
 
 -- request No. 7: "always nine digits, zeros in front"
-unfoldable pub nine_of : List ℕ → Number
-nine_of bs = pick (eqb (length bs) 9) (number_of (after_zeros bs)) Bad
+unfoldable pub nine_of : List ℕ → Option ℕ
+nine_of bs = pick (eqb (length bs) 9) (number_of (after_zeros bs)) None
 
 -- what stands behind the key of the k-th kind as a number
-unfoldable pub number_as : ℕ → List ℕ → Number
+unfoldable pub number_as : ℕ → List ℕ → Option ℕ
 number_as k bs = pick (eqb k kind_jackpot) (nine_of bs) (number_of bs)
 
 -- the line of the k-th kind with the number v, as the box writes it
@@ -76,9 +74,9 @@ abbrev pub no_line : Line
 no_line = record { kind = line_kinds; value = 0 }
 
 -- a number behind the key of the k-th kind
-abbrev pub line_with : ℕ → ℕ → Number → Line
-line_with k most (Value v) = pick (leb v most) (record { kind = k; value = v }) no_line
-line_with k most Bad = no_line
+abbrev pub line_with : ℕ → ℕ → Option ℕ → Line
+line_with k most (Some v) = pick (leb v most) (record { kind = k; value = v }) no_line
+line_with k most None = no_line
 
 -- a line (with its LF) as a line of the k-th kind
 unfoldable pub line_at : ℕ → List ℕ → Line

@@ -5,7 +5,6 @@ ghost use Rattle.picture.specs.Lines.{Answering, line_kinds, mosts, zero_leads, 
 
 use crate::Line;
 use figures::row::KINDS;
-use text::Number;
 use text::decimal::number_in;
 use text::line::{line_end, value_of};
 
@@ -101,17 +100,17 @@ fn after_zeros(part: &[u8]) -> &[u8]
 }
 
 // The number that nine digits are.
-fn nine_in(part: &[u8]) -> Number
+fn nine_in(part: &[u8]) -> Option<u32>
     ensures { result ≡ nine_of part.now }
 {
     if part.len() == 9 {
         return number_in(after_zeros(part));
     }
-    Number::Bad
+    None
 }
 
 // What stands behind the k-th key as a number.
-fn number_as(k: usize, part: &[u8]) -> Number
+fn number_as(k: usize, part: &[u8]) -> Option<u32>
     ensures { result ≡ number_as k part.now }
 {
     if k == JACKPOT {
@@ -121,18 +120,18 @@ fn number_as(k: usize, part: &[u8]) -> Number
 }
 
 // The number of a line that has this key, the k-th.
-fn number_behind(line: &[u8], key: &[u8], k: usize) -> Number
+fn number_behind(line: &[u8], key: &[u8], k: usize) -> Option<u32>
     ensures { result ≡ number_as k (value_of key.now line.now) }
 {
     number_as(k, value_of(line, key, line_end(line)))
 }
 
 // A number that stands behind the k-th key makes an answer line where it is not too great.
-fn line_with(k: usize, most: u32, x: Number) -> Line
+fn line_with(k: usize, most: u32, x: Option<u32>) -> Line
     requires { (k < line_kinds) × (most ≡ get_or mosts k 0) }
     ensures { (result ≡ line_with k most x) × Answering result }
 {
-    let Number::Value(v) = x else {
+    let Some(v) = x else {
         return Line {
             kind: KINDS,
             value: 0,

@@ -15,7 +15,6 @@ use paper::STAND_IN;
 use reporter::tell;
 use table::table::Table;
 use table::take::new_table;
-use text::sheet::SheetRead;
 
 // Between two blocks: whether the sheet was read, whether it was bad, the table, and what is noted.
 #[derive(Clone, Copy)]
@@ -36,14 +35,14 @@ fn take_sheet(g: Page, block: &[u8], out: &mut [u8]) -> Page
     let notes = g.notes;
     let t = g.table;
     match read_lone_sheet(block) {
-        SheetRead::Bad => Page {
+        Err(_) => Page {
             opened: false,
             shut: true,
             table: t,
             notes,
             pen: closing::put_bad_sheet(out, p),
         },
-        SheetRead::Read(s) => Page {
+        Ok(s) => Page {
             opened: true,
             shut: false,
             table: new_table(s),

@@ -1,5 +1,6 @@
 -- What the supervisor's page keeps after each block: the block is judged by the box, and what it did is noted. Assumes nothing.
-use Rattle.std.specs.Prelude.{ℕ, List, eqb}
+use Rattle.std.specs.Prelude.{ℕ, List, eqb, Result, Ok, Err}
+use Rattle.paper.specs.declared.refusal.Refusal.{Refusal}
 use Rattle.laws.specs.Tests.{pick}
 use Rattle.paper.specs.Paper.{taken}
 use Rattle.paper.specs.declared.Entry.{Entry}
@@ -7,8 +8,6 @@ use Rattle.blocks.specs.Block.{block_of}
 use Rattle.blocks.specs.Entry.{parsed_of}
 use Rattle.blocks.specs.declared.Block.{Block}
 use Rattle.blocks.specs.declared.Block.TheVariants.{Raw, Malformed, Nothing}
-use Rattle.blocks.specs.declared.Parsed.{Parsed}
-use Rattle.blocks.specs.declared.Parsed.TheVariants.{Read, OutOfRange}
 use Rattle.table.specs.declared.table.Table.{Table}
 use Rattle.table.specs.declared.table.Payout.{Payout}
 use Rattle.desk.specs.Desk.{judged_of}
@@ -19,9 +18,9 @@ use Rattle.notes.specs.declared.Notes.{Notes}
 unfoldable pub notes_read : Notes → Table → Entry → ℕ → Payout → Notes
 notes_read m t e code p = pick (eqb code taken) (taken_notes m t e p) (refused_notes m code)
 
-abbrev pub notes_parsed : Notes → Table → Parsed → ℕ → Payout → Notes
-notes_parsed m t (Read e) code p = notes_read m t e code p
-notes_parsed m t OutOfRange code p = refused_notes m code
+abbrev pub notes_parsed : Notes → Table → Result Entry Refusal → ℕ → Payout → Notes
+notes_parsed m t (Ok e) code p = notes_read m t e code p
+notes_parsed m t (Err why) code p = refused_notes m code
 
 -- a block whose form is wrong has no entry
 abbrev pub notes_after : Notes → Table → Block → ℕ → Payout → Notes

@@ -6,11 +6,11 @@ ghost use Rattle.table.specs.Take.{Sound};
 ghost use Rattle.desk.specs.Desk.{judged_of};
 ghost use Rattle.reporter.specs.Telling.{notes_read, notes_parsed, notes_after, notes_of};
 
-use blocks::{Block, Parsed};
+use blocks::Block;
 use chairs::seats::chair_at;
 use notes::{Notes, place_of};
 use page::pen::Pen;
-use paper::{Entry, TAKEN};
+use paper::{Entry, Refusal, TAKEN};
 use story::Event;
 use table::table::{Payout, Table};
 
@@ -153,12 +153,12 @@ fn notes_read(m: Notes, t: Table, e: Entry, code: u8, paid: Payout) -> Notes
     notes::entries::refused(m, code)
 }
 
-fn notes_parsed(m: Notes, t: Table, p: Parsed, code: u8, paid: Payout) -> Notes
+fn notes_parsed(m: Notes, t: Table, p: Result<Entry, Refusal>, code: u8, paid: Payout) -> Notes
     ensures { result ≡ notes_parsed m t p code paid }
 {
     match p {
-        Parsed::Read(e) => notes_read(m, t, e, code, paid),
-        Parsed::OutOfRange => notes::entries::refused(m, code),
+        Ok(e) => notes_read(m, t, e, code, paid),
+        Err(_) => notes::entries::refused(m, code),
     }
 }
 

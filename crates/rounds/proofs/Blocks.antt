@@ -9,12 +9,12 @@ use native.Mathlib.Numerals.{add-one}
 use native.Mathlib.Omega.{arith}
 use lib.ListN.{length, get_or, take, drop, set, length-drop, drop_of_length-le}
 use lib.Seq.{drop-cons, drop-drop, take_all}
+use Rattle.std.specs.Prelude.{Option}
 use Rattle.laws.specs.Tests.{both}
 use Rattle.laws.proofs.Places.{store_front}
 use Rattle.laws.proofs.Sums.{le_or_lt}
 use Rattle.text.specs.Line.{line_len, after_line, after_lines, line_number}
 use Rattle.text.specs.TableSheet.{is_value, value_in}
-use Rattle.text.specs.declared.Number.{Number}
 use Rattle.rounds.specs.RoundText.{keys, readings, all_values}
 
 -- a part from a place on is all that follows
@@ -30,7 +30,7 @@ behind_is l at e h =
     (le_or_lt (at + e + 1) (length l))
 
 -- what was read of the line that starts at a place
-module _ (block bytes : List ℕ) (at k letters : ℕ) {e next : ℕ} {x : Number} {g : Bool} {v : ℕ} (h : at ≤ length block) where
+module _ (block bytes : List ℕ) (at k letters : ℕ) {e next : ℕ} {x : Option ℕ} {g : Bool} {v : ℕ} (h : at ≤ length block) where
   pub line_said : e ≡ line_len (take (length block - at) (drop at block))
       → take letters bytes ≡ get_or keys k []
       → x ≡ line_number (take (letters - 0) bytes) (take (length block - at) (drop at block))
@@ -64,14 +64,14 @@ module _ (k : ℕ) (log next : List ℕ) (h : k < 16) (w : next ≡ after_line l
   good_turn g {g2} {l} {all} e p q =
       rw (q, p, w)
       (both_both g (is_value (line_number (get_or keys k []) log)) (all_values (readings (drop (k + 1) keys) (after_line log)))
-      ∙ ap (λ (xs : List Number). both g (all_values xs)) (sym (reads_on k log h))
+      ∙ ap (λ (xs : List (Option ℕ)). both g (all_values xs)) (sym (reads_on k log h))
       ∙ e)
 
   pub value_turn : (a : List ℕ) {v : ℕ} {all : List ℕ} → k < length a → take k a ++ map value_in (readings (drop k keys) log) ≡ all → v ≡ value_in (line_number (get_or keys k []) log)
       → take (k + 1) (set a k v) ++ map value_in (readings (drop (k + 1) keys) next) ≡ all
   value_turn a {v} {all} l e p =
       store_front a k v (map value_in (readings (drop (k + 1) keys) next)) l
-      ∙ rw (p, w) (ap (λ (xs : List Number). take k a ++ map value_in xs) (sym (reads_on k log h)) ∙ e)
+      ∙ rw (p, w) (ap (λ (xs : List (Option ℕ)). take k a ++ map value_in xs) (sym (reads_on k log h)) ∙ e)
 
 -- ---- how many bytes the lines use up
 

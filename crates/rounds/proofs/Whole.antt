@@ -9,11 +9,11 @@ use native.Mathlib.Omega.{arith}
 use lib.Dec.{eqb, leb}
 use lib.ListN.{length, length-append}
 use borrow.Author.Tests.{ne_eqb, leb-true, leb-false}
+use Rattle.std.specs.Prelude.{Option}
 use Rattle.laws.specs.Tests.{pick}
 use Rattle.laws.proofs.Tests.{test}
 use Rattle.text.specs.Number.{number_of}
 use Rattle.text.specs.Line.{after_line, line_number, after_lines}
-use Rattle.text.specs.declared.Number.{Number}
 use Rattle.cuts.proofs.Lines.{cap, lfs, keep_all, keep_append, cap_lf, cap_in, snoc, kept_bytes, lfs_lf, lfs_on, kept_lines, value_same, cap_after, cap_value, lfs_append, after_front, lfs_after, front_line, lines_none, lines_last}
 use Rattle.rounds.specs.RoundText.{keys, readings, good_form, numbers_of}
 use Rattle.rounds.specs.RoundAnswer.{answer_bytes, output_from, output_of}
@@ -30,7 +30,7 @@ reads_cut [] l = refl
 reads_cut (k ∷ ks) l =
     ap (λ (v : List ℕ). number_of v ∷ readings ks (after_line (cap 0 l))) (cap_value k l)
     ∙ ap (λ (m : List ℕ). line_number k l ∷ readings ks m) (cap_after 0 l)
-    ∙ ap (λ (r : List Number). line_number k l ∷ r) (reads_cut ks (after_line l))
+    ∙ ap (λ (r : List (Option ℕ)). line_number k l ∷ r) (reads_cut ks (after_line l))
 
 -- as many LFs as there are keys: what follows them is not read
 reads_front : (ks : List (List ℕ)) (xs rest : List ℕ) → length ks ≤ lfs xs → readings ks (xs ++ rest) ≡ readings ks xs
@@ -40,7 +40,7 @@ reads_front (k ∷ ks) xs rest h =
     let r = front_line xs rest (omega arith) in
     ap (λ (v : List ℕ). number_of v ∷ readings ks (after_line (xs ++ rest))) (value_same k (xs ++ rest) xs r.0 r.1 r.2)
     ∙ ap (λ (m : List ℕ). line_number k xs ∷ readings ks m) (after_front xs rest (omega arith))
-    ∙ ap (λ (n : List Number). line_number k xs ∷ n) (reads_front ks (after_line xs) rest (omega (arith, lfs_after xs (omega arith))))
+    ∙ ap (λ (n : List (Option ℕ)). line_number k xs ∷ n) (reads_front ks (after_line xs) rest (omega (arith, lfs_after xs (omega arith))))
 
 -- what is kept at the bytes raw is raw, cut
 pub kept_cut : (raw : List ℕ) → (keep_all nothing raw).bytes ≡ cap 0 raw

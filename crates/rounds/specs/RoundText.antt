@@ -1,10 +1,9 @@
 -- Request No. 14, the program `crown`: "blocks of sixteen lines", in document 01's text form; the numbers of a block and the round that they make. Assumes
 -- nothing.
-use Rattle.std.specs.Prelude.{Bool, true, List, [], ◌∷◌, map, ℕ, min, eqb, leb, get_or}
+use Rattle.std.specs.Prelude.{Bool, true, List, [], ◌∷◌, map, ℕ, min, eqb, leb, get_or, Option}
 use Rattle.laws.specs.Tests.{both, either, pick}
 use Rattle.text.specs.Line.{after_line, line_number}
 use Rattle.text.specs.TableSheet.{is_value, value_in}
-use Rattle.text.specs.declared.Number.{Number}
 use Rattle.banked.specs.Rounds.{outcome_of}
 use Rattle.banked.specs.declared.Choice.{Choice}
 use Rattle.banked.specs.declared.Choice.TheVariants.{Fold, Stay}
@@ -35,11 +34,11 @@ keys =
     ∷ []
 
 -- the numbers of the lines at the front of a log, a line for each key; a line without its LF has none
-unfoldable pub readings : List (List ℕ) → List ℕ → List Number
+unfoldable pub readings : List (List ℕ) → List ℕ → List (Option ℕ)
 readings [] log = []
 readings (key ∷ more) log = line_number key log ∷ readings more (after_line log)
 
-abbrev pub all_values : List Number → Bool
+abbrev pub all_values : List (Option ℕ) → Bool
 all_values [] = true
 all_values (x ∷ xs) = both (is_value x) (all_values xs)
 

@@ -7,7 +7,6 @@ ghost use Rattle.rounds.specs.RoundText.{keys, readings, all_values, is_choice, 
 use banked::{Choice, Deal, Round};
 use laws::{both, either};
 use text::line::{line_end, number_of};
-use text::sheet::{is_value, value_in};
 
 // The letters of a line's key, and how many they are.
 #[derive(Clone, Copy)]
@@ -76,8 +75,8 @@ fn read_line(block: &[u8], at: usize, k: usize) -> Line
     let n = q.letters;
     let x = number_of(line, &bytes[0..n], e);
     Line {
-        good: is_value(x),
-        value: value_in(x),
+        good: x.is_some(),
+        value: x.unwrap_or(0),
         next: behind(at, e, block.len()),
     }
 }

@@ -1,10 +1,9 @@
 -- What is known after some bytes of a log, whole lines at a time: the sheet's, then a block's five. Assumes nothing.
-use Rattle.std.specs.Prelude.{ℕ, ◌<◌, Bool, true, false, not, List, length, take, ltb, eqb}
+use Rattle.std.specs.Prelude.{ℕ, ◌<◌, Bool, true, false, not, List, length, take, ltb, eqb, Result, Ok, Err}
+use Rattle.paper.specs.declared.refusal.Refusal.{Refusal}
 use Rattle.laws.specs.Tests.{pick, both, either}
 use Rattle.writing.specs.AnswerSheet.{over}
 use Rattle.paper.specs.Paper.{stand_in, taken, bad_sheet}
-use Rattle.text.specs.declared.sheet.SheetRead.{SheetRead}
-use Rattle.text.specs.declared.sheet.SheetRead.TheVariants.{Read, Bad}
 use Rattle.blocks.specs.Block.{block_of}
 use Rattle.paper.specs.declared.Sheet.{Sheet}
 use Rattle.lines.specs.declared.Fill.{Fill}
@@ -44,9 +43,9 @@ shut_of s = record { opened = false; shut = true; table = s.table; fill = fill_o
 abbrev pub laid_of : Sheet → Seen
 laid_of sheet = record { opened = true; shut = false; table = fresh_table sheet; fill = fill_of nothing; told = told_start taken }
 
-abbrev pub opened_by : Seen → SheetRead → Seen
-opened_by s Bad = shut_of s
-opened_by s (Read sheet) = laid_of sheet
+abbrev pub opened_by : Seen → Result Sheet Refusal → Seen
+opened_by s (Err why) = shut_of s
+opened_by s (Ok sheet) = laid_of sheet
 
 -- after the sheet: of a lone table, without a drop
 unfoldable pub after_sheet : Seen → List ℕ → Seen

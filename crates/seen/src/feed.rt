@@ -13,7 +13,6 @@ use lines::{Fill, empty, gather, lines_of};
 use paper::{BAD_SHEET, STAND_IN, Sheet};
 use table::table::Table;
 use table::take::new_table;
-use text::sheet::SheetRead;
 
 // Whether the sheet was read, whether it is bad, the table, what is kept of unfinished lines, and what was told.
 #[derive(Clone, Copy)]
@@ -109,8 +108,8 @@ fn after_sheet(s: Seen, block: &[u8]) -> Seen
     ensures { (result ≡ after_sheet s block.now) × Held result }
 {
     match read_lone_sheet(block) {
-        SheetRead::Bad => bad_sheet(s),
-        SheetRead::Read(sheet) => good_sheet(sheet),
+        Err(_) => bad_sheet(s),
+        Ok(sheet) => good_sheet(sheet),
     }
 }
 

@@ -6,11 +6,12 @@ use mathlib.Core.Bool.{Bool, true, false, false≢true}
 use Prim.Native.Nat.{ℕ, ◌≤◌, ◌<◌, ◌^◌}
 use native.Mathlib.Omega.{arith}
 use lib.ListN.{length}
+use Rattle.std.specs.Prelude.{Option, Result, Ok, Err}
+use Rattle.paper.specs.declared.refusal.Refusal.TheVariants.{NoRoom}
+use Rattle.paper.specs.declared.refusal.Refusal.{Refusal}
 use Rattle.laws.specs.Tests.{pick}
 use Rattle.paper.specs.RefusalNumbers.{shares_pool}
 use Rattle.writing.specs.AnswerSheet.{sheet_after, written_of}
-use Rattle.writing.specs.declared.Written.{Written}
-use Rattle.writing.specs.declared.Written.TheVariants.{Bytes, NoRoom}
 use Rattle.answers.specs.Answer.{SmallShown, answer_bytes}
 use Rattle.answers.specs.declared.Shown.{Shown}
 use Rattle.table.specs.declared.table.Table.{Table}
@@ -27,7 +28,6 @@ use Rattle.paper.specs.Paper.{is_game}
 use Rattle.paper.proofs.Sheets.{good_ranged}
 use Rattle.text.specs.Line.{line_number}
 use Rattle.text.specs.TableSheet.{value_in}
-use Rattle.text.specs.declared.Number.{Number}
 use Rattle.desk.specs.Desk.{shown_of, refused_at, judged_of, SmallPaid, Closed}
 use Rattle.desk.specs.declared.Judged.{Judged}
 use Rattle.desk.proofs.Laws.{small_none, writes_none, keeps_all}
@@ -58,7 +58,7 @@ judged_any t log p q f =
     (f.0 ∙ sym (ap (λ (z : Bool). pick z (refused_at t (corrected_number log) shares_pool) (judged_of t log)) (sym p ∙ q)), f.1, f.2, f.3, log_closed t log f.0)
 
 -- the number of a correction has nine digits at most
-pub corrected_is : (log : List ℕ) {n : Number} {r : ℕ} → n ≡ line_number right_key log → r ≡ value_in n → (r ≡ corrected_number log) × (r < 10 ^ 9)
+pub corrected_is : (log : List ℕ) {n : Option ℕ} {r : ℕ} → n ≡ line_number right_key log → r ≡ value_in n → (r ≡ corrected_number log) × (r < 10 ^ 9)
 corrected_is log e f = (f ∙ ap value_in e, omega (arith, f, right_small log e))
 
 -- ---- the hand
@@ -124,23 +124,23 @@ module _ (t : Table) (p : Pool) (log sheet : List ℕ) {j : Judged} {s : Settled
       ∙ bytes_are
 
   -- what is said where so many bytes were written
-  said_from : (k : ℕ) → said j s k ≡ shared_from t p (judged_at t log) (Bytes k)
-  said_from k = ap (λ (x : Settled). said j x k) settled_is ∙ ap (λ (x : Judged). shared_from t p x (Bytes k)) ej
+  said_from : (k : ℕ) → said j s k ≡ shared_from t p (judged_at t log) (Ok k)
+  said_from k = ap (λ (x : Settled). said j x k) settled_is ∙ ap (λ (x : Judged). shared_from t p x (Ok k)) ej
 
-  kept_from : kept j.block t p ≡ shared_from t p (judged_at t log) NoRoom
+  kept_from : kept j.block t p ≡ shared_from t p (judged_at t log) (Err NoRoom)
   kept_from = ap (λ (x : Judged). kept x.block t p) ej
 
-  pub answered : {v : Shown} {w : Written} {r : SharedAnswer} {out : List ℕ} → j.block ≡ true → v ≡ shown_at j s.jackpot → w ≡ written_of (answer_bytes v) sheet
+  pub answered : {v : Shown} {w : Result ℕ Refusal} {r : SharedAnswer} {out : List ℕ} → j.block ≡ true → v ≡ shown_at j s.jackpot → w ≡ written_of (answer_bytes v) sheet
       → out ≡ sheet_after (answer_bytes v) sheet → r ≡ shared_from t p (judged_at t log) w → Sound r.table × (r.pool.held ≤ most)
       → (r ≡ shared_from t p (judged_at t log) (written_of (bytes_at t p log) sheet)) × ((out ≡ sheet_after (bytes_at t p log) sheet) × (Sound r.table × (r.pool.held ≤ most)))
   answered b e f g i z =
       let eb = shown_bytes b e in
       (i ∙ ap (shared_from t p (judged_at t log)) (f ∙ ap (λ (x : List ℕ). written_of x sheet) eb), (g ∙ ap (λ (x : List ℕ). sheet_after x sheet) eb, z))
 
-  pub answered_said : {r : SharedAnswer} {w : Written} {k : ℕ} → r ≡ said j s k → w ≡ Bytes k → r ≡ shared_from t p (judged_at t log) w
+  pub answered_said : {r : SharedAnswer} {w : Result ℕ Refusal} {k : ℕ} → r ≡ said j s k → w ≡ Ok k → r ≡ shared_from t p (judged_at t log) w
   answered_said {r} {w} {k} e f = e ∙ said_from k ∙ ap (shared_from t p (judged_at t log)) (sym f)
 
-  pub answered_kept : {r : SharedAnswer} {w : Written} → r ≡ kept j.block t p → w ≡ NoRoom → r ≡ shared_from t p (judged_at t log) w
+  pub answered_kept : {r : SharedAnswer} {w : Result ℕ Refusal} → r ≡ kept j.block t p → {why : Refusal} → w ≡ Err why → r ≡ shared_from t p (judged_at t log) w
   answered_kept e f = e ∙ kept_from ∙ ap (shared_from t p (judged_at t log)) (sym f)
 
   -- where there is no block nothing is written

@@ -7,12 +7,12 @@ use Prim.Native.Nat.{ℕ, ◌+◌, ◌≤◌}
 use native.Mathlib.Omega.{arith}
 use lib.ListN.{length, length-append}
 use borrow.Author.Tests.{le-leb}
+use Rattle.std.specs.Prelude.{Result, Ok, Err}
+use Rattle.paper.specs.declared.refusal.Refusal.{Refusal}
 use Rattle.laws.specs.Tests.{pick}
 use Rattle.laws.specs.Often.{count}
 use Rattle.paper.specs.RefusalNumbers.{shares_pool}
 use Rattle.writing.specs.AnswerSheet.{written_of}
-use Rattle.writing.specs.declared.Written.{Written}
-use Rattle.writing.specs.declared.Written.TheVariants.{Bytes, NoRoom}
 use Rattle.answers.specs.Answer.{answer_bytes, table_bytes, payout_bytes, longest_shared}
 use Rattle.answers.specs.Room.{most_lines_shared}
 use Rattle.answers.specs.declared.Shown.{Shown}
@@ -98,10 +98,10 @@ same_room t p q log = go (judged_at t log) (judged_at t log).block
     go j false = refl
 
 -- the code and the table are those of the table's own judgement
-pub code_apart : (t : Table) (p q : Pool) (j : Judged) (w : Written) → (shared_from t p j w).code ≡ (shared_from t q j w).code
-code_apart t p q j (Bytes k) = refl
-code_apart t p q j NoRoom = refl
+pub code_apart : (t : Table) (p q : Pool) (j : Judged) (w : Result ℕ Refusal) → (shared_from t p j w).code ≡ (shared_from t q j w).code
+code_apart t p q j (Ok k) = refl
+code_apart t p q j (Err why) = refl
 
-pub table_apart : (t : Table) (p q : Pool) (j : Judged) (w : Written) → (shared_from t p j w).table ≡ (shared_from t q j w).table
-table_apart t p q j (Bytes k) = refl
-table_apart t p q j NoRoom = refl
+pub table_apart : (t : Table) (p q : Pool) (j : Judged) (w : Result ℕ Refusal) → (shared_from t p j w).table ≡ (shared_from t q j w).table
+table_apart t p q j (Ok k) = refl
+table_apart t p q j (Err why) = refl

@@ -1,14 +1,14 @@
 -- Request No. 7: one block at a table that shares a pool. The block is judged by the table alone, whatever the pool holds; a taken settle's drop goes into the pool, what
 -- doesn't fit to the house, and the royal flush wins the whole of it; "a settled block has a `jackpot` line after `fee`, this hand's win or 0". A table that shares a
 -- pool refuses corrections with 14 (No. 12). After a refusal, and after 12, the table and the pool are those before. Assumes nothing.
-use Rattle.std.specs.Prelude.{ℕ, Bool, true, List, [], length}
+use Rattle.std.specs.Prelude.{ℕ, Bool, true, List, [], length, Result, Ok, Err}
+use Rattle.paper.specs.declared.refusal.Refusal.TheVariants.{NoRoom}
+use Rattle.paper.specs.declared.refusal.Refusal.{Refusal}
 use Rattle.laws.specs.Tests.{pick}
 use Rattle.paper.specs.RefusalNumbers.{shares_pool}
 use Rattle.text.specs.Line.{line_number}
 use Rattle.text.specs.TableSheet.{value_in}
 use Rattle.writing.specs.Codes.{code_of_written}
-use Rattle.writing.specs.declared.Written.{Written}
-use Rattle.writing.specs.declared.Written.TheVariants.{Bytes, NoRoom}
 use Rattle.answers.specs.Answer.{answer_bytes}
 use Rattle.answers.specs.declared.Shown.{Shown}
 use Rattle.table.specs.declared.table.Table.{Table}
@@ -71,8 +71,8 @@ said j s k = record { block = j.block; code = j.code; table = j.table; pool = s.
 
 -- refusal 12: a block whose answer was not written is not taken, and nothing is dropped
 abbrev pub kept : Bool → Table → Pool → SharedAnswer
-kept block t p = record { block = block; code = code_of_written NoRoom; table = t; pool = p; house = 0; written = 0 }
+kept block t p = record { block = block; code = code_of_written (Err NoRoom); table = t; pool = p; house = 0; written = 0 }
 
-abbrev pub shared_from : Table → Pool → Judged → Written → SharedAnswer
-shared_from t p j (Bytes k) = said j (settled_at t p j) k
-shared_from t p j NoRoom = kept j.block t p
+abbrev pub shared_from : Table → Pool → Judged → Result ℕ Refusal → SharedAnswer
+shared_from t p j (Ok k) = said j (settled_at t p j) k
+shared_from t p j (Err why) = kept j.block t p

@@ -18,8 +18,6 @@ use pool::{Hand, Pool, Settled, settled_pool};
 use royal::royal_now;
 use table::table::Table;
 use text::read_key_number;
-use text::sheet::value_in;
-use writing::Written;
 
 // No answer at a table that shares a pool has more bytes; it has 28 lines at most.
 pub const LONGEST: usize = answers::LONGEST_SHARED;
@@ -40,7 +38,7 @@ pub struct SharedAnswer {
 fn corrected_number(log: &[u8]) -> u32
     ensures { (result ≡ corrected_number log.now) × (result < 10 ^ 9) }
 {
-    value_in(read_key_number(log, b"right"))
+    read_key_number(log, b"right").unwrap_or(0)
 }
 
 // The block at the front of a log, judged at a table that shares a pool: a correction is refused with 14, and all else is judged as at any table.
@@ -139,7 +137,7 @@ pub fn answer_at(table: Table, pool: Pool, log: &[u8], sheet: &mut [u8]) -> Shar
         return said(j, s, 0);
     }
     let w = write_answer(sheet, shown_at(j, s.jackpot));
-    let Written::Bytes(k) = w else {
+    let Ok(k) = w else {
         return kept(j.block, table, pool);
     };
     said(j, s, k)

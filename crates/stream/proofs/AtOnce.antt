@@ -1,5 +1,9 @@
 -- Request No. 9: bytes one by one, and then the close, lead where the whole log leads that is read at once: the same codes, the same bytes, the same state. For any
 -- log, good sheet or bad, and any room for each answer. Assumes nothing.
+use Rattle.std.specs.Prelude.{Result, Ok, Err}
+use Rattle.paper.specs.declared.Sheet.{Sheet}
+use Rattle.paper.specs.declared.refusal.Refusal.TheVariants.{BadSheet}
+use Rattle.paper.specs.declared.refusal.Refusal.{Refusal}
 use Rattle.desk.specs.Log.{lone_read, opened_of, table_in}
 use mathlib.Core.Path.{◌≡◌, refl, sym, ap, subst, ◌∙◌}
 use mathlib.Core.List.{List, [], ◌∷◌}
@@ -15,8 +19,6 @@ use Rattle.laws.specs.Tests.{pick}
 use Rattle.laws.proofs.Sums.{le_or_lt}
 use Rattle.blocks.specs.Block.{rest_of}
 use Rattle.text.specs.TableSheet.{sheet_lines, sheet_of, sheet_end}
-use Rattle.text.specs.declared.sheet.SheetRead.{SheetRead}
-use Rattle.text.specs.declared.sheet.SheetRead.TheVariants.{Read, Bad}
 use Rattle.blocks.proofs.Blocks.{rest_shorter}
 use Rattle.lines.specs.Kept.{Kept, nothing, keep_all, Gathered, gather_of}
 use Rattle.lines.proofs.Cut.{cap, lfs, lines_none}
@@ -105,13 +107,13 @@ each_onward (suc k) room t log h = ⊎_elim
 
 -- ---- the whole log
 
-opened_onward : (room : ℕ) (o : SheetRead) (log : List ℕ) → closed room (and_then (open_of room o) (onward room (open_of room o).state (open_of room o).kept (sheet_end log))) ≡ at_once_from room o log
-opened_onward room (Read s) log = each_onward (length log) room (fresh_table s) (sheet_end log) (end_within log)
-opened_onward room Bad log = ap (λ (x : Given). closed room (and_then (open_of room Bad) x)) (shut_onward room nothing (sheet_end log)) ∙ shut-closed (open_of room Bad) refl
+opened_onward : (room : ℕ) (o : Result Sheet Refusal) (log : List ℕ) → closed room (and_then (open_of room o) (onward room (open_of room o).state (open_of room o).kept (sheet_end log))) ≡ at_once_from room o log
+opened_onward room (Ok s) log = each_onward (length log) room (fresh_table s) (sheet_end log) (end_within log)
+opened_onward room (Err why) log = ap (λ (x : Given). closed room (and_then (open_of room (Err why)) x)) (shut_onward room nothing (sheet_end log)) ∙ shut-closed (open_of room (Err why)) refl
   where
-    shut-closed : (x : Given) → x ≡ open_of room Bad → closed room (and_then x (still Shut nothing)) ≡ x
+    shut-closed : (x : Given) → x ≡ open_of room (Err BadSheet) → closed room (and_then x (still Shut nothing)) ≡ x
     shut-closed x e = subst (λ (y : Given). closed room (and_then y (still Shut nothing)) ≡ y) (sym e)
-        (then_assoc (open_of room Bad) (still Shut nothing) (still Shut nothing) ∙ then_nothing (open_of room Bad))
+        (then_assoc (open_of room (Err BadSheet)) (still Shut nothing) (still Shut nothing) ∙ then_nothing (open_of room (Err BadSheet)))
 
 sheet_whole : (room : ℕ) (log : List ℕ) → sheet_lines ≤ lfs log → closed room (onward room Unread nothing log) ≡ at_once room log
 unfolding at_once sheet_end opened_of
@@ -126,7 +128,7 @@ sheet_whole room log h =
     ∙ sym (front_sheet front (drop g.used log) all)
     ∙ ap sheet_of (take-append-drop g.used log) in
     let one : onward room Unread nothing front ≡ open_of room (opened_of log) =
-    ends_onward room Unread refl nothing log (omega arith) (omega (arith, (whole_kept (sheet_lines - 1) log h).0)) ∙ ap (λ (o : SheetRead). open_of room (lone_read o)) reads in
+    ends_onward room Unread refl nothing log (omega arith) (omega (arith, (whole_kept (sheet_lines - 1) log h).0)) ∙ ap (λ (o : Result Sheet Refusal). open_of room (lone_read o)) reads in
     ap (closed room)
     (ap (onward room Unread nothing) (sym (take-append-drop g.used log))
     ∙ onward_append room Unread nothing front (drop g.used log)
@@ -141,5 +143,5 @@ heard_at_once room log = ⊎_elim
     (λ h. ap (closed room) (open_onward room Unread log refl h) ∙ bad-whole h)
     (le_or_lt sheet_lines (lfs log))
   where
-    bad-whole : lfs log < sheet_lines → open_of room Bad ≡ at_once room log
-    bad-whole h = ap (λ (o : SheetRead). at_once_from room (lone_read o) log) (sym (sheet_open log h))
+    bad-whole : lfs log < sheet_lines → open_of room (Err BadSheet) ≡ at_once room log
+    bad-whole h = ap (λ (o : Result Sheet Refusal). at_once_from room (lone_read o) log) (sym (sheet_open log h))

@@ -1,5 +1,9 @@
 -- With room for the longest answer every answer fits: more room changes nothing, and no code is 12. A table stays sound over any bytes. For any state and any
 -- bytes. Assumes nothing.
+use Rattle.std.specs.Prelude.{Result, Ok, Err}
+use Rattle.paper.specs.declared.Sheet.{Sheet}
+use Rattle.paper.specs.declared.refusal.Refusal.TheVariants.{BadSheet}
+use Rattle.paper.specs.declared.refusal.Refusal.{Refusal}
 use Rattle.desk.specs.Log.{opened_of, eleven, table_in}
 use Rattle.desk.proofs.Opened.{opened_is}
 use Prim.Native.Nat.{ℕ, ◌≤◌}
@@ -18,10 +22,6 @@ use Rattle.blocks.specs.Block.{block_of}
 use Rattle.blocks.specs.Entry.{parsed_of}
 use Rattle.blocks.specs.declared.Block.{Block}
 use Rattle.blocks.specs.declared.Block.TheVariants.{Raw, Malformed, Nothing}
-use Rattle.blocks.specs.declared.Parsed.{Parsed}
-use Rattle.blocks.specs.declared.Parsed.TheVariants as parsed
-use Rattle.text.specs.declared.sheet.SheetRead.{SheetRead}
-use Rattle.text.specs.declared.sheet.SheetRead.TheVariants.{Read, Bad}
 use Rattle.lines.specs.Kept.{Kept, keep_of}
 use Rattle.table.specs.declared.table.Table.{Table}
 use Rattle.table.specs.Take.{Sound, code_of, next_of}
@@ -52,9 +52,9 @@ pub judged_sound : (t : Table) (log : List ℕ) → Sound t → Sound (judged_of
 unfolding judged_of
 judged_sound t log h = of-block (block_of log)
   where
-    of-parsed : (n : ℕ) (p : Parsed) → Sound (judge_parsed t n p).table
-    of-parsed n parsed.OutOfRange = h
-    of-parsed n (parsed.Read e) = next_sound t n e h
+    of-parsed : (n : ℕ) (p : Result Entry Refusal) → Sound (judge_parsed t n p).table
+    of-parsed n (Err why) = h
+    of-parsed n (Ok e) = next_sound t n e h
 
     of-block : (b : Block) → Sound (judge_block t b).table
     of-block (Raw n k s a b) = of-parsed n (parsed_of k s a b)
@@ -73,9 +73,9 @@ done_sound room (Open t) lines h = in_sound room t lines h
 done_sound room Shut lines h = h
 done_sound room Unread lines h = go (opened_of lines) refl
   where
-    go : (o : SheetRead) → opened_of lines ≡ o → sound_in (open_of room o).state
-    go (Read s) e = sound_fresh s (opened_is lines s e)
-    go Bad e = tt
+    go : (o : Result Sheet Refusal) → opened_of lines ≡ o → sound_in (open_of room o).state
+    go (Ok s) e = sound_fresh s (opened_is lines s e)
+    go (Err why) e = tt
 
 pub byte_sound : (room : ℕ) (s : State) (k : Kept) (b : ℕ) → sound_in s → sound_in (byte_of room s k b).state
 unfolding byte_of
@@ -102,9 +102,9 @@ module _ (room : ℕ) (enough : longest_answer ≤ room) where
   answer_enough t block h =
       answer_fits room t block (omega (arith, longest t block h)) ∙ sym (answer_fits longest_answer t block (longest t block h))
 
-  open_enough : (o : SheetRead) → open_of room o ≡ open_of longest_answer o
-  open_enough (Read s) = refl
-  open_enough Bad = ap (λ (b : Bool). record { state = Shut; kept = record { bytes = []; lines = 0; width = 0; bad = false }; codes = 11 ∷ []; bytes = pick b eleven [] }) (le-leb 8 room (omega arith))
+  open_enough : (o : Result Sheet Refusal) → open_of room o ≡ open_of longest_answer o
+  open_enough (Ok s) = refl
+  open_enough (Err why) = ap (λ (b : Bool). record { state = Shut; kept = record { bytes = []; lines = 0; width = 0; bad = false }; codes = 11 ∷ []; bytes = pick b eleven [] }) (le-leb 8 room (omega arith))
 
   done_enough : (s : State) (lines : List ℕ) → sound_in s → lines_done room s lines ≡ lines_done longest_answer s lines
   done_enough Unread lines h = open_enough (opened_of lines)
@@ -124,7 +124,7 @@ module _ (room : ℕ) (enough : longest_answer ≤ room) where
       ∙ ap (and_then y) (onward_enough y.state y.kept bs (byte_sound longest_answer s k b h))
 
   pub closing_enough : (s : State) (k : Kept) → sound_in s → closing room s k ≡ closing longest_answer s k
-  closing_enough Unread k h = open_enough Bad
+  closing_enough Unread k h = open_enough (Err BadSheet)
   closing_enough (Open t) k h = ap (pick (eqb (length k.bytes) 0) (still (Open t) (record { bytes = []; lines = 0; width = 0; bad = false }))) (answer_enough t k.bytes h)
   closing_enough Shut k h = refl
 
@@ -145,9 +145,9 @@ done_told (Open t) lines h =
     ∙ ap (λ (b : Bool). pick b true false) (ne_eqb (judged_of t lines).code 12 (λ q. omega (arith, judged_most t lines)))
 done_told Unread lines h = go (opened_of lines)
   where
-    go : (o : SheetRead) → any_short (open_of longest_answer o).codes ≡ false
-    go (Read s) = refl
-    go Bad = refl
+    go : (o : Result Sheet Refusal) → any_short (open_of longest_answer o).codes ≡ false
+    go (Ok s) = refl
+    go (Err why) = refl
 
 byte_told : (s : State) (k : Kept) (b : ℕ) → sound_in s → any_short (byte_of longest_answer s k b).codes ≡ false
 unfolding byte_of

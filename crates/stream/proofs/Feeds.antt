@@ -1,4 +1,7 @@
 -- A call of `feed`: shut, in place, or by way of the buffer, it does with the bytes that it uses up what they do one by one. For the proofs of the functions.
+use Rattle.std.specs.Prelude.{Result, Ok, Err}
+use Rattle.paper.specs.declared.Sheet.{Sheet}
+use Rattle.paper.specs.declared.refusal.Refusal.{Refusal}
 use Rattle.desk.specs.Log.{opened_of}
 use mathlib.Core.Path.{◌≡◌, refl, sym, ap, subst, ◌∙◌}
 use mathlib.Core.List.{List}
@@ -14,8 +17,6 @@ use Rattle.laws.specs.Tests.{pick, both}
 use Rattle.laws.proofs.Tests.{test, both_true}
 use Rattle.laws.proofs.Conjunction.{both_none}
 use Rattle.writing.specs.AnswerSheet.{over}
-use Rattle.text.specs.declared.sheet.SheetRead.{SheetRead}
-use Rattle.text.specs.declared.sheet.SheetRead.TheVariants.{Read, Bad}
 use Rattle.lines.specs.declared.Fill.{Fill}
 use Rattle.lines.specs.declared.Progress.{Progress}
 use Rattle.lines.specs.Kept.{Kept, nothing, Gathered, gather_of, kept_in, fill_of, progress_of, Room}
@@ -51,9 +52,9 @@ done_nothing room (Open t) lines = refl
 done_nothing room Shut lines = refl
 done_nothing room Unread lines = go (opened_of lines)
   where
-    go : (o : SheetRead) → (open_of room o).kept ≡ nothing
-    go (Read s) = refl
-    go Bad = refl
+    go : (o : Result Sheet Refusal) → (open_of room o).kept ≡ nothing
+    go (Ok s) = refl
+    go (Err why) = refl
 
 pub fill_in : (t : Table) (s : State) (m : Fill) → (clerk_in t s m).fill ≡ m
 fill_in t Unread m = refl

@@ -8,12 +8,12 @@ use native.Mathlib.Omega.{arith}
 use lib.ListN.{length, take, drop, length-append, take-append-drop}
 use lib.Dec.{eqb, leb, ltb}
 use borrow.Author.Tests.{ne_eqb, eq-eqb}
+use Rattle.std.specs.Prelude.{Option, Some, None, Ok, Err}
+use Rattle.paper.specs.declared.refusal.Refusal.TheVariants.{NoRoom}
 use Rattle.laws.specs.Tests.{pick, both}
 use Rattle.laws.proofs.Tests.{test, both_true}
 use Rattle.text.specs.Line.{line_len, line_number, value_of, after_line, after_lines}
 use Rattle.text.specs.Number.{number_of, well_formed}
-use Rattle.text.specs.declared.Number.{Number}
-use Rattle.text.specs.declared.Number.TheVariants.{Value, Bad}
 use Rattle.blocks.proofs.Blocks.{rest_drop}
 use Rattle.blocks.specs.Block.{block_of, block_from, line_kind, rest_of}
 use Rattle.blocks.specs.Front.{block_ended}
@@ -24,7 +24,6 @@ use Rattle.lines.proofs.Cut.{ended, lfs, lfs_on, ended_is, lfs_append, lines_fro
 use Rattle.lines.proofs.Whole.{five_lfs, value_open}
 use Rattle.lines.specs.declared.Fill.{Fill}
 use Rattle.lines.specs.Kept.{nothing, fill_of}
-use Rattle.writing.specs.declared.Written.TheVariants.{Bytes, NoRoom}
 use Rattle.writing.specs.AnswerSheet.{over, sheet_after}
 use Rattle.table.specs.declared.table.Table.{Table}
 use Rattle.table.specs.Take.{Sound}
@@ -53,26 +52,26 @@ after_is u n b e = ap (λ (m : Fill). record { clerk = record { opened = true; s
 
 -- ---- a block that is not whole is malformed
 
-number_open : (key x : List ℕ) → ended x ≡ false → line_number key x ≡ Bad
+number_open : (key x : List ℕ) → ended x ≡ false → line_number key x ≡ None
 unfolding number_of well_formed
 number_open key x h = ap number_of (value_open key x h)
 
-from_open : (n k s a : Number) → block_from n k s a Bad ≡ Malformed
-from_open Bad k s a = refl
-from_open (Value n) Bad s a = refl
-from_open (Value n) (Value k) Bad a = refl
-from_open (Value n) (Value k) (Value s) Bad = refl
-from_open (Value n) (Value k) (Value s) (Value a) = refl
+from_open : (n k s a : Option ℕ) → block_from n k s a None ≡ Malformed
+from_open None k s a = refl
+from_open (Some n) None s a = refl
+from_open (Some n) (Some k) None a = refl
+from_open (Some n) (Some k) (Some s) None = refl
+from_open (Some n) (Some k) (Some s) (Some a) = refl
 
 pub open_malformed : (l : List ℕ) → 0 < length l → block_ended l ≡ false → block_of l ≡ Malformed
 unfolding block_of block_ended
 open_malformed l h e =
-    let z : line_number (98 ∷ []) (after_lines 4 l) ≡ Bad = number_open (98 ∷ []) (after_lines 4 l) (sym (ended_is (after_lines 4 l)) ∙ e) in
+    let z : line_number (98 ∷ []) (after_lines 4 l) ≡ None = number_open (98 ∷ []) (after_lines 4 l) (sym (ended_is (after_lines 4 l)) ∙ e) in
     ap (λ (t : Bool). pick t Nothing (read (line_number (98 ∷ []) (after_lines 4 l)))) (ne_eqb (length l) 0 (λ q. omega arith))
     ∙ ap read z
     ∙ from_open (line_number (110 ∷ []) l) (line_kind (after_line l)) (line_number (115 ∷ 101 ∷ 97 ∷ 116 ∷ []) (after_line (after_line l))) (line_number (97 ∷ []) (after_line (after_line (after_line l))))
   where
-    read : Number → Block
+    read : Option ℕ → Block
     read b =
         block_from
         (line_number (110 ∷ []) l)
@@ -159,7 +158,7 @@ module _ (t : Table) (block x out : List ℕ) (o : Alone block x) where
   bs = block_bytes t x
 
   abbrev told : Bool → Answered
-  told b = answered_from t (judged_of t x) (pick b (Bytes (length bs)) NoRoom)
+  told b = answered_from t (judged_of t x) (pick b (Ok (length bs)) (Err NoRoom))
 
   answered : (b : Bool) → leb (length bs) (length out) ≡ b → answered_of t block out ≡ told b
   unfolding answered_of

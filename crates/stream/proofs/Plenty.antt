@@ -1,4 +1,7 @@
 -- With room for the longest answer what the whole log gives at once is the log's output. For any log. Assumes nothing.
+use Rattle.std.specs.Prelude.{Result, Ok, Err}
+use Rattle.paper.specs.declared.Sheet.{Sheet}
+use Rattle.paper.specs.declared.refusal.Refusal.{Refusal}
 use Rattle.desk.specs.Log.{opened_of, eleven, blocks_from, output_from, output_of, table_in}
 use Rattle.desk.proofs.Opened.{opened_is}
 use Prim.Native.Nat.{ℕ, zero, suc, ◌≤◌}
@@ -12,8 +15,6 @@ use borrow.Author.Tests.{le-leb}
 use Rattle.laws.specs.Tests.{pick}
 use Rattle.blocks.specs.Block.{rest_of}
 use Rattle.text.specs.TableSheet.{sheet_end}
-use Rattle.text.specs.declared.sheet.SheetRead.{SheetRead}
-use Rattle.text.specs.declared.sheet.SheetRead.TheVariants.{Read, Bad}
 use Rattle.table.specs.declared.table.Table.{Table}
 use Rattle.table.specs.Take.{Sound, fresh_table}
 use Rattle.table.proofs.Standing.{sound_fresh}
@@ -43,9 +44,9 @@ pub plenty : (room : ℕ) (log : List ℕ) → longest_answer ≤ room → (at_o
 unfolding at_once output_of
 plenty room log e = go (opened_of log) refl
   where
-    go : (o : SheetRead) → opened_of log ≡ o → (at_once_from room o log).bytes ≡ output_from o log
-    go (Read s) q = each_plenty (length log) room (fresh_table s) (sheet_end log) (sound_fresh s (opened_is log s q)) e
-    go Bad q = ap (λ (z : Bool). pick z eleven []) (le-leb 8 room (omega arith))
+    go : (o : Result Sheet Refusal) → opened_of log ≡ o → (at_once_from room o log).bytes ≡ output_from o log
+    go (Ok s) q = each_plenty (length log) room (fresh_table s) (sheet_end log) (sound_fresh s (opened_is log s q)) e
+    go (Err why) q = ap (λ (z : Bool). pick z eleven []) (le-leb 8 room (omega arith))
 
 -- so what is written for the parts of a log is the output of the whole
 pub parts_output : (room : ℕ) (buf : List ℕ) (parts : List (List ℕ)) → longest_answer ≤ room → kept_most ≤ length buf → (served_of room buf parts).bytes ≡ output_of (whole parts)

@@ -4,13 +4,15 @@ use Prim.Native.Nat.{ℕ, ◌≤◌, ◌<◌}
 use mathlib.Core.Bool.{true}
 use mathlib.Core.Path.{◌≡◌, refl, ap}
 use mathlib.Core.List.{List, []}
+use Rattle.std.specs.Prelude.{Result, Err}
+use Rattle.paper.specs.declared.Sheet.{Sheet}
+use Rattle.paper.specs.declared.refusal.Refusal.TheVariants.{BadSheet}
+use Rattle.paper.specs.declared.refusal.Refusal.{Refusal}
 use Rattle.text.specs.Line.{after_lines}
 use Rattle.blocks.specs.declared.Block.{Block}
 use Rattle.lines.specs.Kept.{nothing, keep_all}
 use Rattle.lines.proofs.Cut.{lfs}
 use Rattle.text.specs.TableSheet.{sheet_lines}
-use Rattle.text.specs.declared.sheet.SheetRead.{SheetRead}
-use Rattle.text.specs.declared.sheet.SheetRead.TheVariants.{Bad}
 use Rattle.desk.specs.Log.{lone_read, opened_of}
 use Rattle.lines.proofs.Bad.{bad_block, bad_sheet}
 use Rattle.paper.specs.RefusalNumbers.{malformed}
@@ -32,9 +34,9 @@ open_silent room t raw h = open_onward room (Open t) raw refl h
 
 -- the sheet's lines likewise: 11, and the box is shut; and before its last LF nothing
 pub bad_is_11 : (room : ℕ) (raw : List ℕ) → (keep_all nothing raw).bad ≡ true → lfs raw ≤ sheet_lines → after_lines sheet_lines raw ≡ []
-    → lines_done room Unread raw ≡ open_of room Bad
+    → lines_done room Unread raw ≡ open_of room (Err BadSheet)
 unfolding opened_of
-bad_is_11 room raw h l e = ap (λ (o : SheetRead). open_of room (lone_read o)) (bad_sheet raw h l e)
+bad_is_11 room raw h l e = ap (λ (o : Result Sheet Refusal). open_of room (lone_read o)) (bad_sheet raw h l e)
 
 pub sheet_silent : (room : ℕ) (raw : List ℕ) → lfs raw < sheet_lines → onward room Unread nothing raw ≡ still Unread (keep_all nothing raw)
 sheet_silent room raw h = open_onward room Unread raw refl h

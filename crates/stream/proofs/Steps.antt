@@ -1,4 +1,7 @@
 -- Whole lines, the sheet or a block, and the close: what the calls say and write is what is given. For the proofs of the functions.
+use Rattle.std.specs.Prelude.{Result, Ok, Err}
+use Rattle.paper.specs.declared.refusal.Refusal.TheVariants.{BadSheet, NoRoom}
+use Rattle.paper.specs.declared.refusal.Refusal.{Refusal}
 use Rattle.desk.specs.Log.{opened_of, eleven, fitting, table_in}
 use mathlib.Core.Path.{◌≡◌, refl, sym, ap, subst, ◌∙◌}
 use mathlib.Core.List.{List, [], ◌∷◌}
@@ -11,9 +14,6 @@ use borrow.Author.Tests.{eq-eqb, ne_eqb}
 use Rattle.laws.specs.Tests.{pick}
 use Rattle.paper.specs.declared.Sheet.{Sheet}
 use Rattle.writing.specs.AnswerSheet.{Wrote, fits, sheet_after}
-use Rattle.text.specs.declared.sheet.SheetRead.{SheetRead}
-use Rattle.text.specs.declared.sheet.SheetRead.TheVariants.{Read, Bad}
-use Rattle.writing.specs.declared.Written.TheVariants.{Bytes, NoRoom}
 use Rattle.lines.specs.declared.Fill.{Fill}
 use Rattle.lines.specs.Kept.{nothing, fill_of}
 use Rattle.lines.proofs.Keeps.{empty_room}
@@ -39,7 +39,7 @@ pub answered_code : (t : Table) (block sheet : List ℕ) → (answered_of t bloc
 unfolding answered_of code_in
 answered_code t block sheet = go (fits (block_bytes t block) sheet)
   where
-    go : (b : Bool) → (answered_from t (judged_of t block) (pick b (Bytes (length (block_bytes t block))) NoRoom)).code ≡ pick b (judged_of t block).code 12
+    go : (b : Bool) → (answered_from t (judged_of t block) (pick b (Ok (length (block_bytes t block))) (Err NoRoom))).code ≡ pick b (judged_of t block).code 12
     go true = refl
     go false = refl
 
@@ -81,20 +81,20 @@ module _ (t : Table) (block out : List ℕ) where
           → ◌≡◌ {A = Clerk} (record { opened = true; shut = false; table = u; fill = x }) (record { opened = true; shut = false; table = v; fill = y })
       same p q = cc
 
-  pub bad_gave : {o : SheetRead} {new : List ℕ} {m : Fill} {r : ℕ} → o ≡ opened_of block → o ≡ Bad → Wrote (fitting eleven (length out)) out new r → m ≡ fill_of nothing → Sound t
+  pub bad_gave : {o : Result Sheet Refusal} {new : List ℕ} {m : Fill} {r : ℕ} → o ≡ opened_of block → {why : Refusal} → o ≡ Err why → Wrote (fitting eleven (length out)) out new r → m ≡ fill_of nothing → Sound t
       → Gave t (lines_done (length out) (state_at false t) block) out new (record { opened = false; shut = true; table = t; fill = m }) r false
       × (Held (record { opened = false; shut = true; table = t; fill = m }) × (r ≤ length out))
   bad_gave {o} {new} {m} {r} e q w g h =
-      let z : open_of (length out) Bad ≡ open_of (length out) (opened_of block) = ap (open_of (length out)) (sym q ∙ e) in (
+      let z : open_of (length out) (Err BadSheet) ≡ open_of (length out) (opened_of block) = ap (open_of (length out)) (sym q ∙ e) in (
         subst (λ (x : Given). Gave t x out new (record { opened = false; shut = true; table = t; fill = m }) r false) z (record { clerk = ap (clerk_in t Shut) g; wrote = w; short = refl }),
         (shut_held t m h g, omega (arith, w.count, fitting_within eleven (length out))),
       )
 
-  pub read_gave : {o : SheetRead} {s : Sheet} {u : Table} {m : Fill} → o ≡ opened_of block → o ≡ Read s → (u ≡ fresh_table s) × Sound u → m ≡ fill_of nothing
+  pub read_gave : {o : Result Sheet Refusal} {s : Sheet} {u : Table} {m : Fill} → o ≡ opened_of block → o ≡ Ok s → (u ≡ fresh_table s) × Sound u → m ≡ fill_of nothing
       → Gave t (lines_done (length out) (state_at false t) block) out out (record { opened = true; shut = false; table = u; fill = m }) 0 false
       × (Held (record { opened = true; shut = false; table = u; fill = m }) × (0 ≤ length out))
   read_gave {o} {s} {u} {m} e q f g =
-      let z : open_of (length out) (Read s) ≡ open_of (length out) (opened_of block) = ap (open_of (length out)) (sym q ∙ e) in (
+      let z : open_of (length out) (Ok s) ≡ open_of (length out) (opened_of block) = ap (open_of (length out)) (sym q ∙ e) in (
         subst (λ (x : Given). Gave t x out out (record { opened = true; shut = false; table = u; fill = m }) 0 false) z
             (record { clerk = same f.0 g; wrote = record { count = refl; sheet = refl }; short = refl }),
         (open_held u m f.1 g, omega arith),

@@ -2,13 +2,14 @@
 -- of the whole log read at once with equal room for each answer; an unfinished block gets its code 1 only at the close."
 -- The log byte by byte, and the whole log at once, each with `room` bytes for each answer. Assumes nothing.
 use Rattle.desk.specs.Log.{opened_of, eleven, fitting, table_in}
-use Rattle.std.specs.Prelude.{ℕ, zero, suc, List, [], ◌∷◌, ◌++◌, Bool, true, false, length, eqb, leb}
+use Rattle.paper.specs.declared.Sheet.{Sheet}
+use Rattle.paper.specs.declared.refusal.Refusal.TheVariants.{BadSheet}
+use Rattle.paper.specs.declared.refusal.Refusal.{Refusal}
+use Rattle.std.specs.Prelude.{ℕ, zero, suc, List, [], ◌∷◌, ◌++◌, Bool, true, false, length, eqb, leb, Result, Ok, Err}
 use Rattle.laws.specs.Tests.{pick}
 use Rattle.paper.specs.RefusalNumbers.{bad_sheet, no_room}
 use Rattle.blocks.specs.Block.{rest_of}
 use Rattle.text.specs.TableSheet.{sheet_end}
-use Rattle.text.specs.declared.sheet.SheetRead.{SheetRead}
-use Rattle.text.specs.declared.sheet.SheetRead.TheVariants.{Read, Bad}
 use Rattle.lines.specs.Kept.{Kept, nothing, keep_of}
 pub use Rattle.lines.specs.Kept.{lines_of}
 use Rattle.table.specs.declared.table.Table.{Table}
@@ -50,9 +51,9 @@ answer_of room t block = record {
 }
 
 -- a sheet opens the table, or is bad and shuts the box
-abbrev pub open_of : ℕ → SheetRead → Given
-open_of room (Read s) = still (Open (fresh_table s)) nothing
-open_of room Bad = record { state = Shut; kept = nothing; codes = bad_sheet ∷ []; bytes = fitting eleven room }
+abbrev pub open_of : ℕ → Result Sheet Refusal → Given
+open_of room (Ok s) = still (Open (fresh_table s)) nothing
+open_of room (Err why) = record { state = Shut; kept = nothing; codes = bad_sheet ∷ []; bytes = fitting eleven room }
 
 abbrev pub lines_done : ℕ → State → List ℕ → Given
 lines_done room Unread lines = open_of room (opened_of lines)
@@ -84,7 +85,7 @@ onward room s k (b ∷ bs) = and_then (byte_of room s k b) (onward room (byte_of
 
 -- the close: a sheet that is not whole is bad, and a block that is not whole is malformed; nothing kept is no block
 abbrev pub closing : ℕ → State → Kept → Given
-closing room Unread k = open_of room Bad
+closing room Unread k = open_of room (Err BadSheet)
 closing room (Open t) k = pick (eqb (length k.bytes) 0) (still (Open t) nothing) (answer_of room t k.bytes)
 closing room Shut k = still Shut nothing
 
@@ -99,9 +100,9 @@ each_from zero room t log = still (Open t) nothing
 each_from (suc k) room t log =
     pick (eqb (length log) 0) (still (Open t) nothing) (and_then (answer_of room t log) (each_from k room (table_in t log room) (rest_of log)))
 
-abbrev pub at_once_from : ℕ → SheetRead → List ℕ → Given
-at_once_from room (Read s) log = each_from (length log) room (fresh_table s) (sheet_end log)
-at_once_from room Bad log = open_of room Bad
+abbrev pub at_once_from : ℕ → Result Sheet Refusal → List ℕ → Given
+at_once_from room (Ok s) log = each_from (length log) room (fresh_table s) (sheet_end log)
+at_once_from room (Err why) log = open_of room (Err why)
 
 unfoldable pub at_once : ℕ → List ℕ → Given
 at_once room log = at_once_from room (opened_of log) log

@@ -19,7 +19,6 @@ use place::{RanInPlace, in_place};
 use table::table::Table;
 use table::take::new_table;
 use text::line::{after_lines, line_end};
-use text::sheet::SheetRead;
 
 pub mod place;
 
@@ -108,7 +107,7 @@ fn whole_sheet(t: Table, block: &[u8], out: &mut [u8]) -> ClerkAfter
 {
     let z = empty();
     match read_lone_sheet(block) {
-        SheetRead::Bad => ClerkAfter {
+        Err(_) => ClerkAfter {
             clerk: Clerk {
                 opened: false,
                 shut: true,
@@ -118,7 +117,7 @@ fn whole_sheet(t: Table, block: &[u8], out: &mut [u8]) -> ClerkAfter
             written: refuse_sheet(out),
             short: false,
         },
-        SheetRead::Read(s) => ClerkAfter {
+        Ok(s) => ClerkAfter {
             clerk: Clerk {
                 opened: true,
                 shut: false,

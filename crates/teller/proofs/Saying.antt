@@ -8,10 +8,9 @@ use lib.Dec.{eqb, lit<}
 use lib.ListN.{length, get_or, drop, get_or-eq_default}
 use lib.Seq.{drop-cons}
 use borrow.Author.Tests.{ne_eqb}
+use Rattle.std.specs.Prelude.{Option, Some, None}
 use Rattle.laws.specs.Tests.{both, pick}
 use Rattle.laws.proofs.Conjunction.{both_none}
-use Rattle.text.specs.declared.Number.{Number}
-use Rattle.text.specs.declared.Number.TheVariants.{Value, Bad}
 use Rattle.text.specs.Line.{starts_with, has_key, line_number, value_of}
 use Rattle.text.specs.TableSheet.{value_in}
 use Rattle.text.proofs.Numbers.{number_back}
@@ -23,9 +22,9 @@ use Rattle.teller.specs.Lines.{key_give, key_rows, key_worth, key_count, other_l
 pub value_small : (key line : List ℕ) → value_in (line_number key line) < 10 ^ 9
 value_small key line = go (line_number key line) refl
   where
-    go : (x : Number) → line_number key line ≡ x → value_in x < 10 ^ 9
-    go (Value v) e = (number_back (value_of key line) v e).1
-    go Bad e = lit< tt
+    go : (x : Option ℕ) → line_number key line ≡ x → value_in x < 10 ^ 9
+    go (Some v) e = (number_back (value_of key line) v e).1
+    go None e = lit< tt
 
 -- a line whose end the key reaches has nothing behind it
 pub key_whole : (key line : List ℕ) → length line ≤ length key → false ≡ has_key key line

@@ -6,7 +6,6 @@ ghost use Rattle.teller.specs.Lines.{other_line, keyed_line, said_of};
 
 use text::line::starts_with;
 use text::read_key_number;
-use text::sheet::{is_value, value_in};
 
 pub const SITTING: u32 = 3;
 
@@ -58,8 +57,8 @@ fn keyed(line: &[u8], key: &[u8], kind: u32) -> Line
         let x = read_key_number(line, key);
         return Line {
             kind,
-            good: is_value(x),
-            value: value_in(x),
+            good: x.is_some(),
+            value: x.unwrap_or(0),
         };
     }
     other()

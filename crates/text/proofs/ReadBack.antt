@@ -11,11 +11,11 @@ use lib.ListN.{length, get_or, drop, take-append-drop, drop_of_length-le, get_or
 use lib.Seq.{drop-cons, length-take-le}
 use lib.Dec.{eqb, leb, ltb}
 use borrow.Author.Tests.{eqb-true, ltb-true, leb-true, leb-false}
+use Rattle.std.specs.Prelude.{Some, None}
 use Rattle.laws.specs.Tests.{pick, both}
 use Rattle.laws.proofs.Tests.{both_true, test}
 use Rattle.text.specs.Number.{number_of}
 use Rattle.text.specs.Line.{line_len, line_of, after_line, line_ended, starts_with, has_key, value_of, line_number, number_line}
-use Rattle.text.specs.declared.Number.TheVariants.{Value, Bad}
 use Rattle.text.proofs.Numbers.{number_back, number_none}
 use Rattle.text.proofs.Lines.{line_within}
 use Rattle.text.proofs.RoundTrip.{line_shape}
@@ -70,13 +70,13 @@ value_back key log h = go (both (line_ended log) (has_key key (line_of log))) re
         sym (split_line log e) ∙ ap (λ (r : List ℕ). r ++ (10 ∷ after_line log)) (sym (key_is key (line_of log) q.1))
 
 -- a number has a digit
-some_digit : (bs : List ℕ) (n : ℕ) → number_of bs ≡ Value n → 0 < length bs
+some_digit : (bs : List ℕ) (n : ℕ) → number_of bs ≡ Some n → 0 < length bs
 some_digit [] n e =
-    let b : number_of [] ≡ Bad = number_none [] refl in
+    let b : number_of [] ≡ None = number_none [] refl in
     let z : ◌≡◌ {A = ℕ} 0 1 = cc in absurd (omega arith)
 some_digit (b ∷ bs) n e = omega arith
 
-pub line_back : (key log : List ℕ) (n : ℕ) → line_number key log ≡ Value n → log ≡ number_line key n ++ after_line log
+pub line_back : (key log : List ℕ) (n : ℕ) → line_number key log ≡ Some n → log ≡ number_line key n ++ after_line log
 line_back key log n e =
     value_back key log (some_digit (value_of key log) n e)
     ∙ ap (λ (r : List ℕ). key ++ (61 ∷ r) ++ (10 ∷ after_line log)) (number_back (value_of key log) n e).0

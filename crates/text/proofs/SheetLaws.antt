@@ -8,13 +8,14 @@ use Prim.Native.Nat.{ℕ, zero, suc, ◌+◌, ◌-◌, ◌<◌}
 use native.Mathlib.Numerals.{add-one}
 use native.Mathlib.Omega.{arith}
 use lib.ListN.{get_or}
+use Rattle.std.specs.Prelude.{Ok, Err}
+use Rattle.paper.specs.declared.refusal.Refusal.TheVariants.{BadSheet}
 use Rattle.laws.specs.Tests.{pick, both}
 use Rattle.text.specs.Line.{after_line, after_lines}
 use Rattle.paper.specs.Paper.{sheet_by, is_sheet}
 use Rattle.text.specs.TableSheet.{sheet_lines, sheet_number, is_value, value_in, all_good, values_from, sheet_with, sheet_of}
 use Rattle.paper.specs.declared.Sheet.{Sheet}
 use Rattle.laws.proofs.Tests.{both_true}
-use Rattle.text.specs.declared.sheet.SheetRead.TheVariants as read_as
 
 pub lines_none : (l : List ℕ) (k : ℕ) → k ≡ 0 → l ≡ after_lines k l
 lines_none l k e = rw e
@@ -72,31 +73,31 @@ module _ (x y : List ℕ) where
   unfolding sheet_of sheet_with
   sheet_same e =
       let v : values_from sheet_lines 0 x ≡ values_from sheet_lines 0 y = values_same sheet_lines 0 (λ k h. let z : 0 + k ≡ k = omega arith in rw z (e k h)) in
-      ap (λ (b : Bool). pick (both b (is_sheet (sheet_with x))) (read_as.Read (sheet_with x)) read_as.Bad) (good_same sheet_lines e)
-      ∙ ap (λ (vs : List ℕ). pick (both (all_good sheet_lines y) (is_sheet (sheet_by vs))) (read_as.Read (sheet_by vs)) read_as.Bad) v
+      ap (λ (b : Bool). pick (both b (is_sheet (sheet_with x))) (Ok (sheet_with x)) (Err BadSheet)) (good_same sheet_lines e)
+      ∙ ap (λ (vs : List ℕ). pick (both (all_good sheet_lines y) (is_sheet (sheet_by vs))) (Ok (sheet_by vs)) (Err BadSheet)) v
 
 -- ---- the three answers of reading a sheet
 
 module _ (l : List ℕ) where
-  pub sheet_bad : all_good sheet_lines l ≡ false → sheet_of l ≡ read_as.Bad
+  pub sheet_bad : all_good sheet_lines l ≡ false → sheet_of l ≡ Err BadSheet
   unfolding sheet_of
   sheet_bad e = rw e
 
-  pub sheet_crossed : all_good sheet_lines l ≡ true → is_sheet (sheet_with l) ≡ false → sheet_of l ≡ read_as.Bad
+  pub sheet_crossed : all_good sheet_lines l ≡ true → is_sheet (sheet_with l) ≡ false → sheet_of l ≡ Err BadSheet
   unfolding sheet_of
   sheet_crossed e f = rw (e, f)
 
-  pub sheet_good : all_good sheet_lines l ≡ true → is_sheet (sheet_with l) ≡ true → sheet_of l ≡ read_as.Read (sheet_with l)
+  pub sheet_good : all_good sheet_lines l ≡ true → is_sheet (sheet_with l) ≡ true → sheet_of l ≡ Ok (sheet_with l)
   unfolding sheet_of
   sheet_good e f = rw (e, f)
 
 -- what a sheet that was read says: each line is good, the numbers are the sheet's, and they passed paper's test
-pub sheet_said : (l : List ℕ) (s : Sheet) → sheet_of l ≡ read_as.Read s → (all_good sheet_lines l ≡ true) × (sheet_with l ≡ s) × (is_sheet s ≡ true)
+pub sheet_said : (l : List ℕ) (s : Sheet) → sheet_of l ≡ Ok s → (all_good sheet_lines l ≡ true) × (sheet_with l ≡ s) × (is_sheet s ≡ true)
 unfolding sheet_of
 sheet_said l s e = go (both (all_good sheet_lines l) (is_sheet (sheet_with l))) refl e
   where
     go : (t : Bool) → both (all_good sheet_lines l) (is_sheet (sheet_with l)) ≡ t
-        → pick t (read_as.Read (sheet_with l)) read_as.Bad ≡ read_as.Read s → (all_good sheet_lines l ≡ true) × (sheet_with l ≡ s) × (is_sheet s ≡ true)
+        → pick t (Ok (sheet_with l)) (Err BadSheet) ≡ Ok s → (all_good sheet_lines l ≡ true) × (sheet_with l ≡ s) × (is_sheet s ≡ true)
     go false w v = let z : ◌≡◌ {A = ℕ} 0 1 = cc in absurd (omega arith)
     go true w v =
         let p = both_true (all_good sheet_lines l) (is_sheet (sheet_with l)) w in
@@ -104,5 +105,5 @@ sheet_said l s e = go (both (all_good sheet_lines l) (is_sheet (sheet_with l))) 
         (p.0, m, sym (ap is_sheet m) ∙ p.1)
 
 -- so it is a good sheet: that is the test itself
-pub sheet_is : (l : List ℕ) (s : Sheet) → sheet_of l ≡ read_as.Read s → is_sheet s ≡ true
+pub sheet_is : (l : List ℕ) (s : Sheet) → sheet_of l ≡ Ok s → is_sheet s ≡ true
 sheet_is l s e = (sheet_said l s e).2

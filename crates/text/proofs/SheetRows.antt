@@ -8,13 +8,13 @@ use lib.ListN.{length, get_or, take}
 use lib.Seq.{length-take-le}
 use lib.Dec.{leb}
 use borrow.Author.Tests.{leb-true}
+use Rattle.std.specs.Prelude.{Option}
 use Rattle.laws.specs.Tests.{both}
 use Rattle.laws.proofs.Tests.{both_true}
 use Rattle.laws.proofs.Rules.{all_below, below_all}
 use Rattle.text.specs.Line.{line_number, number_line, after_lines}
 use Rattle.text.specs.Number.{digits}
 use Rattle.laws.specs.Listing.{same_list}
-use Rattle.text.specs.declared.Number.{Number}
 use Rattle.text.specs.TableSheet.{sheet_lines, sheet_keys, sheet_number}
 use Rattle.text.specs.declared.sheet.Key.{Key}
 use Rattle.laws.proofs.Members.{same_list_law}
@@ -53,7 +53,7 @@ row k h =
     (leb-true _ _ p.0, same_list_law _ _ p.1)
 
 -- what the reading of a line answered
-pub number_said : (k : ℕ) (log : List ℕ) {rest : List ℕ} {x : Number} → k < sheet_lines → rest ≡ after_lines k log
+pub number_said : (k : ℕ) (log : List ℕ) {rest : List ℕ} {x : Option ℕ} → k < sheet_lines → rest ≡ after_lines k log
     → x ≡ line_number (take ((at k).letters - 0) (at k).bytes) rest → x ≡ sheet_number k log
 unfolding sheet_number
 number_said k log h e f = f ∙ rw (e, (row k h).1)

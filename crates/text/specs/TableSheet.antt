@@ -2,15 +2,13 @@
 -- Request No. 3: "the room's smallest chip, a sixth sheet line step (1 to 1,000)". Request No. 5: "A seventh sheet line game is 2 or 4."
 -- Request No. 6: "An eighth sheet line deck is 52 or 32". Request No. 7: "drop units (ninth sheet line, 0 to 1,000)".
 -- Refusal 11: "a sheet line is missing, malformed or out of its range".
-use Rattle.std.specs.Prelude.{ℕ, zero, suc, ◌+◌, ◌*◌, List, [], ◌∷◌, Bool, true, false, length, get_or}
+use Rattle.std.specs.Prelude.{ℕ, zero, suc, ◌+◌, ◌*◌, List, [], ◌∷◌, Bool, true, length, get_or, Option, is_some, unwrap_or, Result, Ok, Err}
+use Rattle.paper.specs.declared.refusal.Refusal.TheVariants.{BadSheet}
+use Rattle.paper.specs.declared.refusal.Refusal.{Refusal}
 use Rattle.laws.specs.Tests.{pick, both}
 use Rattle.text.specs.Line.{after_lines, line_number}
 use Rattle.paper.specs.SheetAndEntries.{sheet_by, is_sheet}
-use Rattle.text.specs.declared.Number.{Number}
-use Rattle.text.specs.declared.Number.TheVariants.{Value, Bad}
 use Rattle.paper.specs.declared.Sheet.{Sheet}
-use Rattle.text.specs.declared.sheet.SheetRead.{SheetRead}
-use Rattle.text.specs.declared.sheet.SheetRead.TheVariants as read_as
 
 -- the keys of the sheet's lines in their order: the one table of them. What numbers they may have is said by paper's `is_sheet`
 abbrev pub sheet_keys : List (List ℕ)
@@ -44,16 +42,14 @@ abbrev pub sheet_room : ℕ
 sheet_room = sheet_lines * 34
 
 -- the number of the sheet's k-th line, counted from 0
-unfoldable pub sheet_number : ℕ → List ℕ → Number
+unfoldable pub sheet_number : ℕ → List ℕ → Option ℕ
 sheet_number k log = line_number (get_or sheet_keys k []) (after_lines k log)
 
-abbrev pub is_value : Number → Bool
-is_value (Value v) = true
-is_value Bad = false
+abbrev pub is_value : Option ℕ → Bool
+is_value x = is_some x
 
-abbrev pub value_in : Number → ℕ
-value_in (Value v) = v
-value_in Bad = 0
+abbrev pub value_in : Option ℕ → ℕ
+value_in x = unwrap_or x 0
 
 -- the first k lines are good
 abbrev pub all_good : ℕ → List ℕ → Bool
@@ -69,8 +65,8 @@ unfoldable pub sheet_with : List ℕ → Sheet
 sheet_with log = sheet_by (values_from sheet_lines 0 log)
 
 -- the sheet at the front of a log: each of its lines is a number line with its key, and the numbers are those of a sheet
-unfoldable pub sheet_of : List ℕ → SheetRead
-sheet_of log = pick (both (all_good sheet_lines log) (is_sheet (sheet_with log))) (read_as.Read (sheet_with log)) read_as.Bad
+unfoldable pub sheet_of : List ℕ → Result Sheet Refusal
+sheet_of log = pick (both (all_good sheet_lines log) (is_sheet (sheet_with log))) (Ok (sheet_with log)) (Err BadSheet)
 
 -- what follows the sheet: its lines are used up
 unfoldable pub sheet_end : List ℕ → List ℕ

@@ -2,8 +2,6 @@
 ghost use Rattle.std.specs.Prelude.{◌≡◌, ◌≤◌, length};
 ghost use Rattle.text.specs.Number.{number_of, digits_from};
 
-use crate::Number;
-
 // A byte as a number that can grow.
 pub fn wide(b: u8) -> u32
     ensures { result ≡ b }
@@ -12,7 +10,7 @@ pub fn wide(b: u8) -> u32
 }
 
 // The value of at most nine digits.
-fn digits_value(part: &[u8]) -> Number
+fn digits_value(part: &[u8]) -> Option<u32>
     requires { length part.now ≤ 9 }
     ensures { result ≡ digits_from 0 part.now }
 {
@@ -21,32 +19,32 @@ fn digits_value(part: &[u8]) -> Number
     while i < part.len() {
         let b = part[i];
         if b < 48 {
-            return Number::Bad;
+            return None;
         }
         if 57 < b {
-            return Number::Bad;
+            return None;
         }
         v = v * 10 + wide(b - 48);
         i += 1;
     }
-    Number::Value(v)
+    Some(v)
 }
 
 // What the bytes of `part` are as a number.
-pub fn number_in(part: &[u8]) -> Number
+pub fn number_in(part: &[u8]) -> Option<u32>
     ensures { result ≡ number_of part.now }
 {
     if part.len() == 0 {
-        return Number::Bad;
+        return None;
     }
     if 9 < part.len() {
-        return Number::Bad;
+        return None;
     }
     if part[0] == 48 {
         if part.len() == 1 {
-            return Number::Value(0);
+            return Some(0);
         }
-        return Number::Bad;
+        return None;
     }
     digits_value(part)
 }

@@ -6,10 +6,3 @@ pub mod line;
 pub mod sheet;
 
 pub use line::read_key_number;
-
-// The number that bytes are, or that they are none.
-#[derive(Clone, Copy)]
-pub enum Number {
-    Value(u32),
-    Bad,
-}

@@ -2,7 +2,6 @@
 ghost use Rattle.std.specs.Prelude.{◌≡◌, ◌≤◌, length};
 ghost use Rattle.text.specs.Line.{line_len, after_line, after_lines, starts_with, value_start, value_of, line_number};
 
-use crate::Number;
 use crate::decimal::number_in;
 
 // Where the log's first line ends: its LF's place, or the log's length.
@@ -99,7 +98,7 @@ pub fn value_of<'a>(log: &'a [u8], key: &[u8], e: usize) -> &'a [u8]
 }
 
 // The number of the log's first line, which ends at e, where that has this key.
-pub fn number_of(log: &[u8], key: &[u8], e: usize) -> Number
+pub fn number_of(log: &[u8], key: &[u8], e: usize) -> Option<u32>
     requires { e ≡ line_len log.now }
     ensures { result ≡ line_number key.now log.now }
 {
@@ -107,7 +106,7 @@ pub fn number_of(log: &[u8], key: &[u8], e: usize) -> Number
 }
 
 // The number of the log's first line, where that has this key.
-pub fn read_key_number(log: &[u8], key: &[u8]) -> Number
+pub fn read_key_number(log: &[u8], key: &[u8]) -> Option<u32>
     ensures { result ≡ line_number key.now log.now }
 {
     number_of(log, key, line_end(log))

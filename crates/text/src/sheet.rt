@@ -1,17 +1,9 @@
 // The table sheet: its lines, by a table of keys.
 ghost use Rattle.std.specs.Prelude.{◌≡◌, ◌<◌};
-ghost use Rattle.text.specs.TableSheet.{sheet_lines, sheet_number, is_value, value_in, all_good, sheet_of, sheet_end, sheet_with};
+ghost use Rattle.text.specs.TableSheet.{sheet_lines, sheet_number, value_in, all_good, sheet_of, sheet_end, sheet_with};
 
-use crate::Number;
 use crate::line::{after_lines, read_key_number};
-use paper::{Sheet, is_sheet};
-
-// A sheet, or that one of its lines is missing, malformed or out of its range: code 11.
-#[derive(Clone, Copy)]
-pub enum SheetRead {
-    Read(Sheet),
-    Bad,
-}
+use paper::{Refusal, Sheet, is_sheet};
 
 // How many lines a sheet has.
 pub const LINES: usize = 9;
@@ -66,7 +58,7 @@ pub const KEYS: [Key; LINES] = [
 ];
 
 // The number of the sheet's k-th line.
-fn sheet_number(log: &[u8], k: usize) -> Number
+fn sheet_number(log: &[u8], k: usize) -> Option<u32>
     requires { k < sheet_lines }
     ensures { result ≡ sheet_number k log.now }
 {
@@ -76,33 +68,12 @@ fn sheet_number(log: &[u8], k: usize) -> Number
     read_key_number(after_lines(log, k), &bytes[0..letters])
 }
 
-pub fn is_value(x: Number) -> bool
-    ensures { result ≡ is_value x }
-{
-    match x {
-        Number::Value(_) => true,
-        Number::Bad => false,
-    }
-}
-
-pub fn value_in(x: Number) -> u32
-    ensures { result ≡ value_in x }
-{
-    match x {
-        Number::Value(v) => v,
-        Number::Bad => 0,
-    }
-}
-
 // Whether each of the sheet's lines is good.
 fn all_good(log: &[u8]) -> bool
     ensures { result ≡ all_good sheet_lines log.now }
 {
-    let mut k: usize = 0;
-    while k < LINES {
-        if is_value(sheet_number(log, k)) {
-            k += 1;
-        } else {
+    for k in 0..LINES {
+        if sheet_number(log, k).is_none() {
             return false;
         }
     }
@@ -113,7 +84,7 @@ fn value_at(log: &[u8], k: usize) -> u32
     requires { k < sheet_lines }
     ensures { result ≡ value_in (sheet_number k log.now) }
 {
-    value_in(sheet_number(log, k))
+    sheet_number(log, k).unwrap_or(0)
 }
 
 // The sheet of the numbers of its lines, good or not.
@@ -133,17 +104,17 @@ fn sheet_with(log: &[u8]) -> Sheet
     }
 }
 
-// The sheet at the front of a log.
-pub fn read_sheet(log: &[u8]) -> SheetRead
+// The sheet at the front of a log, or code 11: one of its lines is missing, malformed or out of its range.
+pub fn read_sheet(log: &[u8]) -> Result<Sheet, Refusal>
     ensures { result ≡ sheet_of log.now }
 {
     if all_good(log) {
         let s = sheet_with(log);
         if is_sheet(s) {
-            return SheetRead::Read(s);
+            return Ok(s);
         }
     }
-    SheetRead::Bad
+    Err(Refusal::BadSheet)
 }
 
 // What follows the sheet.

@@ -12,7 +12,7 @@ use desk::{answer, answer_room};
 use output::{STDIN_FILENO, STDOUT_FILENO};
 use table::table::Table;
 use table::take::new_table;
-use text::sheet::{SheetRead, after_sheet};
+use text::sheet::after_sheet;
 
 // What stands in a sheet before anything is written there: no answer has this byte.
 const BLANK: u8 = 170;
@@ -162,7 +162,7 @@ fn main() {
     let n = io::read_full(STDIN_FILENO, &mut space);
     let log = &space[0..n];
     match read_lone_sheet(log) {
-        SheetRead::Bad => say(b"bad sheet ", 11),
-        SheetRead::Read(s) => tell(try_log(new_table(s), after_sheet(log))),
+        Err(_) => say(b"bad sheet ", 11),
+        Ok(s) => tell(try_log(new_table(s), after_sheet(log))),
     }
 }

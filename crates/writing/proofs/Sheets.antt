@@ -7,8 +7,9 @@ use native.Mathlib.Omega.{arith}
 use lib.ListN.{length, get_or, take, drop, set, length-append}
 use lib.Seq.{take-append_seam, drop-append_seam, drop-drop, drop-cons, set-append_seam, length-take-le, take-suc, set_split}
 use borrow.Rule.Slice.PartMut.{mid_of, put_mid}
+use Rattle.std.specs.Prelude.{Ok, Err}
+use Rattle.paper.specs.declared.refusal.Refusal.TheVariants.{NoRoom}
 use Rattle.writing.specs.AnswerSheet.{over, Wrote, fits, sheet_after, written_of}
-use Rattle.writing.specs.declared.Written.TheVariants.{Bytes, NoRoom}
 use borrow.Author.Tests.{le-leb, lt-leb}
 use Rattle.text.proofs.Parts.{part_is, part_back}
 use mathlib.Core.Bool.{true, false}
@@ -58,12 +59,12 @@ same_bytes e w = rw e w
 
 -- ---- with and without room
 
-pub no_room : (bs l : List ℕ) → length l < length bs → (NoRoom ≡ written_of bs l) × (l ≡ sheet_after bs l)
+pub no_room : (bs l : List ℕ) → length l < length bs → (Err NoRoom ≡ written_of bs l) × (l ≡ sheet_after bs l)
 no_room bs l h =
     let e : fits bs l ≡ false = lt-leb (length bs) (length l) h in
     (rw e, rw e)
 
-pub with_room : {bs l s : List ℕ} {r : ℕ} → length bs ≤ length l → Wrote bs l s r → (Bytes r ≡ written_of bs l) × (s ≡ sheet_after bs l)
+pub with_room : {bs l s : List ℕ} {r : ℕ} → length bs ≤ length l → Wrote bs l s r → (Ok r ≡ written_of bs l) × (s ≡ sheet_after bs l)
 with_room {bs} {l} {s} {r} h w =
     let e : fits bs l ≡ true = le-leb (length bs) (length l) h in
     (rw (e, w.count), rw e w.sheet)

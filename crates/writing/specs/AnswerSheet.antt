@@ -1,8 +1,8 @@
 -- Document 01, "The answer block": "Each line is written into the rest of the answer sheet behind the last; bytes beyond the block stay."
-use Rattle.std.specs.Prelude.{ℕ, ◌≡◌, List, ◌++◌, Bool, length, drop, leb}
+use Rattle.std.specs.Prelude.{ℕ, ◌≡◌, List, ◌++◌, Bool, length, drop, leb, Result, Ok, Err}
+use Rattle.paper.specs.declared.refusal.Refusal.TheVariants.{NoRoom}
+use Rattle.paper.specs.declared.refusal.Refusal.{Refusal}
 use Rattle.laws.specs.Tests.{pick}
-use Rattle.writing.specs.declared.Written.{Written}
-use Rattle.writing.specs.declared.Written.TheVariants.{Bytes, NoRoom}
 
 -- the sheet with the bytes bs at its front, and all behind them as it was
 abbrev pub over : List ℕ → List ℕ → List ℕ
@@ -20,5 +20,5 @@ fits bs sheet = leb (length bs) (length sheet)
 abbrev pub sheet_after : List ℕ → List ℕ → List ℕ
 sheet_after bs sheet = pick (fits bs sheet) (over bs sheet) sheet
 
-abbrev pub written_of : List ℕ → List ℕ → Written
-written_of bs sheet = pick (fits bs sheet) (Bytes (length bs)) NoRoom
+abbrev pub written_of : List ℕ → List ℕ → Result ℕ Refusal
+written_of bs sheet = pick (fits bs sheet) (Ok (length bs)) (Err NoRoom)

@@ -7,10 +7,3 @@ mod writer;
 
 pub use decimal::{digit_count, put_digits};
 pub use writer::{put_bytes, write_amount_line, write_nine_line, write_number_line};
-
-// How many bytes were written, or that the sheet is too short: code 12.
-#[derive(Clone, Copy)]
-pub enum Written {
-    Bytes(usize),
-    NoRoom,
-}

@@ -2,5 +2,5 @@
 use Rattle.amends.proofs.Judging.{outside_value}
 use Rattle.amends.proofs.outside.Goals as goal
 
-pub returns-in-Value : goal.returns-in-Value
-returns-in-Value c = outside_value c.args.kind c.in-Value.is c.is_six.ensures
+pub returns-in-Some : goal.returns-in-Some
+returns-in-Some c = outside_value c.args.kind c.in-Some.is c.is_six.ensures

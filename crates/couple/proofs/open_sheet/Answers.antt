@@ -5,10 +5,10 @@ use Rattle.couple.proofs.Tables.{sheet_bad, sheet_gave}
 use Rattle.couple.proofs.open_sheet.Goals as goal
 
 pub with_sheet-requires : goal.with_sheet-requires
-with_sheet-requires c = (c.requires.0, sheet_is c.args.lines.now _ (sym c.read_sheet.ensures ∙ c.in-Read.is))
+with_sheet-requires c = (c.requires.0, sheet_is c.args.lines.now _ (sym c.read_sheet.ensures ∙ c.in-Ok.is))
 
-pub returns-in-Bad : goal.returns-in-Bad
-returns-in-Bad c = let w = c.refuse.ensures in record { gave = sheet_bad c.args.p c.args.due c.read_sheet.ensures c.in-Bad.is w.gave; good = w.good }
+pub returns-in-Err : goal.returns-in-Err
+returns-in-Err c = let w = c.refuse.ensures in record { gave = sheet_bad c.args.p c.args.due c.read_sheet.ensures c.in-Err.is w.gave; good = w.good }
 
-pub returns-in-Read : goal.returns-in-Read
-returns-in-Read c = let w = c.with_sheet.ensures in record { gave = sheet_gave c.args.p c.args.due c.read_sheet.ensures c.in-Read.is (record { pair = w.0; wrote = record { count = refl; sheet = refl } }); good = w.1 }
+pub returns-in-Ok : goal.returns-in-Ok
+returns-in-Ok c = let w = c.with_sheet.ensures in record { gave = sheet_gave c.args.p c.args.due c.read_sheet.ensures c.in-Ok.is (record { pair = w.0; wrote = record { count = refl; sheet = refl } }); good = w.1 }

@@ -19,4 +19,4 @@ pub returns-in_default : goal.returns-in_default
 returns-in_default c = let r = answered_is c.args.table (judge_block c.args.table c.args.b) c.args.sheet.now c.judge_block-j.ensures.0 (not-false _ c.if-not-j.false) c.shown_of-s.ensures.0 c.write_answer-w.ensures.answer c.write_answer-w.ensures.bytes (rw c.in_default.is refl) c.requires.0 in record { answer = r.0; bytes = r.1.0; sound = r.1.1 }
 
 pub returns : goal.returns
-returns c = let r = answered_is c.args.table (judge_block c.args.table c.args.b) c.args.sheet.now c.judge_block-j.ensures.0 (not-false _ c.if-not-j.false) c.shown_of-s.ensures.0 c.write_answer-w.ensures.answer c.write_answer-w.ensures.bytes (rw c.in-Bytes.is refl) c.judge_block-j.ensures.1 in record { answer = r.0; bytes = r.1.0; sound = r.1.1 }
+returns c = let r = answered_is c.args.table (judge_block c.args.table c.args.b) c.args.sheet.now c.judge_block-j.ensures.0 (not-false _ c.if-not-j.false) c.shown_of-s.ensures.0 c.write_answer-w.ensures.answer c.write_answer-w.ensures.bytes (rw c.in-Ok.is refl) c.judge_block-j.ensures.1 in record { answer = r.0; bytes = r.1.0; sound = r.1.1 }

@@ -1,8 +1,8 @@
 -- `plan_parsed` meets its contract.
 use Rattle.desk.proofs.plan_parsed.Goals as goal
 
-pub returns-in-OutOfRange : goal.returns-in-OutOfRange
-returns-in-OutOfRange c = rw c.in-OutOfRange.is c.no_entry.ensures
+pub returns-in-Err : goal.returns-in-Err
+returns-in-Err c = rw c.in-Err.is c.no_entry.ensures
 
-pub returns-in-Read : goal.returns-in-Read
-returns-in-Read c = rw c.in-Read.is
+pub returns-in-Ok : goal.returns-in-Ok
+returns-in-Ok c = rw c.in-Ok.is

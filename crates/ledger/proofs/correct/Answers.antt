@@ -14,4 +14,4 @@ pub rewrite-requires : goal.rewrite-requires
 rewrite-requires c = (c.requires.0.sheet, c.requires.0.sound.taken)
 
 pub returns : goal.returns
-returns c = let r = righted_is c.args.b c.args.shared c.args.r c.args.log.now c.args.index.now c.args.sheet.now c.requires.0 c.judge_right-j.ensures.1 (part_is 0 _) c.judge_right-j.ensures.0 c.put_answer-w.ensures.answer c.put_answer-w.ensures.bytes c.was_taken-ok.ensures c.value_in.ensures c.numbers_in.ensures c.rewrite.ensures.log c.rewrite.ensures.index c.told.ensures in record { answer = r.0; log = r.1.0; index = r.1.1.0; sheet = r.1.1.1.0; held = r.1.1.1.1 }
+returns c = let r = righted_is c.args.b c.args.shared c.args.r c.args.log.now c.args.index.now c.args.sheet.now c.requires.0 c.judge_right-j.ensures.1 (part_is 0 _) c.judge_right-j.ensures.0 c.put_answer-w.ensures.answer c.put_answer-w.ensures.bytes c.was_taken-ok.ensures c.unwrap_or.ensures c.numbers_in.ensures c.rewrite.ensures.log c.rewrite.ensures.index c.told.ensures in record { answer = r.0; log = r.1.0; index = r.1.1.0; sheet = r.1.1.1.0; held = r.1.1.1.1 }

@@ -2,8 +2,8 @@
 use Rattle.ledger.proofs.Telling.{told_bytes, told_none}
 use Rattle.ledger.proofs.told.Goals as goal
 
-pub returns-in-Bytes : goal.returns-in-Bytes
-returns-in-Bytes c = told_bytes c.args.b c.args.j c.args.hands c.args.w c.in-Bytes.is
+pub returns-in-Ok : goal.returns-in-Ok
+returns-in-Ok c = told_bytes c.args.b c.args.j c.args.hands c.args.w c.in-Ok.is
 
-pub returns-in-NoRoom : goal.returns-in-NoRoom
-returns-in-NoRoom c = told_none c.args.b c.args.j c.args.hands c.args.w c.in-NoRoom.is
+pub returns-in-Err : goal.returns-in-Err
+returns-in-Err c = told_none c.args.b c.args.j c.args.hands c.args.w c.in-Err.is

@@ -36,6 +36,6 @@ returns c =
     let j = c.judge_at-j.ensures in
     let h = c.hand_of.ensures in
     let p = c.settled_pool-s.ensures in
-    let told = answered_said s.args.table s.args.pool s.args.log.now s.args.sheet.now j.0 h p c.said-2.ensures c.in-Bytes.is in
+    let told = answered_said s.args.table s.args.pool s.args.log.now s.args.sheet.now j.0 h p c.said-2.ensures c.in-Ok.is in
     let r = answered s.args.table s.args.pool s.args.log.now s.args.sheet.now j.0 h p (not-false _ c.if-not-j.false) c.shown_at.ensures.0
     c.write_answer-w.ensures.answer c.write_answer-w.ensures.bytes told (said_fit (ap (λ (x : SharedAnswer). x.table) c.said-2.ensures) (ap (λ (x : SharedAnswer). x.pool) c.said-2.ensures) j.1 (pool_small s.args.pool _ s.requires.1 p)) in record { answer = r.0; bytes = r.1.0; sound = r.1.1 }

@@ -5,14 +5,14 @@ use Rattle.stream.proofs.Steps.{bad_gave, read_gave}
 use Rattle.stream.proofs.whole_sheet.Goals as goal
 
 pub new_table-requires : goal.new_table-requires
-new_table-requires c = opened_is c.args.block.now _ (sym c.read_lone_sheet.ensures ∙ c.in-Read.is)
+new_table-requires c = opened_is c.args.block.now _ (sym c.read_lone_sheet.ensures ∙ c.in-Ok.is)
 
-pub returns-in-Bad : goal.returns-in-Bad
-returns-in-Bad c =
+pub returns-in-Err : goal.returns-in-Err
+returns-in-Err c =
     let s = c in
-    let r = bad_gave s.args.t s.args.block.now s.args.out.now c.read_lone_sheet.ensures c.in-Bad.is c.refuse_sheet.ensures c.empty-z.ensures.0 s.requires in record { gave = r.0; held = r.1 }
+    let r = bad_gave s.args.t s.args.block.now s.args.out.now c.read_lone_sheet.ensures c.in-Err.is c.refuse_sheet.ensures c.empty-z.ensures.0 s.requires in record { gave = r.0; held = r.1 }
 
-pub returns-in-Read : goal.returns-in-Read
-returns-in-Read c =
+pub returns-in-Ok : goal.returns-in-Ok
+returns-in-Ok c =
     let s = c in
-    let r = read_gave s.args.t s.args.block.now s.args.out.now c.read_lone_sheet.ensures c.in-Read.is c.new_table.ensures c.empty-z.ensures.0 in record { gave = r.0; held = r.1 }
+    let r = read_gave s.args.t s.args.block.now s.args.out.now c.read_lone_sheet.ensures c.in-Ok.is c.new_table.ensures c.empty-z.ensures.0 in record { gave = r.0; held = r.1 }

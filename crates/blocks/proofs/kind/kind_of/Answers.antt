@@ -1,8 +1,8 @@
 -- `kind_of` meets its contract.
 use mathlib.Core.Path.{sym, ap, ◌∙◌}
 use Prim.Native.Nat.{ℕ}
+use Rattle.std.specs.Prelude.{Some}
 use Rattle.blocks.specs.Block.{kind_names}
-use Rattle.text.specs.declared.Number.TheVariants.{Value}
 use Rattle.blocks.proofs.Blocks.{place_within, kind_none, kind_long, kind_letters, kind_other}
 use native.Mathlib.Omega.{arith}
 use Rattle.blocks.proofs.kind.kind_of.Goals as goal
@@ -24,7 +24,7 @@ overflow_cast-result c =
 pub returns-then-all_within : goal.returns-then-all_within
 returns-then-all_within c =
     let s = c in
-    ap (λ (k : ℕ). Value k) c.kind_place.ensures ∙ sym (kind_letters s.args.w.now (omega arith) (omega arith) (sym c.all_within.ensures ∙ c.if-all_within.true))
+    ap (λ (k : ℕ). Some k) c.kind_place.ensures ∙ sym (kind_letters s.args.w.now (omega arith) (omega arith) (sym c.all_within.ensures ∙ c.if-all_within.true))
 
 pub returns : goal.returns
 returns c = sym (kind_other c.args.w.now (omega arith) (omega arith) (sym c.all_within.ensures ∙ c.if-all_within.false))

@@ -2,8 +2,8 @@
 use Rattle.logs.proofs.Copies.{entry_none, entry_put}
 use Rattle.logs.proofs.copy.copy_entry.Goals as goal
 
-pub returns-in-OutOfRange : goal.returns-in-OutOfRange
-returns-in-OutOfRange c = let r = entry_none c.args.sheet c.args.n c.args.p c.args.buffer.now c.in-OutOfRange.is c.left_out.ensures in record { answer = r.0; bytes = r.1 }
+pub returns-in-Err : goal.returns-in-Err
+returns-in-Err c = let r = entry_none c.args.sheet c.args.n c.args.p c.args.buffer.now c.in-Err.is c.left_out.ensures in record { answer = r.0; bytes = r.1 }
 
-pub returns-in-Read : goal.returns-in-Read
-returns-in-Read c = let r = entry_put c.args.sheet c.args.n c.args.p c.args.buffer.now c.in-Read.is c.write_entry.ensures.answer c.write_entry.ensures.bytes c.told.ensures in record { answer = r.0; bytes = r.1 }
+pub returns-in-Ok : goal.returns-in-Ok
+returns-in-Ok c = let r = entry_put c.args.sheet c.args.n c.args.p c.args.buffer.now c.in-Ok.is c.write_entry.ensures.answer c.write_entry.ensures.bytes c.told.ensures in record { answer = r.0; bytes = r.1 }

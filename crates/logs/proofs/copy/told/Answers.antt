@@ -1,11 +1,8 @@
 -- `told` meets its contract, answer by answer.
 use Rattle.logs.proofs.copy.told.Goals as goal
 
-pub returns-in-Bytes : goal.returns-in-Bytes
-returns-in-Bytes c = rw c.in-Bytes.is
+pub returns-in-Ok : goal.returns-in-Ok
+returns-in-Ok c = rw c.in-Ok.is
 
-pub returns-in-OutOfRange : goal.returns-in-OutOfRange
-returns-in-OutOfRange c = rw c.in-OutOfRange.is c.left_out.ensures
-
-pub returns-in-NoRoom : goal.returns-in-NoRoom
-returns-in-NoRoom c = rw c.in-NoRoom.is c.left_out-in-NoRoom.ensures
+pub returns-in-Err : goal.returns-in-Err
+returns-in-Err c = rw c.in-Err.is (rw (c.left_out.ensures, c.number.ensures))

@@ -5,14 +5,14 @@ use Rattle.seen.specs.Seen.{opened_by, after_sheet}
 use Rattle.seen.proofs.feed.after_sheet.Goals as goal
 
 pub good_sheet-requires : goal.good_sheet-requires
-good_sheet-requires c = opened_is c.args.block.now _ (sym c.read_lone_sheet.ensures ∙ c.in-Read.is)
+good_sheet-requires c = opened_is c.args.block.now _ (sym c.read_lone_sheet.ensures ∙ c.in-Ok.is)
 
-pub returns-in-Bad : goal.returns-in-Bad
+pub returns-in-Err : goal.returns-in-Err
 unfolding after_sheet
-returns-in-Bad c = let e = sym c.read_lone_sheet.ensures ∙ c.in-Bad.is in
+returns-in-Err c = let e = sym c.read_lone_sheet.ensures ∙ c.in-Err.is in
     (c.bad_sheet.ensures.0 ∙ sym (ap (opened_by c.args.s) e), c.bad_sheet.ensures.1)
 
-pub returns-in-Read : goal.returns-in-Read
+pub returns-in-Ok : goal.returns-in-Ok
 unfolding after_sheet
-returns-in-Read c = let e = sym c.read_lone_sheet.ensures ∙ c.in-Read.is in
+returns-in-Ok c = let e = sym c.read_lone_sheet.ensures ∙ c.in-Ok.is in
     (c.good_sheet.ensures.0 ∙ sym (ap (opened_by c.args.s) e), c.good_sheet.ensures.1)

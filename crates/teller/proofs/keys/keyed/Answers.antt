@@ -8,8 +8,8 @@ use mathlib.Core.Path.{refl, sym, ap, ◌∙◌, subst}
 use Rattle.teller.proofs.keys.keyed.Goals as goal
 
 pub returns-then-has_key : goal.returns-then-has_key
-returns-then-has_key c = let e = c.value_in.ensures ∙ ap value_in c.read_key_number-x.ensures in
-    (rw (sym c.has_key.ensures ∙ c.if-has_key.true) (rw (c.value_in.ensures, c.is_value.ensures, c.read_key_number-x.ensures) refl), subst (λ (n : ℕ). n < 10 ^ 9) (sym e) (value_small c.args.key.now c.args.line.now))
+returns-then-has_key c = let e = c.unwrap_or.ensures ∙ ap value_in c.read_key_number-x.ensures in
+    (rw (sym c.has_key.ensures ∙ c.if-has_key.true) (rw (c.unwrap_or.ensures, c.is_some.ensures, c.read_key_number-x.ensures) refl), subst (λ (n : ℕ). n < 10 ^ 9) (sym e) (value_small c.args.key.now c.args.line.now))
 
 pub returns : goal.returns
 returns c = (rw (sym c.has_key.ensures ∙ c.if-has_key.false) c.other.ensures, subst (λ (l : Line). l.value < 10 ^ 9) (sym c.other.ensures) (lit< tt))

@@ -1,7 +1,6 @@
 -- `digits_value` meets its contract: what is left, behind the value so far, is what the whole is.
 use borrow.Author.Rules.{rules}
 use mathlib.Core.Path.{refl, sym, ◌∙◌}
-use Prim.Native.Nat.{◌-◌}
 use native.Mathlib.Numerals.{add-one}
 use Rattle.text.proofs.Numbers.{digits_stop, digits_on, digits_end, step_below, room}
 use native.Mathlib.Omega.{arith}

@@ -1,6 +1,5 @@
 -- `line_end` meets its contract: at each place passed, the place and the rest's line make the same end.
 use Rattle.text.proofs.Lines.{line_here, line_on, line_none}
-use Prim.Native.Nat.{◌-◌}
 use native.Mathlib.Omega.{arith}
 use borrow.Author.Rules.{rules}
 use Rattle.text.proofs.line.line_end.Goals as goal

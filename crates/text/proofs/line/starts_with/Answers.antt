@@ -1,7 +1,6 @@
 -- `starts_with` meets its contract: what is left compares as the whole does.
 use borrow.Author.Rules.{rules}
 use mathlib.Core.Path.{refl, sym, ◌∙◌}
-use Prim.Native.Nat.{◌-◌}
 use Rattle.text.proofs.Lines.{starts_end, starts_short, starts_differ, starts_on}
 use native.Mathlib.Omega.{arith}
 use Rattle.text.proofs.line.starts_with.Goals as goal
