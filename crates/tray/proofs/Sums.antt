@@ -2,7 +2,7 @@
 -- Assumes nothing.
 use Prim.Native.Nat.{ℕ, zero, suc, ◌+◌, ◌*◌, ◌≤◌, ◌<◌, zero-le}
 use mathlib.Core.Path.{◌≡◌, refl, sym, ap, ◌∙◌}
-use mathlib.Core.Bool.{Bool, true}
+use mathlib.Core.Bool.{Bool, true, false, true≢false}
 use mathlib.Core.Logic.{⊎_elim}
 use mathlib.Core.List.{List, [], ◌∷◌, ◌++◌}
 use native.Mathlib.Nat.{eq-or-lt_of_le, le_of_suc-le-suc, suc-mul}
@@ -19,6 +19,10 @@ sum_turn f i s x e q = ap (λ k. k + x) e ∙ ap (λ k. sum_to i f + k) q ∙ sy
 
 pub all_turn : (f : ℕ → Bool) (i : ℕ) (t x r : Bool) → t ≡ all_to i f → x ≡ f i → r ≡ both t x → r ≡ all_to (i + 1) f
 all_turn f i t x r e q w = w ∙ ap (λ k. both k x) e ∙ ap (λ k. both (all_to i f) k) q ∙ sym (ap (λ k. all_to k f) (add-one i))
+
+-- one number more passes
+pub all_more : (f : ℕ → Bool) (i : ℕ) → all_to i f ≡ true → f i ≡ true → all_to (i + 1) f ≡ true
+all_more f i e q = ap (λ k. all_to k f) (add-one i) ∙ ap (λ t. both t (f i)) e ∙ q
 
 -- a store at i lists one number more
 pub list_turn : {A : Type 0} (f : ℕ → A) (l : List A) (i : ℕ) (x : A) → i < length l → take i l ≡ list_to i f → x ≡ f i → take (i + 1) (set l i x) ≡ list_to (i + 1) f
@@ -45,6 +49,14 @@ all_at zero f e k h = absurd (omega arith)
 all_at (suc n) f e k h =
     let p = both_true (all_to n f) (f n) e in
     ⊎_elim (λ q. ap f q ∙ p.1) (λ q. all_at n f p.0 k q) (eq-or-lt_of_le (le_of_suc-le-suc h))
+
+-- where one number fails, not all pass
+pub all_fails : (n : ℕ) (f : ℕ → Bool) (k : ℕ) → k < n → f k ≡ false → false ≡ all_to n f
+all_fails n f k h e = go (all_to n f) refl
+  where
+    go : (t : Bool) → all_to n f ≡ t → false ≡ all_to n f
+    go true q = absurd (true≢false (sym (all_at n f q k h) ∙ e))
+    go false q = sym q
 
 pub all_made : (n : ℕ) (f : ℕ → Bool) → ((k : ℕ) → k < n → f k ≡ true) → all_to n f ≡ true
 all_made zero f h = refl

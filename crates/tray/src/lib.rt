@@ -30,14 +30,12 @@ fn row_fits(worth: u32, count: u32) -> bool
 fn rows_fit(worths: &[u32], counts: &[u32]) -> bool
     ensures { result ≡ all_to (length worths.now) (λ i. row_fits (get_or worths.now i 0) (get_or counts.now i 0)) }
 {
-    let mut ok = true;
-    let mut i: usize = 0;
-    while i < worths.len() {
-        let fit = row_fits(number_at(worths, i), number_at(counts, i));
-        ok = both(ok, fit);
-        i += 1;
+    for (i, worth) in worths.iter().enumerate() {
+        if !row_fits(*worth, number_at(counts, i)) {
+            return false;
+        }
     }
-    ok
+    true
 }
 
 // Whether so long a list is a proposal's for so many sittings.
@@ -77,13 +75,7 @@ fn given(p: &[u32], rows: usize, s: usize, i: usize) -> u32
 fn product(k: u32, worth: u32) -> u64
     ensures { (result ≡ k * worth) × (result ≤ 4294967295 * worth) }
 {
-    k as u64 * worth as u64
-}
-
-fn wide(n: u32) -> u64
-    ensures { result ≡ n }
-{
-    n as u64
+    u64::from(k) * u64::from(worth)
 }
 
 // What sitting s is given in all.
@@ -93,11 +85,8 @@ fn worth_given(worths: &[u32], p: &[u32], s: usize) -> u64
 {
     let rows = worths.len();
     let mut sum: u64 = 0;
-    let mut i: usize = 0;
-    while i < rows {
-        let k = given(p, rows, s, i);
-        sum = sum + product(k, number_at(worths, i));
-        i += 1;
+    for (i, worth) in worths.iter().enumerate() {
+        sum += product(given(p, rows, s, i), *worth);
     }
     sum
 }
@@ -107,15 +96,12 @@ fn pays_all(worths: &[u32], paid: &[u32], p: &[u32]) -> bool
     requires { (length worths.now ≤ 16) × (length paid.now ≤ 10) × ((i : ℕ) → get_or worths.now i 0 ≤ 100000) }
     ensures { result ≡ pays_all worths.now paid.now p.now }
 {
-    let mut ok = true;
-    let mut s: usize = 0;
-    while s < paid.len() {
-        let sum = worth_given(worths, p, s);
-        let exact = sum == wide(number_at(paid, s));
-        ok = both(ok, exact);
-        s += 1;
+    for (s, owed) in paid.iter().enumerate() {
+        if worth_given(worths, p, s) != u64::from(*owed) {
+            return false;
+        }
     }
-    ok
+    true
 }
 
 // What is taken from row i in all.
@@ -124,10 +110,8 @@ fn taken_from(p: &[u32], rows: usize, sittings: usize, i: usize) -> u64
     ensures { result ≡ taken_from rows sittings p.now i }
 {
     let mut sum: u64 = 0;
-    let mut s: usize = 0;
-    while s < sittings {
-        sum = sum + wide(given(p, rows, s, i));
-        s += 1;
+    for s in 0..sittings {
+        sum += u64::from(given(p, rows, s, i));
     }
     sum
 }
@@ -138,15 +122,12 @@ fn holds_all(counts: &[u32], sittings: usize, p: &[u32]) -> bool
     ensures { result ≡ holds_all counts.now sittings p.now }
 {
     let rows = counts.len();
-    let mut ok = true;
-    let mut i: usize = 0;
-    while i < rows {
-        let sum = taken_from(p, rows, sittings, i);
-        let held = sum <= wide(number_at(counts, i));
-        ok = both(ok, held);
-        i += 1;
+    for (i, count) in counts.iter().enumerate() {
+        if u64::from(*count) < taken_from(p, rows, sittings, i) {
+            return false;
+        }
     }
-    ok
+    true
 }
 
 // The checker's answer: 0 accepted, 2 out of bounds, 16 refused.
@@ -168,10 +149,7 @@ pub fn check(worths: &[u32], counts: &[u32], paid: &[u32], p: &[u32]) -> u32
 pub fn less(count: u32, taken: u64) -> u32
     ensures { result ≡ count - taken }
 {
-    if taken < wide(count) {
-        return count - taken as u32;
-    }
-    0
+    u64::from(count).saturating_sub(taken) as u32
 }
 
 // Each count lowered by what is taken from its row.
@@ -180,11 +158,8 @@ fn lower(counts: &mut [u32], sittings: usize, p: &[u32])
     ensures { counts.new ≡ lowered sittings p.now counts.old }
 {
     let rows = counts.len();
-    let mut i: usize = 0;
-    while i < rows {
-        let taken = taken_from(p, rows, sittings, i);
-        counts[i] = less(counts[i], taken);
-        i += 1;
+    for (i, count) in counts.iter_mut().enumerate() {
+        *count = less(*count, taken_from(p, rows, sittings, i));
     }
 }
 

@@ -17,10 +17,9 @@ loop-i-preserved c =
     let l = c.loop-i in
     let ts = c.args.totals in
     let top = c.top_of-top.result in (
-      search rules,
-      length-set l.a l.i c.short_of.result ∙ l.invariant.1,
-      front_turn (map (λ t. t - top)) (map (λ t. t - top)) 0 l.a _ ts l.i c.short_of.result (search rules) (search rules)
-          (ap (λ k. k ∷ map (λ t. t - top) (drop (l.i + 1) ts)) (sym c.short_of.ensures)) l.invariant.2,
+      length-set l.a l.i c.saturating_sub.result ∙ l.invariant.0,
+      front_turn (map (λ t. t - top)) (map (λ t. t - top)) 0 l.a _ ts l.i c.saturating_sub.result (search rules) (search rules)
+          (ap (λ k. k ∷ map (λ t. t - top) (drop (l.i + 1) ts)) (sym c.saturating_sub.ensures)) l.invariant.1,
     )
 
 pub returns : goal.returns
@@ -30,5 +29,5 @@ returns c =
     let v = c.args.live in
     let top = c.top_of-top.result in
     let e = top_is ts c.live_totals.result v top c.live_totals.ensures c.top_of-top.ensures in
-    front_done (map (λ t. t - top)) l.a _ ts l.i (search rules) (search rules) refl l.invariant.2
+    front_done (map (λ t. t - top)) l.a _ ts l.i (search rules) (search rules) refl l.invariant.1
     ∙ map_same (λ t. t - top) (returned_of ts v) ts (λ t. ap (λ k. t - k) e ∙ sym (returned_is ts v t))

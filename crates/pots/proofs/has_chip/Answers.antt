@@ -1,13 +1,15 @@
 -- `has_chip` meets its contract.
 -- Assumes nothing.
-use borrow.Author.Tests.{le-leb, lt-leb}
+use Rattle.std.proofs.Common.{◌≡◌, Bool, true, false, refl, ◌∙◌, leb}
+use mir.Val.{bool_byte}
+use Rattle.laws.specs.Tests.{one}
 use Rattle.pots.specs.Heights.{has}
 use Rattle.pots.proofs.has_chip.Goals as goal
 
-pub returns-then-h-t : goal.returns-then-h-t
-unfolding has
-returns-then-h-t c = simp (le-leb _ _ c.if-h-t.true)
+as_one : (b : Bool) → bool_byte b ≡ one b
+as_one true = refl
+as_one false = refl
 
-pub returns-else-h-t : goal.returns-else-h-t
+pub returns : goal.returns
 unfolding has
-returns-else-h-t c = simp (lt-leb _ _ c.if-h-t.false)
+returns c = c.from.ensures ∙ as_one (leb c.args.h c.args.t)

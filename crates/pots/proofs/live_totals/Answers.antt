@@ -14,14 +14,13 @@ unfolding live_of
 loop-i-preserved c =
     let l = c.loop-i in
     let ts = c.args.totals in (
-      search rules,
-      length-set l.a l.i c.if_live.result ∙ l.invariant.1,
+      length-set l.a l.i c.if_live.result ∙ l.invariant.0,
       front_turn (λ k. live_of k l.rest) (λ k. live_of k (l.rest / 2)) 0 l.a _ ts l.i c.if_live.result (search rules) (search rules)
-          (ap (λ k. k ∷ live_of (drop (l.i + 1) ts) (l.rest / 2)) (sym c.if_live.ensures)) l.invariant.2,
+          (ap (λ k. k ∷ live_of (drop (l.i + 1) ts) (l.rest / 2)) (sym c.if_live.ensures)) l.invariant.1,
     )
 
 pub returns : goal.returns
 unfolding live_of
 returns c =
     let l = c.loop-i in
-    front_done (λ k. live_of k l.rest) l.a _ c.args.totals l.i (search rules) (search rules) refl l.invariant.2
+    front_done (λ k. live_of k l.rest) l.a _ c.args.totals l.i (search rules) (search rules) refl l.invariant.1

@@ -1,6 +1,5 @@
 -- `live_totals` meets its contract. The invariant: what is written and the live totals still to come are those of all.
 -- Assumes nothing.
-use Prim.Native.Nat.{◌≤◌, ◌-◌}
 use mathlib.Core.Path.{◌≡◌}
 use mathlib.Core.List.{◌++◌}
 use lib.ListN.{length, drop, take}
@@ -8,7 +7,4 @@ use Rattle.pots.specs.Heights.{live_of}
 use Rattle.pots.proofs.live_totals.Given as goal
 
 abbrev pub invariant-loop-i : goal.invariant-loop-i
-invariant-loop-i l = (l.i ≤ 10) × (length l.a ≡ 10) × (take l.i l.a ++ live_of (drop l.i l.totals) l.rest ≡ live_of l.totals l.live)
-
-abbrev pub decreases-loop-i : goal.decreases-loop-i
-decreases-loop-i l = 10 - l.i
+invariant-loop-i l = (length l.a ≡ 10) × (take l.i l.a ++ live_of (drop l.i l.t-items) l.rest ≡ live_of l.t-items l.live)

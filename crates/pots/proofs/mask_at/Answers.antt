@@ -1,39 +1,47 @@
--- `mask_at` meets its contract. The invariant: m is the mask of the places from i on.
+-- `mask_at` meets its contract. The invariant: m is the mask of the places walked.
 -- Assumes nothing.
-use Prim.Native.Nat.{◌<◌, ◌-◌, ◌^◌}
-use mathlib.Core.Path.{sym, ◌∙◌}
-use native.Mathlib.Omega.{arith}
-use borrow.Author.Rules.{rules}
-use lib.ListN.{get_or, drop, length-drop}
-use Rattle.pots.proofs.Masks.{mask_lt, has_le}
-use Rattle.laws.proofs.Places.{last_start, last_turn, last_done}
+use Rattle.std.proofs.Common.{◌≡◌, ◌<◌, ◌≤◌, ◌^◌, ℕ, List, [], ◌∷◌, ◌++◌, length, length-append, refl, ap, ◌∙◌, arith, rules}
+use mathlib.Core.List.{append-nil}
+use Rattle.std.specs.List.{push}
 use Rattle.pots.specs.Heights.{mask_at}
+use Rattle.pots.proofs.Backward.{back_turn, back_done}
+use Rattle.pots.proofs.Masks.{mask_lt, has_le}
 use Rattle.pots.proofs.mask_at.Goals as goal
 
-pub loop-i-init : goal.loop-i-init
+pub loop-x-init : goal.loop-x-init
 unfolding mask_at
-loop-i-init c = (search rules, sym (last_start (λ l. mask_at l c.args.h) c.args.xs 10 (search rules)))
+loop-x-init c = ([], append-nil _ ∙ search rules, refl)
+
+-- at most nine places were walked
+nine : (xs left now done : List ℕ) (x h m : ℕ) → length xs ≡ 10 → left ≡ push now x → left ++ done ≡ xs → m ≡ mask_at done h → m < 2 ^ 9
+nine xs left now done x h m n e f g =
+    let k : length done ≤ 9 = omega (arith, n, ap length f, length-append left done, ap length e, length-append now (x ∷ [])) in
+    omega (arith, g, mask_lt done h 9 k)
 
 pub overflow_mul-m : goal.overflow_mul-m
 overflow_mul-m c =
-    let xs = c.args.xs in
-    let i = c.loop-i.i in
-    let b : mask_at (drop i xs) c.args.h < 2 ^ 10 = mask_lt (drop i xs) _ 10 (rw length-drop (search rules)) in
-    record { fits = omega (arith, b, c.loop-i.invariant.1) }
+    let v = c.loop-x.invariant in
+    let n : length c.args.xs ≡ 10 = search rules in
+    let b : c.loop-x.m < 2 ^ 9 = nine c.args.xs _ c.next.new.self.iter.rest.now v.0 c.in-Some.x.now c.args.h _ n c.in-Some.ensures.steps v.1 v.2 in
+    record { fits = omega arith }
 
 pub overflow_add-m : goal.overflow_add-m
 overflow_add-m c =
-    let xs = c.args.xs in
-    let i = c.loop-i.i in
-    let b : mask_at (drop i xs) c.args.h < 2 ^ 10 = mask_lt (drop i xs) _ 10 (rw length-drop (search rules)) in
-    record { fits = omega (arith, b, c.loop-i.invariant.1, c.has_chip.ensures, has_le (get_or xs (i - 1) 0) c.args.h) }
+    let v = c.loop-x.invariant in
+    let n : length c.args.xs ≡ 10 = search rules in
+    let b : c.loop-x.m < 2 ^ 9 = nine c.args.xs _ c.next.new.self.iter.rest.now v.0 c.in-Some.x.now c.args.h _ n c.in-Some.ensures.steps v.1 v.2 in
+    record { fits = omega (arith, c.has_chip.ensures, has_le c.in-Some.x.now c.args.h) }
 
-pub loop-i-preserved : goal.loop-i-preserved
+pub loop-x-preserved : goal.loop-x-preserved
 unfolding mask_at
-loop-i-preserved c =
-    let xs = c.args.xs in
-    let i = c.loop-i.i in
-    (search rules, (omega (arith, c.has_chip.ensures, c.loop-i.invariant.1)) ∙ sym (last_turn (λ l. mask_at l c.args.h) xs i (search rules) (search rules)))
+loop-x-preserved c =
+    let v = c.loop-x.invariant in (
+      c.in-Some.x.now ∷ v.0,
+      back_turn c.loop-x.x-iterator.iter.rest.now c.next.new.self.iter.rest.now v.0 c.in-Some.x.now c.in-Some.ensures.steps v.1,
+      omega (arith, c.has_chip.ensures, v.2),
+    )
 
 pub returns : goal.returns
-returns c = c.loop-i.invariant.1 ∙ last_done (λ l. mask_at l c.args.h) c.args.xs c.loop-i.i (search rules)
+returns c =
+    let v = c.loop-x.invariant in
+    v.2 ∙ ap (λ l. mask_at l c.args.h) (back_done c.loop-x.x-iterator.iter.rest.now c.in-None.ensures.steps.0 v.1)

@@ -1,13 +1,8 @@
--- `mask_at` meets its contract. The invariant: m is the mask of the places from i on.
+-- `mask_at` meets its contract. The invariant: m is the mask of the places walked.
 -- Assumes nothing.
-use Prim.Native.Nat.{◌≤◌}
-use mathlib.Core.Path.{◌≡◌}
-use lib.ListN.{drop}
+use Rattle.std.proofs.Common.{◌≡◌, ℕ, List, ◌++◌}
 use Rattle.pots.specs.Heights.{mask_at}
 use Rattle.pots.proofs.mask_at.Given as goal
 
-abbrev pub invariant-loop-i : goal.invariant-loop-i
-invariant-loop-i l = (l.i ≤ 10) × (l.m ≡ mask_at (drop l.i l.xs) l.h)
-
-abbrev pub decreases-loop-i : goal.decreases-loop-i
-decreases-loop-i l = l.i
+abbrev pub invariant-loop-x : goal.invariant-loop-x
+invariant-loop-x l = (done : List ℕ) × (l.x-iterator.iter.rest.now ++ done ≡ l.fn.xs) × (l.m ≡ mask_at done l.h)

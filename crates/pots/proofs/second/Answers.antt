@@ -1,29 +1,29 @@
--- `second` meets its contract. The invariant: m and s are the largest and the second largest from place i on.
+-- `second` meets its contract. The invariant: m and s are the largest and the second largest of the places walked.
 -- Assumes nothing.
-use Prim.Native.Nat.{◌-◌, min, max}
-use mathlib.Core.Path.{sym, ap, ◌∙◌, ap₂}
-use borrow.Author.Rules.{rules}
-use lib.ListN.{get_or}
-use Rattle.laws.proofs.Places.{last_start, last_turn, last_done}
+use Rattle.std.proofs.Common.{[], ◌∷◌, refl, ap, ◌∙◌, min, max, rules}
+use mathlib.Core.List.{append-nil}
+use mathlib.Core.Path.{ap₂}
 use Rattle.laws.specs.Lists.{max_of}
 use Rattle.pots.specs.Levels.{second_of}
+use Rattle.pots.proofs.Backward.{back_turn, back_done}
 use Rattle.pots.proofs.second.Goals as goal
 
-pub loop-i-init : goal.loop-i-init
+pub loop-x-init : goal.loop-x-init
 unfolding max_of second_of
-loop-i-init c = (search rules, sym (last_start max_of c.args.xs 10 (search rules)), sym (last_start second_of c.args.xs 10 (search rules)))
+loop-x-init c = ([], append-nil _ ∙ search rules, refl, refl)
 
-pub loop-i-preserved : goal.loop-i-preserved
+pub loop-x-preserved : goal.loop-x-preserved
 unfolding max_of second_of
-loop-i-preserved c =
-    let xs = c.args.xs in
-    let i = c.loop-i.i in
-    let v = c.loop-i.invariant in
-    let t = get_or xs (i - 1) 0 in (
-      search rules,
-      c.most-m.ensures ∙ ap (max t) v.1 ∙ sym (last_turn max_of xs i (search rules) (search rules)),
-      c.most-s.ensures ∙ ap₂ max v.2 (c.least.ensures ∙ ap (min t) v.1) ∙ sym (last_turn second_of xs i (search rules) (search rules)),
+loop-x-preserved c =
+    let v = c.loop-x.invariant in
+    let x = c.in-Some.x.now in (
+      x ∷ v.0,
+      back_turn c.loop-x.x-iterator.iter.rest.now c.next.new.self.iter.rest.now v.0 c.in-Some.x.now c.in-Some.ensures.steps v.1,
+      c.max-m.ensures ∙ ap (max x) v.2,
+      c.max-s.ensures ∙ ap₂ max v.3 (c.min.ensures ∙ ap (min x) v.2),
     )
 
 pub returns : goal.returns
-returns c = c.loop-i.invariant.2 ∙ last_done second_of c.args.xs c.loop-i.i (search rules)
+returns c =
+    let v = c.loop-x.invariant in
+    v.3 ∙ ap second_of (back_done c.loop-x.x-iterator.iter.rest.now c.in-None.ensures.steps.0 v.1)

@@ -1,26 +1,25 @@
--- `holds_all` meets its contract. The invariant: each row below i was looked at.
+-- `holds_all` meets its contract. The invariant: each row below i holds what is taken from it.
 -- Assumes nothing.
-use Prim.Native.Nat.{◌-◌}
-use mathlib.Core.Path.{refl, ap, ◌∙◌}
-use lib.Dec.{leb}
-use lib.ListN.{length, get_or}
+use Rattle.std.proofs.Common.{◌≡◌, ℕ, leb, length, get_or, sym, ap, ◌∙◌, rules, arith}
+use mathlib.Core.Path.{ap₂}
+use borrow.Author.Tests.{lt-leb}
+use Rattle.tray.specs.Counting.{all_to}
 use Rattle.tray.specs.Proposal.{taken_from, holds_all}
-use Rattle.tray.proofs.Sums.{all_turn, all_done}
-use borrow.Author.Rules.{rules}
+use Rattle.tray.proofs.Sums.{all_fails}
 use Rattle.tray.proofs.holds_all.Goals as goal
 
-pub loop-i-init : goal.loop-i-init
-loop-i-init c = (search rules, refl)
-
-pub loop-i-preserved : goal.loop-i-preserved
-loop-i-preserved c = let k = c.args.counts.now in
-    let i = c.loop-i.i in (
-      search rules,
-      all_turn (λ j. leb (taken_from (length k) c.args.sittings c.args.p.now j) (get_or k j 0)) i c.loop-i.ok (leb c.taken_from-sum.result c.wide.result) c.both-ok.result c.loop-i.invariant.1
-          (ap (λ n. leb n c.wide.result) c.taken_from-sum.ensures ∙ ap (λ n. leb (taken_from (length k) c.args.sittings c.args.p.now i) n) (c.wide.ensures ∙ c.number_at.ensures)) c.both-ok.ensures,
-    )
+pub returns-then-from-taken_from : goal.returns-then-from-taken_from
+unfolding holds_all
+returns-then-from-taken_from c =
+    let k = c.args.counts.now in
+    let f = λ (j : ℕ). leb (taken_from (length k) c.args.sittings c.args.p.now j) (get_or k j 0) in
+    all_fails (length k) f c.loop-i.i (search rules)
+    (sym (ap₂ leb c.taken_from.ensures c.from.ensures) ∙ lt-leb _ _ c.if-from-taken_from.true)
 
 pub returns : goal.returns
 unfolding holds_all
-returns c = let k = c.args.counts.now in
-    all_done (λ j. leb (taken_from (length k) c.args.sittings c.args.p.now j) (get_or k j 0)) c.loop-i.i (length k) c.loop-i.ok (search rules) c.loop-i.invariant.1
+returns c =
+    let k = c.args.counts.now in
+    let f = λ (j : ℕ). leb (taken_from (length k) c.args.sittings c.args.p.now j) (get_or k j 0) in
+    let e : c.loop-i.i ≡ length k = omega arith in
+    sym (ap (λ n. all_to n f) (sym e) ∙ c.loop-i.invariant)

@@ -26,14 +26,13 @@ loop-i-preserved c =
     let x = get_or a.xs l.i 0 + get_or a.ys l.i 0 in
     let n : length a.xs ≡ 10 = search rules in
     let m : length a.ys ≡ 10 = search rules in (
-      search rules,
-      length-set l.a l.i x ∙ l.invariant.1,
+      length-set l.a l.i x ∙ l.invariant.0,
       front_turn (λ k. k) (λ k. k) 0 l.a _ (plus a.xs a.ys) l.i x (search rules) (rw plus_length (search rules))
-          (ap (λ k. k ∷ drop (l.i + 1) (plus a.xs a.ys)) (plus_at a.xs a.ys l.i (n ∙ sym m) (search rules))) l.invariant.2,
+          (ap (λ k. k ∷ drop (l.i + 1) (plus a.xs a.ys)) (plus_at a.xs a.ys l.i (n ∙ sym m) (search rules))) l.invariant.1,
     )
 
 pub returns : goal.returns
 returns c =
     let l = c.loop-i in
     let a = c.args in
-    front_done (λ k. k) l.a _ (plus a.xs a.ys) l.i (search rules) (rw plus_length (search rules)) refl l.invariant.2
+    front_done (λ k. k) l.a _ (plus a.xs a.ys) l.i (search rules) (rw plus_length (search rules)) refl l.invariant.1

@@ -1,6 +1,5 @@
 -- `added` meets its contract. The invariant: the first i places are those of the sum.
 -- Assumes nothing.
-use Prim.Native.Nat.{◌≤◌, ◌-◌}
 use mathlib.Core.Path.{◌≡◌}
 use mathlib.Core.List.{◌++◌}
 use lib.ListN.{length, drop, take}
@@ -8,7 +7,4 @@ use Rattle.pots.specs.Hand.{plus}
 use Rattle.pots.proofs.hand.added.Given as goal
 
 abbrev pub invariant-loop-i : goal.invariant-loop-i
-invariant-loop-i l = (l.i ≤ 10) × (length l.a ≡ 10) × (take l.i l.a ++ drop l.i (plus l.xs l.ys) ≡ plus l.xs l.ys)
-
-abbrev pub decreases-loop-i : goal.decreases-loop-i
-decreases-loop-i l = 10 - l.i
+invariant-loop-i l = (length l.a ≡ 10) × (take l.i l.a ++ drop l.i (plus l.x-items l.ys) ≡ plus l.x-items l.ys)

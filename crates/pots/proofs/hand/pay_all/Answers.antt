@@ -7,9 +7,8 @@ use native.Mathlib.Omega.{arith}
 use borrow.Author.Rules.{rules}
 use lib.Dec.{eqb}
 use lib.ListN.{length, get_or, take, replicate}
-use lib.Seq.{get_or-take}
 use Rattle.pots.specs.declared.Pot.{Pot}
-use Rattle.pots.specs.Settle.{fee_of, fees_of, ones, shares_of}
+use Rattle.pots.specs.Settle.{fee_of, fees_of, shares_of}
 use Rattle.pots.specs.Hand.{drop_of_hand, won_of, winners_of, plus, lowest_after}
 use Rattle.laws.specs.Lists.{sum_of}
 use Rattle.laws.specs.Tests.{pick}
@@ -72,12 +71,6 @@ loop-i-init c =
       refl,
     )
 
-pub offset_bounds-list-i : goal.offset_bounds-list-i
-offset_bounds-list-i c = record { fits = omega (arith, few (goal.at.offset_bounds-list-i c).After-pots_of-p) }
-
-pub bounds-list-i : goal.bounds-list-i
-bounds-list-i c = omega (arith, few (goal.at.bounds-list-i c).After-pots_of-p)
-
 pub pay-w-requires : goal.pay-w-requires
 pay-w-requires c =
     let g = c in
@@ -88,21 +81,17 @@ pay-w-requires c =
     let list = g.pots_of-p.result.list in
     let n = g.pots_of-p.result.n in
     let t : l.i < length (take n list) = omega (arith, long (goal.at.pay-w-requires c).After-pots_of-p) in
-    let e = get_or-take n list l.i (pot 0 0) (omega arith) in
     let r = paying_room a.scores a.rule a.rule.cap a.puck d (take n list) l.w.left l.w.each l.i l.invariant.0 (pot 0 0) t in
     let k = paying_fits a.scores a.rule a.rule.cap a.puck d (take n list) l.w.left l.w.each l.i l.invariant.0 (pot 0 0) t in
     let o : c.at_first-off.result ≡ still l.i d = c.at_first-off.ensures ∙ ap (still l.i) l.invariant.1 in (
-      omega (arith, r, ap (λ (q : Pot). q.amount) e, ap pot_sum (front (goal.at.pay-w-requires c).After-pots_of-p), pots_and_back a.totals a.live, p.0),
+      omega (arith, r, ap pot_sum (front (goal.at.pay-w-requires c).After-pots_of-p), pots_and_back a.totals a.live, p.0),
       p.1,
       p.2,
       p.3,
-      subst (λ (q : Pot). 0 < ones 10 q.who) e (manned_at 10 (take n list) l.i (pot 0 0) (staffed (goal.at.pay-w-requires c).After-pots_of-p) t),
+      manned_at 10 (take n list) l.i (pot 0 0) (staffed (goal.at.pay-w-requires c).After-pots_of-p) t,
       p.4,
-      subst (λ (q : Pot). c.at_first-off.result ≤ q.amount - fee_of a.rule l.w.left q.amount) e (omega (arith, o, k)),
+      omega (arith, o, k),
     )
-
-pub overflow_add-i : goal.overflow_add-i
-overflow_add-i c = record { fits = omega (arith, few (goal.at.overflow_add-i c).After-pots_of-p) }
 
 pub loop-i-preserved : goal.loop-i-preserved
 loop-i-preserved c =
@@ -114,14 +103,12 @@ loop-i-preserved c =
     let n = g.pots_of-p.result.n in
     let k : length a.scores ≡ 10 = search rules in
     let t : l.i < length (take n list) = omega (arith, long (goal.at.loop-i-preserved c).After-pots_of-p) in
-    let e = get_or-take n list l.i (pot 0 0) (omega arith) in
     let o : c.at_first-off.result ≡ still l.i d = c.at_first-off.ensures ∙ ap (still l.i) l.invariant.1 in (
       paying_turn a.scores a.rule a.rule.cap a.puck d (take n list) l.w.left l.w.each l.i l.invariant.0 (pot 0 0) c.pay-w.result.left c.pay-w.result.each
           (omega (arith, g.requires.1)) (subst (λ j. Manned j (take n list)) (sym k) (staffed (goal.at.loop-i-preserved c).After-pots_of-p)) t
-          (c.pay-w.ensures.0 ∙ ap (λ (q : Pot). l.w.left - fee_of a.rule l.w.left q.amount) (sym e))
+          c.pay-w.ensures.0
           (c.pay-w.ensures.1
-          ∙ ap₂ (λ (j : ℕ) (q : Pot). plus l.w.each (shares_of j (q.amount - fee_of a.rule l.w.left q.amount - c.at_first-off.result) (winners_of a.scores q.who) a.puck)) (sym k) (sym e)
-          ∙ ap (λ (z : ℕ). plus l.w.each (shares_of (length a.scores) ((get_or (take n list) l.i (pot 0 0)).amount - fee_of a.rule l.w.left (get_or (take n list) l.i (pot 0 0)).amount - z) (winners_of a.scores (get_or (take n list) l.i (pot 0 0)).who) a.puck)) o),
+          ∙ ap₂ (λ (j : ℕ) (z : ℕ). plus l.w.each (shares_of j ((get_or (take n list) l.i (pot 0 0)).amount - fee_of a.rule l.w.left (get_or (take n list) l.i (pot 0 0)).amount - z) (winners_of a.scores (get_or (take n list) l.i (pot 0 0)).who) a.puck)) (sym k) o),
       c.pay-w.ensures.2 ∙ l.invariant.1,
     )
 

@@ -17,13 +17,12 @@ pub loop-i-preserved : goal.loop-i-preserved
 loop-i-preserved c =
     let l = c.loop-i in
     let xs = c.args.xs in (
-      search rules,
-      length-set l.a l.i (get_or xs l.i 0 + 1) ∙ l.invariant.1,
+      length-set l.a l.i (get_or xs l.i 0 + 1) ∙ l.invariant.0,
       front_turn (map suc) (map suc) 0 l.a _ xs l.i (get_or xs l.i 0 + 1) (search rules) (search rules)
-          (ap (λ k. k ∷ map suc (drop (l.i + 1) xs)) (sym (add-one (get_or xs l.i 0)))) l.invariant.2,
+          (ap (λ k. k ∷ map suc (drop (l.i + 1) xs)) (sym (add-one (get_or xs l.i 0)))) l.invariant.1,
     )
 
 pub returns : goal.returns
 returns c =
     let l = c.loop-i in
-    front_done (map suc) l.a _ c.args.xs l.i (search rules) (search rules) refl l.invariant.2
+    front_done (map suc) l.a _ c.args.xs l.i (search rules) (search rules) refl l.invariant.1

@@ -1,24 +1,27 @@
--- `count` meets its contract. The invariant: what is counted and the ones of the rest are those of the mask.
+-- `count` meets its contract: the ones of the mask's ten lowest bits.
 -- Assumes nothing.
-use Prim.Native.Nat.{◌+◌, ◌-◌, ◌/◌}
-use mathlib.Core.Path.{◌≡◌, ap}
-use native.Mathlib.Omega.{arith}
+use Rattle.std.proofs.Common.{◌≡◌, ℕ, zero, suc, ◌+◌, ◌*◌, ◌/◌, ◌%◌, ◌^◌, ◌<◌, sym, ap, add-one, ◌∙◌, arith}
+use Rattle.std.specs.Prelude.{count_ones}
+use Rattle.std.proofs.lemmas.Nat.{ones_cat, ones_le_self, mod-pow-add}
+use Rattle.std.specs.Int.Count.{ones-ones}
 use Rattle.pots.specs.Settle.{ones}
-use Rattle.laws.proofs.Bits.{ones_step, ones_le, ones_none}
 use Rattle.pots.proofs.settle.count.Goals as goal
 
-pub overflow_add-n : goal.overflow_add-n
-overflow_add-n c =
-    let l = c.loop-i in
-    record { fits = omega (arith, ones_step (10 - l.i) l.rest (omega arith), ones_le 10 c.args.mask) }
+one_bit : (r : ℕ) → r < 2 → count_ones r ≡ r
+one_bit zero l = omega (arith, ones_le_self 0)
+one_bit (suc zero) l = ones-ones 1
+one_bit (suc (suc r)) l = absurd (omega (arith, l))
 
-pub loop-i-preserved : goal.loop-i-preserved
-loop-i-preserved c =
-    let l = c.loop-i in
-    let e : ones (10 - l.i - 1) (l.rest / 2) ≡ ones (10 - (l.i + 1)) (l.rest / 2) = ap (λ k. ones k (l.rest / 2)) {x = 10 - l.i - 1} {y = 10 - (l.i + 1)} (omega arith) in
-    omega (arith, ones_step (10 - l.i) l.rest (omega arith), e)
+low_ones : (n m : ℕ) → count_ones (m % 2 ^ n) ≡ ones n m
+unfolding ones
+low_ones zero m =
+    let e : m % 2 ^ 0 ≡ 0 = omega arith in
+    ap count_ones e ∙ one_bit 0 (omega arith)
+low_ones (suc n) m =
+    let e : m % 2 ^ (n + 1) ≡ (m / 2 % 2 ^ n) * 2 + m % 2 = mod-pow-add m n 1 in
+    let s : m % 2 ^ suc n ≡ m % 2 ^ (n + 1) = ap (λ k. m % 2 ^ k) (sym (add-one n)) in
+    let l : m % 2 < 2 = omega arith in
+    ap count_ones (s ∙ e) ∙ ones_cat 1 (m / 2 % 2 ^ n) (m % 2) l ∙ (omega (arith, low_ones n (m / 2), one_bit (m % 2) l))
 
 pub returns : goal.returns
-returns c =
-    let l = c.loop-i in
-    omega (arith, ones_none (10 - l.i) l.rest (omega arith))
+returns c = low_ones 10 c.args.mask

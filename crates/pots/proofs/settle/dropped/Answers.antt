@@ -16,4 +16,4 @@ overflow_sub-left c =
 pub returns : goal.returns
 returns c =
     let a = c.args in
-    c.with_board.ensures ∙ ap (pick (eqb a.rule.board 0) 0) (c.least.ensures ∙ ap (λ (f : ℕ). min a.rule.drop (a.amount - f)) c.fee.ensures)
+    c.with_board.ensures ∙ ap (pick (eqb a.rule.board 0) 0) (c.min.ensures ∙ ap (λ (f : ℕ). min a.rule.drop (a.amount - f)) c.fee.ensures)

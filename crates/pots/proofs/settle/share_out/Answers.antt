@@ -14,10 +14,9 @@ unfolding share_out
 loop-i-preserved c =
     let l = c.loop-i in
     let a = c.args in (
-      search rules,
-      length-set l.a l.i c.share.result ∙ l.invariant.1,
+      length-set l.a l.i c.share.result ∙ l.invariant.0,
       front_turn (share_out a.base l.left) (share_out a.base c.less-left.result) 0 l.a _ a.ws l.i c.share.result (search rules) (search rules)
-          (ap₂ (λ k o. k ∷ share_out a.base o (drop (l.i + 1) a.ws)) (sym c.share.ensures) (sym c.less-left.ensures)) l.invariant.2,
+          (ap₂ (λ k o. k ∷ share_out a.base o (drop (l.i + 1) a.ws)) (sym c.share.ensures) (sym c.less-left.ensures)) l.invariant.1,
     )
 
 pub returns : goal.returns
@@ -25,4 +24,4 @@ unfolding share_out
 returns c =
     let l = c.loop-i in
     let a = c.args in
-    front_done (share_out a.base l.left) l.a _ a.ws l.i (search rules) (search rules) refl l.invariant.2
+    front_done (share_out a.base l.left) l.a _ a.ws l.i (search rules) (search rules) refl l.invariant.1

@@ -16,19 +16,18 @@ loop-j-preserved c =
     let l = c.loop-j in
     let a = c.args in
     let n : length a.xs ≡ 10 = search rules in
-    let x = get_or a.xs c.around-at.result 0 in (
-      search rules,
-      length-set l.a l.j x ∙ l.invariant.1,
+    let x = get_or a.xs c.around.result 0 in (
+      length-set l.a l.j x ∙ l.invariant.0,
       front_turn (λ k. k) (λ k. k) 0 l.a _ (turned a.k a.xs) l.j x (search rules) (rw turned_length (search rules))
           (ap (λ k. k ∷ drop (l.j + 1) (turned a.k a.xs))
           (turned_at a.k a.xs l.j (omega (arith, n)) (omega (arith, n))
           ∙ ap (λ m. get_or a.xs ((a.k + l.j) % m) 0) n
-          ∙ ap (λ m. get_or a.xs m 0) (sym c.around-at.ensures.1)))
-          l.invariant.2,
+          ∙ ap (λ m. get_or a.xs m 0) (sym c.around.ensures.1)))
+          l.invariant.1,
     )
 
 pub returns : goal.returns
 returns c =
     let l = c.loop-j in
     let a = c.args in
-    front_done (λ k. k) l.a _ (turned a.k a.xs) l.j (search rules) (rw turned_length (search rules)) refl l.invariant.2
+    front_done (λ k. k) l.a _ (turned a.k a.xs) l.j (search rules) (rw turned_length (search rules)) refl l.invariant.1
