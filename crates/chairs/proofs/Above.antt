@@ -1,22 +1,21 @@
 -- Chairs above a table's seats add nothing: what is counted, summed, read off or done over the seats is so over all chairs. Over any number of chairs.
 -- Assumes nothing.
-use Prim.Native.Nat.{ℕ, zero, suc, ◌+◌, ◌*◌, ◌≤◌, ◌<◌}
+use Prim.Native.Nat.{ℕ, zero, suc, ◌+◌, ◌*◌, ◌-◌, ◌≤◌, ◌<◌}
 use mathlib.Core.Bool.{Bool, true, false}
 use mathlib.Core.Path.{◌≡◌, refl, sym, ap, ap₂, ◌∙◌}
 use mathlib.Core.List.{List, [], ◌∷◌, ◌++◌, map}
 use native.Mathlib.Omega.{arith}
-use lib.ListN.{length, get_or, drop, set, replicate, length-drop, length-map}
+use lib.ListN.{length, get_or, take, drop, set, replicate}
 use lib.Seq.{drop-cons}
+use mir.Val.{bool_byte}
 use Rattle.laws.specs.Tests.{one}
 use Rattle.pots.specs.Heights.{mask_at, has}
 use Rattle.pots.proofs.Chips.{has_none}
-use Rattle.pots.proofs.Masks.{mask_lt}
 use Rattle.chairs.specs.Chairs.{put_at, no_chair, count_of, chips_of, sweep_of, column_of, closed_of, close_all, Above, Seats}
 use Rattle.chairs.specs.Sweep.{Sweep, Again, Round, Deal}
 use Rattle.chairs.specs.What.{What}
 use Rattle.chairs.specs.declared.Chair.{Chair}
 use Rattle.chairs.proofs.Clockwise.{put_other, count_none}
-use Rattle.chairs.proofs.Laws.{sweep_to, close_to}
 use Rattle.chairs.proofs.Over.{map_at}
 use Rattle.chairs.specs.What as col
 
@@ -63,6 +62,12 @@ above_count p e zero cs h = count_none p cs (λ k. ap p (h (suc k) (omega arith)
 above_count p e (suc n) [] h = refl
 above_count p e (suc n) (c ∷ cs) h = above_count p e n cs (above_tail n c cs h)
 
+-- so the seats count what all chairs count
+pub count_seats : (p : Chair → Bool) → p no_chair ≡ false → (n : ℕ) (cs : List Chair) → Above n cs → count_of p (take n cs) ≡ count_of p cs
+count_seats p e zero cs h = sym (above_count p e zero cs h)
+count_seats p e (suc n) [] h = refl
+count_seats p e (suc n) (c ∷ cs) h = ap (λ m. one (p c) + m) (count_seats p e n cs (above_tail n c cs h))
+
 pub above_chips : (n : ℕ) (cs : List Chair) → Above n cs → chips_of (drop n cs) ≡ 0
 above_chips zero [] h = refl
 above_chips zero (c ∷ cs) h =
@@ -71,6 +76,11 @@ above_chips zero (c ∷ cs) h =
 above_chips (suc n) [] h = refl
 above_chips (suc n) (c ∷ cs) h = above_chips n cs (above_tail n c cs h)
 
+pub chips_seats : (n : ℕ) (cs : List Chair) → Above n cs → chips_of (take n cs) ≡ chips_of cs
+chips_seats zero cs h = sym (above_chips zero cs h)
+chips_seats (suc n) [] h = refl
+chips_seats (suc n) (c ∷ cs) h = ap (λ m. c.stack + c.dealt.total + m) (chips_seats n cs (above_tail n c cs h))
+
 -- a truth as a chip at height 1
 pub has_truth : (b : Bool) → has (one b) 1 ≡ one b
 unfolding has
@@ -78,13 +88,13 @@ has_truth true = refl
 has_truth false = refl
 
 -- ---- what befalls every chair
-pub above_sweep : (f : Chair → Chair) → f no_chair ≡ no_chair → (n : ℕ) (cs : List Chair) → Above n cs → sweep_to f n cs ≡ map f cs
+pub above_sweep : (f : Chair → Chair) → f no_chair ≡ no_chair → (n : ℕ) (cs : List Chair) → Above n cs → map f (take n cs) ++ drop n cs ≡ map f cs
 above_sweep f e zero [] h = refl
 above_sweep f e zero (c ∷ cs) h = let q = above_head c cs h in ap₂ ◌∷◌ (q ∙ sym (ap f q ∙ e)) (above_sweep f e zero cs (above_less c cs h))
 above_sweep f e (suc n) [] h = refl
 above_sweep f e (suc n) (c ∷ cs) h = ap (λ (l : List Chair). f c ∷ l) (above_sweep f e n cs (above_tail n c cs h))
 
-pub above_close : (n : ℕ) (cs : List Chair) (ps : List ℕ) → Above n cs → ((i : ℕ) → n ≤ i → get_or ps i 0 ≡ 0) → close_to n cs ps ≡ close_all cs ps
+pub above_close : (n : ℕ) (cs : List Chair) (ps : List ℕ) → Above n cs → ((i : ℕ) → n ≤ i → get_or ps i 0 ≡ 0) → close_all (take n cs) ps ++ drop n cs ≡ close_all cs ps
 above_close zero [] ps h z = refl
 above_close zero (c ∷ cs) [] h z =
     let q = above_head c cs h in
@@ -96,37 +106,78 @@ above_close (suc n) [] ps h z = refl
 above_close (suc n) (c ∷ cs) [] h z = ap (λ (l : List Chair). closed_of c 0 ∷ l) (above_close n cs [] (above_tail n c cs h) (λ i l. refl))
 above_close (suc n) (c ∷ cs) (p ∷ ps) h z = ap (λ (l : List Chair). closed_of c p ∷ l) (above_close n cs ps (above_tail n c cs h) (λ i l. z (suc i) (omega arith)))
 
--- ---- numbers read off the chairs, from the last seat to the first: those not yet read are 0
+-- ---- numbers read off the chairs: those above the seats give 0
 module _ (f : Chair → ℕ) where
-  abbrev pub read_from : ℕ → List Chair → List ℕ
-  read_from i cs = replicate i 0 ++ map f (drop i cs)
+  -- the first i places read, the others as they were
+  abbrev pub read_to : ℕ → List Chair → List ℕ → List ℕ
+  read_to zero cs xs = xs
+  read_to (suc i) [] xs = xs
+  read_to (suc i) (c ∷ cs) [] = []
+  read_to (suc i) (c ∷ cs) (x ∷ xs) = f c ∷ read_to i cs xs
 
-  pub read_start : f no_chair ≡ 0 → (n : ℕ) (cs : List Chair) → n ≤ length cs → Above n cs → replicate (length cs) 0 ≡ read_from n cs
-  read_start e zero [] l h = refl
-  read_start e zero (c ∷ cs) l h = ap₂ ◌∷◌ (sym (ap f (above_head c cs h) ∙ e)) (read_start e zero cs (omega arith) (above_less c cs h))
-  read_start e (suc n) [] l h = absurd (omega arith)
-  read_start e (suc n) (c ∷ cs) l h = ap (λ (k : List ℕ). 0 ∷ k) (read_start e n cs (omega arith) (above_tail n c cs h))
+  pub read_turn : (i : ℕ) (cs : List Chair) (xs : List ℕ) (d : Chair) → i < length cs → i < length xs → set (read_to i cs xs) i (f (get_or cs i d)) ≡ read_to (suc i) cs xs
+  read_turn i [] xs d l m = absurd (omega arith)
+  read_turn i (c ∷ cs) [] d l m = absurd (omega arith)
+  read_turn zero (c ∷ cs) (x ∷ xs) d l m = refl
+  read_turn (suc i) (c ∷ cs) (x ∷ xs) d l m = ap (λ (k : List ℕ). f c ∷ k) (read_turn i cs xs d (omega arith) (omega arith))
 
-  store : (i x : ℕ) (xs : List ℕ) → set (replicate (suc i) 0 ++ xs) i x ≡ replicate i 0 ++ (x ∷ xs)
-  store zero x xs = refl
-  store (suc i) x xs = ap (λ (k : List ℕ). 0 ∷ k) (store i x xs)
+  pub read_all : (m : ℕ) (cs : List Chair) → length cs ≤ m → read_to (length cs) cs (replicate m 0) ≡ map f cs ++ replicate (m - length cs) 0
+  read_all m [] l = let e : m ≡ m - 0 = omega arith in ap (λ k. replicate k 0) e
+  read_all zero (c ∷ cs) l = absurd (omega arith)
+  read_all (suc m) (c ∷ cs) l =
+      let e : m - length cs ≡ suc m - suc (length cs) = omega arith in
+      ap (λ (k : List ℕ). f c ∷ k) (read_all m cs (omega arith) ∙ ap (λ k. map f cs ++ replicate k 0) e)
 
-  pub read_turn : (i : ℕ) (cs : List Chair) (d : Chair) → i < length cs → set (read_from (suc i) cs) i (f (get_or cs i d)) ≡ read_from i cs
-  read_turn i cs d l = store i (f (get_or cs i d)) (map f (drop (suc i) cs)) ∙ ap (λ k. replicate i 0 ++ map f k) (sym (drop-cons cs i d l))
+  pub read_start : f no_chair ≡ 0 → (cs : List Chair) → Above 0 cs → replicate (length cs) 0 ≡ map f cs
+  read_start e [] h = refl
+  read_start e (c ∷ cs) h = ap₂ ◌∷◌ (sym (ap f (above_head c cs h) ∙ e)) (read_start e cs (above_less c cs h))
+
+  pub column_seats : f no_chair ≡ 0 → (n m : ℕ) (cs : List Chair) → length cs ≡ m → n ≤ m → Above n cs → map f (take n cs) ++ replicate (m - length (take n cs)) 0 ≡ map f cs
+  column_seats e zero m cs q l h = let z : m - 0 ≡ length cs = omega arith in ap (λ k. replicate k 0) z ∙ read_start e cs h
+  column_seats e (suc n) m [] q l h = absurd (omega arith)
+  column_seats e (suc n) zero (c ∷ cs) q l h = absurd (omega arith)
+  column_seats e (suc n) (suc m) (c ∷ cs) q l h =
+      let z : suc m - suc (length (take n cs)) ≡ m - length (take n cs) = omega arith in
+      ap (λ (k : List ℕ). f c ∷ k) (ap (λ k. map f (take n cs) ++ replicate k 0) z ∙ column_seats e n m cs (omega arith) (omega arith) (above_tail n c cs h))
 
   -- the same as a mask of the places that have a 1
-  pub mask_start : f no_chair ≡ 0 → (n : ℕ) (cs : List Chair) → Above n cs → mask_at (map f (drop n cs)) 1 ≡ 0
+  pub mask_start : f no_chair ≡ 0 → (cs : List Chair) → Above 0 cs → mask_at (map f cs) 1 ≡ 0
   unfolding mask_at
-  mask_start e zero [] h = refl
-  mask_start e zero (c ∷ cs) h = omega (arith, ap (λ k. has k 1) (ap f (above_head c cs h) ∙ e), has_none 0 1 (omega arith), mask_start e zero cs (above_less c cs h))
-  mask_start e (suc n) [] h = refl
-  mask_start e (suc n) (c ∷ cs) h = mask_start e n cs (above_tail n c cs h)
+  mask_start e [] h = refl
+  mask_start e (c ∷ cs) h = omega (arith, ap (λ k. has k 1) (ap f (above_head c cs h) ∙ e), has_none 0 1 (omega arith), mask_start e cs (above_less c cs h))
 
-  -- so it is below 2^10 for ten chairs
-  pub mask_small : (i : ℕ) (cs : List Chair) → length cs ≤ 10 → mask_at (map f (drop i cs)) 1 < 1024
-  mask_small i cs l = mask_lt (map f (drop i cs)) 1 10 (omega (arith, length-map (drop i cs) f, length-drop i cs))
+  pub mask_end : (cs : List Chair) → mask_at (map f (drop (length cs) cs)) 1 ≡ 0
+  unfolding mask_at
+  mask_end [] = refl
+  mask_end (c ∷ cs) = mask_end cs
+
+  pub mask_seats : f no_chair ≡ 0 → (n : ℕ) (cs : List Chair) → Above n cs → mask_at (map f (take n cs)) 1 ≡ mask_at (map f cs) 1
+  unfolding mask_at
+  mask_seats e zero cs h = sym (mask_start e cs h)
+  mask_seats e (suc n) [] h = refl
+  mask_seats e (suc n) (c ∷ cs) h = ap (λ m. has (f c) 1 + 2 * m) (mask_seats e n cs (above_tail n c cs h))
 
   pub mask_turn : (i : ℕ) (cs : List Chair) (d : Chair) → i < length cs
       → mask_at (map f (drop i cs)) 1 ≡ has (f (get_or cs i d)) 1 + 2 * mask_at (map f (drop (suc i) cs)) 1
   unfolding mask_at
   mask_turn i cs d l = ap (λ k. mask_at (map f k) 1) (drop-cons cs i d l)
+
+-- a truth as a number
+pub bool_one : (b : Bool) → bool_byte b ≡ one b
+bool_one true = refl
+bool_one false = refl
+
+pub bool_small : (b : Bool) → bool_byte b ≤ 1
+bool_small true = omega arith
+bool_small false = omega arith
+
+-- a mask of k places is below this
+abbrev pub top : ℕ → ℕ
+top zero = 1
+top (suc k) = 2 * top k
+
+pub top_most : (k m : ℕ) → k ≤ m → top k ≤ top m
+top_most zero zero l = omega arith
+top_most zero (suc m) l = omega (arith, top_most zero m (omega arith))
+top_most (suc k) zero l = absurd (omega arith)
+top_most (suc k) (suc m) l = omega (arith, top_most k m (omega arith))

@@ -1,7 +1,8 @@
 -- Document 01, the words of "Sittings", "Opening" and "Betting" that are about one chair: dealt in, live, a live seat with chips, round total, owes;
 -- what befalls a chair; and over the chairs of a table, of any number: counts, the chair of a seat, the first seat clockwise. Assumes nothing.
 use Rattle.std.specs.Prelude.{ℕ, zero, suc, ◌+◌, ◌-◌, ◌≤◌, ◌<◌, min, ◌≡◌, Bool, true, false, not, List, [], ◌∷◌, ◌++◌, get_or, set, take, replicate, ltb, eqb}
-use Rattle.laws.specs.Tests.{both, either, pick, one}
+use Rattle.std.specs.List.{list_any}
+use Rattle.laws.specs.Tests.{both, pick, one}
 use Rattle.chairs.specs.declared.Chair.{Chair}
 use Rattle.chairs.specs.declared.Dealt.{Dealt}
 use Rattle.chairs.specs.declared.Hole.{Hole}
@@ -33,8 +34,7 @@ hole_of c = take c.hole.count c.hole.cards
 
 -- a card is among some
 abbrev pub has_card : ℕ → List ℕ → Bool
-has_card k [] = false
-has_card k (x ∷ xs) = either (eqb x k) (has_card k xs)
+has_card k xs = list_any (λ x. eqb x k) xs
 
 -- the card was entered for this hand: also where it is folded, or its sitting gone
 abbrev pub is_holding : ℕ → Chair → Bool

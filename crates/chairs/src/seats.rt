@@ -1,28 +1,22 @@
-// The chairs of a table: counts, the first seat clockwise, and what is read off or befalls every chair. One loop each, over the table's seats:
-// a chair above them is one that nobody ever had, and adds nothing.
-ghost use Rattle.std.specs.Prelude.{◌≡◌, ℕ, ◌+◌, ◌-◌, ◌≤◌, ◌<◌, true, false, leb, get_or, map};
+// The chairs of a table: counts, the first seat clockwise, and what is read off or befalls every chair. Each goes over the table's seats: a chair
+// above them is one that nobody ever had, and adds nothing.
+ghost use Rattle.std.specs.Prelude.{◌≡◌, ℕ, ◌+◌, ◌≤◌, ◌<◌, Bool, leb, get_or, map};
+ghost use Rattle.std.specs.Fn.{FnReturnsAt};
 ghost use Rattle.laws.specs.Tests.{pick};
 ghost use Rattle.pots.specs.Heights.{mask_at};
 ghost use Rattle.chairs.specs.Who.{Live, LiveWithChips, Holding, Owing};
 ghost use Rattle.chairs.specs.What.{Total, Live as OfLive};
-ghost use Rattle.chairs.specs.Chairs.{want_of, column_of, no_chair, chair_at, put_at, count_of, chips_of, first_of, seats_from, clockwise, close_all, Seats};
+ghost use Rattle.chairs.specs.Chairs.{want_of, column_of, no_chair, chair_at, put_at, count_of, chips_of, first_of, clockwise, close_all, Seats};
 
 use crate::Chair;
+use crate::passes::{column, count, mask};
 
 // How many hands are live.
 pub fn lives(cs: [Chair; 10], seats: u32) -> u32
     requires { Seats seats cs }
     ensures { result ≡ count_of (want_of Live) cs }
 {
-    let last = seats as usize;
-    let mut hands: u32 = 0;
-    let mut i: usize = 0;
-    while i < last {
-        let c = cs[i];
-        hands += laws::one(c.dealt.live);
-        i += 1;
-    }
-    hands
+    count(&cs[..seats as usize], |c| c.dealt.live)
 }
 
 // How many hands one card was entered for, and how many another.
@@ -32,22 +26,16 @@ pub struct HolderCount {
     pub second: u32,
 }
 
-// Both counts in one pass, since hole cards come by two.
+// Both counts, since hole cards come by two.
 pub fn holders(cs: [Chair; 10], seats: u32, a: u32, b: u32) -> HolderCount
     requires { Seats seats cs }
     ensures { (result.first ≡ count_of (want_of (Holding a)) cs) × (result.second ≡ count_of (want_of (Holding b)) cs) }
 {
-    let last = seats as usize;
-    let mut first: u32 = 0;
-    let mut second: u32 = 0;
-    let mut i: usize = 0;
-    while i < last {
-        let c = cs[i];
-        first += laws::one(crate::holds(c, a));
-        second += laws::one(crate::holds(c, b));
-        i += 1;
+    let at = &cs[..seats as usize];
+    HolderCount {
+        first: count(at, |c| c.holds(a)),
+        second: count(at, |c| c.holds(b)),
     }
-    HolderCount { first, second }
 }
 
 // The chair of a seat; a chair that nobody ever had for a seat that is not there.
@@ -93,58 +81,24 @@ fn place_on(s: u32, k: u32, seats: u32) -> usize
     }
 }
 
-// The first seat clockwise from s, which comes last, that owes where no other live hand has chips; 0 where there is none.
-fn first_from(cs: [Chair; 10], seats: u32, mark: u32, s: u32) -> u32
-    requires { (s ≤ seats) × (seats ≤ 10) }
-    ensures { result ≡ first_of (want_of (Owing mark true)) cs (clockwise seats s) }
+// The first seat clockwise from s, which comes last, whose chair is as asked; 0 where there is none.
+pub(crate) fn first_from<F: Fn(&Chair) -> bool>(
+    cs: &[Chair; 10],
+    seats: u32,
+    s: u32,
+    asked: F,
+) -> u32
+    requires within { (s ≤ seats) × (seats ≤ 10) }
+    requires callable { F.IsAlwaysCallable asked }
+    ensures { (p : Chair → Bool) → ((c : Chair) (r : Bool) → FnReturnsAt F.Fn asked c r → r ≡ p c) → result ≡ first_of p cs.now (clockwise seats s) }
 {
-    let mut k: u32 = 0;
-    while k < seats {
+    for k in 0..seats {
         let i = place_on(s, k, seats);
-        let c = cs[i];
-        if crate::owes(c, mark, true) {
+        if asked(&cs[i]) {
             return i as u32 + 1;
         }
-        k += 1;
     }
     0
-}
-
-// What the turn is found by: how many hands are live, and how many of these have chips; and the first seat that owes where more than one has, of
-// all seats and of those after one; 0 for none.
-#[derive(Clone, Copy)]
-struct Sought {
-    hands: u32,
-    stacks: u32,
-    first: u32,
-    over: u32,
-}
-
-// All four in one pass, from the last seat to the first.
-fn seek(cs: [Chair; 10], seats: u32, s: u32) -> Sought
-    requires { Seats seats cs × (s ≤ seats) }
-    ensures { (result.hands ≡ count_of (want_of Live) cs) × (result.stacks ≡ count_of (want_of LiveWithChips) cs) × (result.first ≡ first_of (want_of (Owing 0 false)) cs (seats_from 0 seats)) × (result.over ≡ first_of (want_of (Owing 0 false)) cs (seats_from s (seats - s))) }
-{
-    let from = s as usize;
-    let mut hands: u32 = 0;
-    let mut stacks: u32 = 0;
-    let mut first: u32 = 0;
-    let mut over: u32 = 0;
-    let mut i = seats as usize;
-    while 0 < i {
-        i -= 1;
-        let c = cs[i];
-        hands += laws::one(c.dealt.live);
-        stacks += laws::one(crate::live_with_chips(c));
-        first = laws::chosen(crate::owes(c, 0, false), i as u32 + 1, first);
-        over = laws::chosen(i == from, first, over);
-    }
-    Sought {
-        hands,
-        stacks,
-        first,
-        over,
-    }
 }
 
 // The first seat clockwise from s, which comes last, that owes; 0 where there is none, or fewer than two hands are live.
@@ -152,14 +106,12 @@ pub fn turn_from(cs: [Chair; 10], seats: u32, mark: u32, s: u32) -> u32
     requires { Seats seats cs × (s ≤ seats) }
     ensures { result ≡ pick (leb 2 (count_of (want_of Live) cs)) (first_of (want_of (Owing mark (leb (count_of (want_of LiveWithChips) cs) 1))) cs (clockwise seats s)) 0 }
 {
-    let k = seek(cs, seats, s);
-    if k.hands < 2 {
+    let at = &cs[..seats as usize];
+    if count(at, |c| c.dealt.live) < 2 {
         return 0;
     }
-    if k.stacks <= 1 {
-        return first_from(cs, seats, mark, s);
-    }
-    laws::chosen(k.over == 0, k.first, k.over)
+    let alone = count(at, |c| c.live_with_chips()) <= 1;
+    first_from(&cs, seats, s, |c| c.owes(mark, alone))
 }
 
 // All chips: the stacks and what lies in the open hand.
@@ -167,13 +119,9 @@ pub fn chips(cs: [Chair; 10], seats: u32) -> u64
     requires { Seats seats cs }
     ensures { result ≡ chips_of cs }
 {
-    let last = seats as usize;
     let mut n: u64 = 0;
-    let mut i: usize = 0;
-    while i < last {
-        let c = cs[i];
-        n = n + c.stack as u64 + c.dealt.total as u64;
-        i += 1;
+    for c in &cs[..seats as usize] {
+        n += c.stack as u64 + c.dealt.total as u64;
     }
     n
 }
@@ -185,21 +133,16 @@ pub struct PutIn {
     pub live: u16,
 }
 
-// Both in one pass, since whoever looks for the pots needs both.
+// Both, since whoever looks for the pots needs both.
 pub fn put_in(cs: [Chair; 10], seats: u32) -> PutIn
     requires { Seats seats cs }
     ensures { (result.totals ≡ map (column_of Total) cs) × (result.live ≡ mask_at (map (column_of OfLive) cs) 1) }
 {
-    let mut totals = [0u32; 10];
-    let mut live: u16 = 0;
-    let mut i = seats as usize;
-    while 0 < i {
-        i -= 1;
-        let c = cs[i];
-        totals[i] = c.dealt.total;
-        live = crate::bit(c.dealt.live) + 2 * live;
+    let at = &cs[..seats as usize];
+    PutIn {
+        totals: column(at, |c| c.dealt.total),
+        live: mask(at, |c| c.dealt.live),
     }
-    PutIn { totals, live }
 }
 
 // The hand is closed at every chair; nothing is paid above the seats.
@@ -207,14 +150,9 @@ pub fn close_all(cs: [Chair; 10], seats: u32, paid: [u32; 10]) -> [Chair; 10]
     requires { Seats seats cs × ((i : ℕ) → seats ≤ i → get_or paid i 0 ≡ 0) × ((i : ℕ) → (get_or cs i no_chair).stack + get_or paid i 0 ≤ 4000000000) }
     ensures { result ≡ close_all cs paid }
 {
-    let last = seats as usize;
     let mut ds = cs;
-    let mut i: usize = 0;
-    while i < last {
-        let c = ds[i];
-        let d = crate::closed(c, paid[i]);
-        ds[i] = d;
-        i += 1;
+    for (i, c) in ds[..seats as usize].iter_mut().enumerate() {
+        *c = c.closed(paid[i]);
     }
     ds
 }

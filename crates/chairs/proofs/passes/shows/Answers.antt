@@ -1,43 +1,16 @@
--- The invariant: what is counted so far and what the rest counts make both whole counts.
-use mathlib.Core.Path.{refl, ap, ◌∙◌, ◌≡◌}
-use lib.ListN.{length, drop, get_or}
+-- `shows` meets its contract: the seats count what all chairs count. Assumes nothing.
 use borrow.Author.Rules.{rules}
-use Prim.Native.Nat.{◌-◌}
-use native.Mathlib.Omega.{arith}
-use Rattle.laws.specs.Tests.{one}
-use Rattle.laws.proofs.Often.{one_small}
-use Rattle.chairs.specs.Chairs.{want_of, count_of}
+use mathlib.Core.Path.{refl, ◌∙◌}
+use Rattle.chairs.specs.Chairs.{want_of}
 use Rattle.chairs.specs.Who.{Live, Bare}
-use Rattle.chairs.proofs.Laws.{unread, count_step}
-use Rattle.chairs.proofs.Above.{above_count}
+use Rattle.chairs.proofs.Above.{count_seats}
 use Rattle.chairs.proofs.passes.shows.Goals as goal
-
-pub overflow_add-hands : goal.overflow_add-hands
-overflow_add-hands c = omega (arith, c.one-hands.ensures, one_small (get_or c.args.cs c.loop-i.i unread).dealt.live)
-
-pub overflow_add-less : goal.overflow_add-less
-overflow_add-less c = omega (arith, c.one-less.ensures, one_small c.bare.result)
-
-pub loop-i-preserved : goal.loop-i-preserved
-loop-i-preserved c =
-    let cs = c.args.cs in
-    let i = c.loop-i.i in
-    let game = c.args.game in
-    let len : length cs ≡ 10 = search rules in
-    let l = want_of Live (get_or cs i unread) in
-    let h : c.one-hands.result ≡ one l = c.one-hands.ensures in
-    let r = want_of (Bare game) (get_or cs i unread) in
-    let k : c.one-less.result ≡ one r = c.one-less.ensures ∙ ap one c.bare.ensures in
-    let a = count_step (want_of Live) cs i unread (omega arith) in
-    let b = count_step (want_of (Bare game)) cs i unread (omega arith) in
-    (omega arith, omega arith, omega (arith, h, one_small l), omega (arith, k, one_small r), omega (arith, h, a), omega (arith, k, b))
 
 pub returns : goal.returns
 returns c =
-    let cs = c.args.cs in
-    let h = c.requires.above in
-    let game = c.args.game in
-    let e : c.loop-i.i ≡ c.args.seats = omega arith in (
-      omega (arith, ap (λ k. count_of (want_of Live) (drop k cs)) e, above_count (want_of Live) refl _ cs h),
-      omega (arith, ap (λ k. count_of (want_of (Bare game)) (drop k cs)) e, above_count (want_of (Bare game)) refl _ cs h),
+    let p = want_of Live in
+    let q = want_of (Bare c.args.game) in
+    let h = c.requires.above in (
+      c.count.ensures p (λ d r f. search rules) ∙ count_seats p refl _ c.args.cs h,
+      c.count-2.ensures q (λ d r f. search rules) ∙ count_seats q refl _ c.args.cs h,
     )

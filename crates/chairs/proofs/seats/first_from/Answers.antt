@@ -1,47 +1,40 @@
--- The invariant: none of the first k seats clockwise owes, so that the first among those behind them is the first of all.
+-- `first_from` meets its contract: none of the first k seats clockwise is as asked, so that the first among those behind them is the first of all.
 use borrow.Author.Rules.{rules}
-use Prim.Native.Nat.{◌-◌, ◌≤◌}
+use Prim.Native.Nat.{◌≤◌}
 use mathlib.Core.Bool.{true, false}
 use mathlib.Core.Path.{◌≡◌, refl, sym, ap, ◌∙◌}
 use native.Mathlib.Omega.{arith}
-use lib.ListN.{length, drop_of_length-le}
-use Rattle.chairs.specs.Chairs.{no_chair, want_of, first_of, clockwise}
-use Rattle.chairs.specs.Who.{Owing}
+use lib.ListN.{length, get_or, drop_of_length-le}
+use Rattle.chairs.specs.Chairs.{no_chair, first_of, clockwise}
 use Rattle.chairs.proofs.Laws.{unread, read_any}
 use Rattle.chairs.proofs.Clockwise.{clock_length, first_turn}
 use Rattle.chairs.proofs.seats.first_from.Goals as goal
 
 pub loop-k-init : goal.loop-k-init
-loop-k-init c = (omega arith, refl)
+loop-k-init g c p h = refl
 
-pub returns-then-owes : goal.returns-then-owes
-returns-then-owes c =
-    let w = want_of (Owing c.args.mark true) in
-    let cs = c.args.cs in
-    let n = c.args.seats in
-    let s = c.args.s in
-    let k = c.loop-k.k in
-    let at = c.place_on-i.ensures.0 in
+pub returns-then-asked : goal.returns-then-asked
+returns-then-asked g c p h =
+    let cs = c.args.cs.now in
+    let i = c.place_on-i.result in
     let len : length cs ≡ 10 = search rules in
-    let e = ap w (read_any cs c.place_on-i.result no_chair unread (omega arith)) ∙ sym c.owes.ensures ∙ c.if-owes.true in
-    omega (arith, c.loop-k.invariant.1, first_turn w cs n s k _ true (search rules) (search rules) at e)
+    let said = h (get_or cs i unread) c.asked.result (record { shown = _; shows = refl; says = record { met = c.asked.ensures } }) in
+    let e = ap p (read_any cs i no_chair unread (omega arith)) ∙ sym said ∙ c.if-asked.true in
+    omega (arith, c.loop-k.invariant p h, first_turn p cs c.args.seats c.args.s c.loop-k.k _ true (omega arith) (omega arith) c.place_on-i.ensures.0 e)
 
 pub loop-k-preserved : goal.loop-k-preserved
-loop-k-preserved c =
-    let w = want_of (Owing c.args.mark true) in
-    let cs = c.args.cs in
-    let n = c.args.seats in
-    let s = c.args.s in
-    let k = c.loop-k.k in
-    let at = c.place_on-i.ensures.0 in
+loop-k-preserved g c p h =
+    let cs = c.args.cs.now in
+    let i = c.place_on-i.result in
     let len : length cs ≡ 10 = search rules in
-    let e = ap w (read_any cs c.place_on-i.result no_chair unread (omega arith)) ∙ sym c.owes.ensures ∙ c.if-owes.false in
-    (search rules, sym (first_turn w cs n s k _ false (search rules) (search rules) at e) ∙ c.loop-k.invariant.1)
+    let said = h (get_or cs i unread) c.asked.result (record { shown = _; shows = refl; says = record { met = c.asked.ensures } }) in
+    let e = ap p (read_any cs i no_chair unread (omega arith)) ∙ sym said ∙ c.if-asked.false in
+    sym (first_turn p cs c.args.seats c.args.s c.loop-k.k _ false (omega arith) (omega arith) c.place_on-i.ensures.0 e) ∙ c.loop-k.invariant p h
 
 pub returns : goal.returns
-returns c =
+returns g c p h =
     let n = c.args.seats in
     let s = c.args.s in
-    let l : s ≤ n = search rules in
+    let l : s ≤ n = omega arith in
     let none = drop_of_length-le (clockwise n s) {i = c.loop-k.k} (omega (arith, clock_length n s l)) in
-    sym (ap (first_of (want_of (Owing c.args.mark true)) c.args.cs) none) ∙ c.loop-k.invariant.1
+    sym (ap (first_of p c.args.cs.now) none) ∙ c.loop-k.invariant p h

@@ -1,32 +1,10 @@
--- The invariant: what is counted so far and what the rest counts make the whole count.
-use mathlib.Core.Path.{refl, ap, ◌≡◌}
-use lib.ListN.{length, drop, get_or}
+-- `lives` meets its contract: the seats count what all chairs count. Assumes nothing.
 use borrow.Author.Rules.{rules}
-use Prim.Native.Nat.{◌-◌}
-use native.Mathlib.Omega.{arith}
-use Rattle.laws.specs.Tests.{one}
-use Rattle.laws.proofs.Often.{one_small}
-use Rattle.chairs.specs.Chairs.{want_of, count_of}
+use mathlib.Core.Path.{refl, ◌∙◌}
+use Rattle.chairs.specs.Chairs.{want_of}
 use Rattle.chairs.specs.Who.{Live}
-use Rattle.chairs.proofs.Laws.{unread, count_step}
-use Rattle.chairs.proofs.Above.{above_count}
+use Rattle.chairs.proofs.Above.{count_seats}
 use Rattle.chairs.proofs.seats.lives.Goals as goal
 
-pub overflow_add-hands : goal.overflow_add-hands
-overflow_add-hands c = omega (arith, c.one-hands.ensures, one_small (get_or c.args.cs c.loop-i.i unread).dealt.live)
-
-pub loop-i-preserved : goal.loop-i-preserved
-loop-i-preserved c =
-    let cs = c.args.cs in
-    let i = c.loop-i.i in
-    let len : length cs ≡ 10 = search rules in
-    let l = want_of Live (get_or cs i unread) in
-    let h : c.one-hands.result ≡ one l = c.one-hands.ensures in
-    let a = count_step (want_of Live) cs i unread (omega arith) in
-    (omega arith, omega arith, omega (arith, h, one_small l), omega (arith, h, a))
-
 pub returns : goal.returns
-returns c =
-    let cs = c.args.cs in
-    let e : c.loop-i.i ≡ c.args.seats = omega arith in
-    omega (arith, ap (λ k. count_of (want_of Live) (drop k cs)) e, above_count (want_of Live) refl _ cs c.requires.above)
+returns c = c.count.ensures (want_of Live) (λ d r h. search rules) ∙ count_seats (want_of Live) refl _ c.args.cs c.requires.above

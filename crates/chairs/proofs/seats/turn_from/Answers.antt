@@ -1,23 +1,26 @@
--- `turn_from` meets its contract.
+-- `turn_from` meets its contract. Assumes nothing.
+use borrow.Author.Rules.{rules}
+use mathlib.Core.Path.{refl, ◌∙◌}
 use native.Mathlib.Omega.{arith}
-use Rattle.chairs.proofs.Turn.{turn_few, turn_alone, turn_more}
+use lib.Dec.{leb}
+use Rattle.chairs.specs.Chairs.{want_of}
+use Rattle.chairs.specs.Who.{Live, LiveWithChips, Owing}
+use Rattle.chairs.proofs.Above.{count_seats}
+use Rattle.chairs.proofs.Turn.{turn_few, turn_many}
 use Rattle.chairs.proofs.seats.turn_from.Goals as goal
 
-pub returns-then-k-lt2 : goal.returns-then-k-lt2
-returns-then-k-lt2 c =
-    let k = c.seek-k in
+pub returns-then-count-lt2 : goal.returns-then-count-lt2
+returns-then-count-lt2 c =
     let a = c.args in
-    turn_few a.cs a.seats a.mark a.s k.result.hands k.result.stacks k.ensures.0 k.ensures.1 (omega arith)
-
-pub returns-then-k-le1 : goal.returns-then-k-le1
-returns-then-k-le1 c =
-    let k = c.seek-k in
-    let a = c.args in
-    turn_alone a.cs a.seats a.mark a.s k.result.hands k.result.stacks k.ensures.0 k.ensures.1 _ (omega arith) (omega arith) c.first_from.ensures
+    let p = want_of Live in
+    turn_few a.cs a.seats a.mark a.s c.count.result (c.count.ensures p (λ d r f. search rules) ∙ count_seats p refl _ a.cs c.requires.0.above) (omega arith)
 
 pub returns : goal.returns
 returns c =
-    let k = c.seek-k in
     let a = c.args in
-    turn_more a.cs a.seats a.mark a.s k.result.hands k.result.stacks k.ensures.0 k.ensures.1 _ k.result.first k.result.over
-    c.requires.1 (omega arith) (omega arith) k.ensures.2 k.ensures.3 c.chosen.ensures
+    let h = c.requires.0.above in
+    let p = want_of Live in
+    let q = want_of LiveWithChips in
+    let w = want_of (Owing a.mark (leb c.count-2.result 1)) in
+    turn_many a.cs a.seats a.mark a.s c.count.result (c.count.ensures p (λ d r f. search rules) ∙ count_seats p refl _ a.cs h) c.count-2.result
+    (c.count-2.ensures q (λ d r f. search rules) ∙ count_seats q refl _ a.cs h) _ (omega arith) (c.first_from.ensures w (λ d r f. search rules))

@@ -1,5 +1,0 @@
--- `again` meets its contract.
-use Rattle.chairs.proofs.again.Goals as goal
-
-pub returns : goal.returns
-returns c = rw c.both-spent.ensures

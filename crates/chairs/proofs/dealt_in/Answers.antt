@@ -1,5 +1,0 @@
--- `dealt_in` meets its contract.
-use Rattle.chairs.proofs.dealt_in.Goals as goal
-
-pub returns : goal.returns
-returns c = cc

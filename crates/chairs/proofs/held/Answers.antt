@@ -1,5 +1,0 @@
--- `held` meets its contract.
-use Rattle.chairs.proofs.held.Goals as goal
-
-pub returns : goal.returns
-returns c = rw c.hole_with-k.ensures

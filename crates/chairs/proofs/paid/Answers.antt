@@ -1,5 +1,0 @@
--- `paid` meets its contract.
-use Rattle.chairs.proofs.paid.Goals as goal
-
-pub returns : goal.returns
-returns c = rw c.least-p.ensures
