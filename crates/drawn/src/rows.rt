@@ -187,10 +187,8 @@ fn put_row(out: &mut [u8], t: Table, o: Told, i: usize)
 pub fn put_seats(out: &mut [u8], t: Table, o: Told)
     requires { 1840 ≤ length out.old }
 {
-    let mut i: usize = 0;
-    while i < 10 {
+    for i in 0..10 {
         put_row(out, t, o, i);
-        i += 1;
     }
 }
 
