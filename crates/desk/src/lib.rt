@@ -35,14 +35,11 @@ fn rows_of(sittings: [u32; 10], paid: [u32; 10]) -> [PaidRow; 10]
         paid: 0,
     };
     let mut rows = [none; 10];
-    let mut i: usize = 0;
-    while i < 10 {
-        let r = PaidRow {
+    for i in 0..10 {
+        rows[i] = PaidRow {
             sitting: sittings[i],
             paid: paid[i],
         };
-        rows[i] = r;
-        i += 1;
     }
     rows
 }

@@ -187,35 +187,29 @@ fn put_row(out: &mut [u8], t: Table, o: Told, i: usize)
 pub fn put_seats(out: &mut [u8], t: Table, o: Told)
     requires { 1840 ≤ length out.old }
 {
-    let mut i: usize = 0;
-    while i < 10 {
+    for i in 0..10 {
         put_row(out, t, o, i);
-        i += 1;
     }
 }
 
-// A pot, where there is one at the place: its number from the lowest, its chips, the seats that contest it.
-fn put_pot(out: &mut [u8], list: [Pot; 9], n: usize, k: usize)
+// The k-th pot: its number from the lowest, its chips, the seats that contest it.
+fn put_pot(out: &mut [u8], k: usize, p: Pot)
     requires { (k < 9) × (1840 ≤ length out.old) }
 {
-    if n <= k {
-        return;
-    }
-    let p = list[k];
     let at = POTS + COLUMNS * (k % 5) + 40 * (k / 5);
     put_seat(out, at, k as u32 + 1);
     put_number(out, at + 2, p.amount);
     put_mask(out, at + 15, p.who);
 }
 
-// The pots, in two columns.
-fn put_list(out: &mut [u8], list: [Pot; 9], n: usize)
+// The first n pots, in two columns.
+fn put_list(out: &mut [u8], list: &[Pot; 9], n: usize)
     requires { 1840 ≤ length out.old }
 {
-    let mut k: usize = 0;
-    while k < 9 {
-        put_pot(out, list, n, k);
-        k += 1;
+    for (k, p) in list.iter().enumerate() {
+        if k < n {
+            put_pot(out, k, *p);
+        }
     }
 }
 
@@ -229,7 +223,7 @@ pub fn put_pots(out: &mut [u8], list: [Pot; 9], n: usize)
         0 < n,
         b"pots, each with the seats that contest it",
     );
-    put_list(out, list, n);
+    put_list(out, &list, n);
 }
 
 // The drop of a settlement, where the table has one.

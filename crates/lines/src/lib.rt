@@ -87,15 +87,14 @@ pub fn gather(buf: &mut [u8], m: Fill, part: &[u8], want: usize) -> Progress
     ensures room { Room result.fill × (result.used ≤ length part.now) × (0 < length part.now → 0 < result.used) }
 {
     let mut fill = m;
-    let mut i: usize = 0;
-    while i < part.len() {
-        let b = part[i];
-        fill = keep(buf, fill, b);
-        i += 1;
-        let n = fill.lines;
-        if want <= n {
-            return Progress { fill, used: i };
+    for (i, b) in part.iter().enumerate() {
+        fill = keep(buf, fill, *b);
+        if want <= fill.lines {
+            return Progress { fill, used: i + 1 };
         }
     }
-    Progress { fill, used: i }
+    Progress {
+        fill,
+        used: part.len(),
+    }
 }

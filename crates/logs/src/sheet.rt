@@ -24,10 +24,8 @@ fn sheet_len(s: Sheet) -> usize
 {
     let values = values_of(s);
     let mut at: usize = 0;
-    let mut k: usize = 0;
-    while k < LINES {
-        at += line_len(k, values[k]);
-        k += 1;
+    for (k, n) in values.iter().enumerate() {
+        at += line_len(k, *n);
     }
     at
 }
@@ -39,10 +37,8 @@ fn put_sheet(s: Sheet, buffer: &mut [u8]) -> usize
 {
     let values = values_of(s);
     let mut at: usize = 0;
-    let mut k: usize = 0;
-    while k < LINES {
-        at += put_line(&mut buffer[at..], k, values[k]);
-        k += 1;
+    for (k, n) in values.iter().enumerate() {
+        at += put_line(&mut buffer[at..], k, *n);
     }
     at
 }

@@ -101,15 +101,13 @@ pub fn digit_count(n: u32) -> usize
     ensures { result ≡ length (digits n) }
 {
     let mut m = n;
-    let mut k: usize = 1;
-    while k < 9 {
+    for k in 1..9 {
         if m < 10 {
             return k;
         }
-        m = m / 10;
-        k += 1;
+        m /= 10;
     }
-    k
+    9
 }
 
 const ZEROS: [u8; 9] = *b"000000000";

@@ -21,12 +21,9 @@ pub fn put_bytes(sheet: &mut [u8], bytes: &[u8]) -> usize
     requires { length bytes.now ≤ length sheet.old }
     ensures { Wrote bytes.now sheet.old sheet.new result }
 {
-    let mut i = 0;
-    while i < bytes.len() {
-        sheet[i] = bytes[i];
-        i += 1;
-    }
-    i
+    let n = bytes.len();
+    sheet[..n].copy_from_slice(bytes);
+    n
 }
 
 // The line `key=n` with its LF at the front of the sheet.

@@ -2,6 +2,8 @@
 use Rattle.answers.specs.Answer.{table_bytes}
 use Rattle.answers.proofs.Blocks.{table_count}
 use Rattle.writing.proofs.Sheets.{then}
+use lib.ListN.{length-take}
+use lib.Seq.{get_or-take}
 use native.Mathlib.Omega.{arith}
 use Rattle.answers.proofs.put_table.Goals as goal
 
@@ -23,7 +25,10 @@ slice_bounds-put_pots-start c =
 pub put_pots-requires : goal.put_pots-requires
 put_pots-requires c =
     let s = c in
-    (s.requires.0.count, s.requires.0.pots, omega (arith, table_count s.args.s))
+    let p = s.args.s.pots in (
+      λ k h. rw (get_or-take p.n p.list k (record { amount = 0; who = 0 }) (omega (arith, length-take p.n p.list))) (s.requires.0.pots k),
+      omega (arith, table_count s.args.s),
+    )
 
 pub overflow_add-b : goal.overflow_add-b
 overflow_add-b c =

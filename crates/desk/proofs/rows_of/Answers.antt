@@ -4,22 +4,21 @@ use Rattle.desk.specs.Desk.{rows_of}
 use borrow.Author.Rules.{rules}
 use native.Mathlib.Omega.{arith}
 use lib.ListN.{length, length-set}
-use Prim.Native.Nat.{◌-◌}
 use mathlib.Core.Path.{◌≡◌, refl}
 use Rattle.desk.proofs.rows_of.Goals as goal
 
 pub loop-i-init : goal.loop-i-init
-loop-i-init c = (omega arith, refl, refl)
+loop-i-init c = (refl, refl)
 
 pub loop-i-preserved : goal.loop-i-preserved
 loop-i-preserved c = let ss = c.args.sittings in
     let ps = c.args.paid in
     let ls : length ss ≡ 10 = search rules in
     let lp : length ps ≡ 10 = search rules in
-    (omega arith, simp length-set c.loop-i.invariant.1, rows_turn c.loop-i.rows (rows_of ss ps) ss ps c.loop-i.i (omega arith) (omega arith) (omega arith) c.loop-i.invariant.2)
+    (simp length-set c.loop-i.invariant.0, rows_turn c.loop-i.rows (rows_of ss ps) ss ps c.loop-i.i (omega arith) (omega arith) (omega arith) c.loop-i.invariant.1)
 
 pub returns : goal.returns
 returns c = let ss = c.args.sittings in
     let ps = c.args.paid in
     let ls : length ss ≡ 10 = search rules in
-    rows_done c.loop-i.rows (rows_of ss ps) ss ps c.loop-i.i (omega arith) (omega arith) c.loop-i.invariant.2
+    rows_done c.loop-i.rows (rows_of ss ps) ss ps c.loop-i.i (omega arith) (omega arith) c.loop-i.invariant.1

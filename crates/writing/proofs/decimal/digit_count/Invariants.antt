@@ -1,12 +1,9 @@
 -- `digit_count` meets its contract: what was counted and what is left to count make the whole.
 use Rattle.text.specs.Number.{digits, digits_in}
 use lib.ListN.{length}
-use Prim.Native.Nat.{◌+◌, ◌-◌, ◌≤◌}
+use Prim.Native.Nat.{◌+◌, ◌-◌}
 use mathlib.Core.Path.{◌≡◌}
 use Rattle.writing.proofs.decimal.digit_count.Given as goal
 
 abbrev pub invariant-loop-k : goal.invariant-loop-k
-invariant-loop-k l = (1 ≤ l.k) × (l.k ≤ 9) × (l.k + length (digits_in (9 - l.k) l.m) ≡ 1 + length (digits l.n))
-
-abbrev pub decreases-loop-k : goal.decreases-loop-k
-decreases-loop-k l = 9 - l.k
+invariant-loop-k l = l.k + length (digits_in (9 - l.k) l.m) ≡ 1 + length (digits l.n)
