@@ -58,11 +58,9 @@ fn put_words(buffer: &mut [u8], ws: &[u32]) -> usize
     ensures wrote { Wrote (words_bytes ws.now) buffer.old buffer.new result }
     ensures small { All IsWord ws.now × (result ≡ 4 * length ws.now) }
 {
-    let mut at: usize = 0;
-    let mut k: usize = 0;
-    while k < ws.len() {
-        at += put_word(&mut buffer[at..], ws[k]);
-        k += 1;
+    let mut at = 0;
+    for w in ws {
+        at += put_word(&mut buffer[at..], *w);
     }
     at
 }
@@ -114,11 +112,9 @@ fn put_chairs(buffer: &mut [u8], cs: [Chair; 10]) -> usize
     ensures wrote { Wrote (chairs_bytes cs) buffer.old buffer.new result }
     ensures fits { All ChairFits cs × (length cs ≡ 10) }
 {
-    let mut at: usize = 0;
-    let mut k: usize = 0;
-    while k < 10 {
-        at += put_chair(&mut buffer[at..], cs[k]);
-        k += 1;
+    let mut at = 0;
+    for c in &cs {
+        at += put_chair(&mut buffer[at..], *c);
     }
     at
 }
@@ -153,11 +149,9 @@ fn chairs_in(b: &[u8]) -> [Chair; 10]
 {
     let none = chairs::no_chair();
     let mut cs = [none; 10];
-    let mut i: usize = 0;
-    while i < 10 {
+    for i in 0..10 {
         let c = chair_in(&b[28 * i..]);
         cs[i] = c;
-        i += 1;
     }
     cs
 }

@@ -69,11 +69,9 @@ fn put_words(buffer: &mut [u8], ws: [u32; 10]) -> usize
     requires { 40 ≤ length buffer.old }
     ensures { Wrote (words_bytes ws) buffer.old buffer.new result }
 {
-    let mut at: usize = 0;
-    let mut k: usize = 0;
-    while k < 10 {
-        at += put_word(&mut buffer[at..], ws[k]);
-        k += 1;
+    let mut at = 0;
+    for w in &ws {
+        at += put_word(&mut buffer[at..], *w);
     }
     at
 }

@@ -5,28 +5,27 @@ use Rattle.chairs.proofs.Laws.{unread}
 use Rattle.text.proofs.Parts.{part_is}
 use lib.ListN.{length, length-drop}
 use mathlib.Core.Path.{◌≡◌, refl, ap}
-use Prim.Native.Nat.{◌-◌}
 use native.Mathlib.Omega.{arith}
 use borrow.Author.Rules.{rules}
 use Rattle.packed.proofs.put_chairs.Goals as goal
 
-pub loop-k-init : goal.loop-k-init
-loop-k-init c = (omega arith, going_start _ _ _ _)
+pub loop-c-init : goal.loop-c-init
+loop-c-init c = going_start _ _ _ _
 
 pub slice_bounds-put_chair-count : goal.slice_bounds-put_chair-count
-slice_bounds-put_chair-count c = let n : length c.args.cs ≡ 10 = search rules in omega (arith, going_at c.loop-k.invariant.1 28 (λ (x : Chair). refl) (omega arith), c.loop-k.invariant.1.same, c.requires)
+slice_bounds-put_chair-count c = let n : length c.args.cs ≡ 10 = search rules in omega (arith, going_at c.loop-c.invariant 28 (λ (x : Chair). refl) (omega arith), c.loop-c.invariant.same, c.requires)
 
 pub slice_bounds-put_chair-start : goal.slice_bounds-put_chair-start
-slice_bounds-put_chair-start c = let n : length c.args.cs ≡ 10 = search rules in omega (arith, going_at c.loop-k.invariant.1 28 (λ (x : Chair). refl) (omega arith), c.loop-k.invariant.1.same, c.requires)
+slice_bounds-put_chair-start c = let n : length c.args.cs ≡ 10 = search rules in omega (arith, going_at c.loop-c.invariant 28 (λ (x : Chair). refl) (omega arith), c.loop-c.invariant.same, c.requires)
 
 pub put_chair-at-requires : goal.put_chair-at-requires
-put_chair-at-requires c = let n : length c.args.cs ≡ 10 = search rules in let e = going_at c.loop-k.invariant.1 28 (λ (x : Chair). refl) (omega arith) in omega (arith, ap length (part_is c.loop-k.at c.loop-k.buffer), length-drop c.loop-k.at c.loop-k.buffer, e, c.loop-k.invariant.1.same, c.requires)
+put_chair-at-requires c = let n : length c.args.cs ≡ 10 = search rules in let e = going_at c.loop-c.invariant 28 (λ (x : Chair). refl) (omega arith) in omega (arith, ap length (part_is c.loop-c.at c.loop-c.buffer), length-drop c.loop-c.at c.loop-c.buffer, e, c.loop-c.invariant.same, c.requires)
 
 pub overflow_add-at : goal.overflow_add-at
-overflow_add-at c = let n : length c.args.cs ≡ 10 = search rules in omega (arith, going_at c.loop-k.invariant.1 28 (λ (x : Chair). refl) (omega arith), c.put_chair-at.ensures.wrote.count, c.loop-k.invariant.1.same, c.requires)
+overflow_add-at c = let n : length c.args.cs ≡ 10 = search rules in omega (arith, going_at c.loop-c.invariant 28 (λ (x : Chair). refl) (omega arith), c.put_chair-at.ensures.wrote.count, c.loop-c.invariant.same, c.requires)
 
-pub loop-k-preserved : goal.loop-k-preserved
-loop-k-preserved c = let n : length c.args.cs ≡ 10 = search rules in (omega arith, going_turn c.loop-k.invariant.1 unread (omega arith) c.put_chair-at.ensures.wrote c.put_chair-at.ensures.fits refl (search rules))
+pub loop-c-preserved : goal.loop-c-preserved
+loop-c-preserved c = let n : length c.args.cs ≡ 10 = search rules in going_turn c.loop-c.invariant unread (omega arith) c.put_chair-at.ensures.wrote c.put_chair-at.ensures.fits refl (search rules)
 
 pub returns : goal.returns
-returns c = let n : length c.args.cs ≡ 10 = search rules in let d = going_done c.loop-k.invariant.1 (omega arith) in record { wrote = d.0; fits = (d.1, n) }
+returns c = let n : length c.args.cs ≡ 10 = search rules in let d = going_done c.loop-c.invariant (omega arith) in record { wrote = d.0; fits = (d.1, n) }
