@@ -1,5 +1,5 @@
 -- Call after call the clerk hears a part: nothing before the first call, and what a call hears behind what was heard. Assumes nothing.
-use Rattle.std.specs.Prelude.{ℕ, ◌+◌, ◌-◌, ◌≤◌, ◌≡◌, List, drop}
+use Rattle.std.specs.Prelude.{ℕ, ◌+◌, ◌-◌, ◌≡◌, List, drop}
 use Rattle.std.proofs.Common.{ap, ◌∙◌, arith, sym}
 use Rattle.stream.specs.declared.Clerk.{Clerk}
 use Rattle.stream.specs.declared.Fed.{Fed}
