@@ -1,10 +1,12 @@
-// What the programs that go through their input part by part share: a part is read as it comes, and bytes are gathered in a buffer and written out before it is full.
+// What the programs that go through their input part by part share: how a part is read and heard, as it comes, and how bytes are gathered in a buffer and written
+// out before it is full.
 #![tactic(auto)]
 
-ghost use Rattle.std.specs.Prelude.{◌≡◌, ◌+◌, ◌≤◌, length, leb, true};
+ghost use Rattle.std.specs.Prelude.{◌≡◌, ℕ, ◌+◌, ◌≤◌, ◌<◌, List, length, drop, leb, IfOk};
 ghost use Rattle.laws.specs.Tests.{pick};
 
 use std::io::Read;
+use std::ops::ControlFlow;
 
 // The numbers of the standard streams, by which the kit's `io` reads and writes.
 pub const STDIN_FILENO: i32 = 0;
@@ -13,54 +15,97 @@ pub const STDOUT_FILENO: i32 = 1;
 
 pub const STDERR_FILENO: i32 = 2;
 
-// How many bytes one read gave, and whether it failed. At the end of the input, and where the read failed, there are none.
-#[derive(Clone, Copy)]
-pub struct Got {
-    pub count: usize,
-    pub failed: bool,
+// Why a program stops before the end of its input.
+#[derive(Clone, Copy, Debug, PartialEq, Eq)]
+pub enum Failed {
+    Reading,
+    Writing,
 }
 
-// One read of standard input, which puts what has come so far at the start of the buffer.
-pub fn read_part(rt: &HostRuntime, buf: &mut [u8]) -> Got
-    ensures within { result.count ≤ length buf.new }
-    ensures none { result.failed ≡ true → result.count ≡ 0 }
+// One read of standard input, which puts what has come so far at the start of the buffer, and says how many bytes that is. At the end of the input there are none.
+pub fn read_part(rt: &HostRuntime, buf: &mut [u8]) -> Result<usize, Failed>
+    ensures { IfOk result (λ n. n ≤ length buf.new) }
 {
     match rt.stdin().read(buf) {
-        Ok(count) => Got {
-            count,
-            failed: false,
-        },
-        Err(_) => Got {
-            count: 0,
-            failed: true,
-        },
+        Ok(count) => Ok(count),
+        Err(_) => Err(Failed::Reading),
     }
 }
 
-// How much is still to be written, and whether what was written could be.
-#[derive(Clone, Copy)]
-pub struct Flushed {
-    pub at: usize,
-    pub ok: bool,
+// Writes the bytes out.
+pub fn write_out(fd: i32, bytes: &[u8]) -> Result<(), Failed> {
+    if io::write_all(fd, bytes) {
+        Ok(())
+    } else {
+        Err(Failed::Writing)
+    }
 }
 
-// Writes the bytes out where there are more than `most` of them; a caller says how many leave room enough behind them. Then none is left, else all are.
-pub fn flush(fd: i32, bytes: &[u8], most: usize) -> Flushed
-    ensures left { result.at ≡ pick (leb (length bytes.now) most) (length bytes.now) 0 }
-    ensures within { (result.at ≤ length bytes.now) × (result.at ≤ most) }
+// Writes the bytes out where there are more than `most` of them; a caller says how many leave room enough behind them. Then none is left, else all are: how many.
+pub fn flush(fd: i32, bytes: &[u8], most: usize) -> Result<usize, Failed>
+    ensures left { IfOk result (λ at. at ≡ pick (leb (length bytes.now) most) (length bytes.now) 0) }
+    ensures within { IfOk result (λ at. (at ≤ length bytes.now) × (at ≤ most)) }
 {
     let at = bytes.len();
     if at <= most {
-        return Flushed { at, ok: true };
+        return Ok(at);
     }
-    let ok = io::write_all(fd, bytes);
-    Flushed { at: 0, ok }
+    write_out(fd, bytes)?;
+    Ok(0)
 }
 
-// A place of a slice that lies so far ahead.
-pub fn ahead(from: usize, by: usize, s: &[u8]) -> usize
-    requires { from + by ≤ length s.now }
-    ensures { (result ≡ from + by) × (result ≤ length s.now) }
+// Who goes through the input part by part.
+pub trait Listener {
+    // What is true of it between two calls.
+    ghost Held: { Self → Type 0 };
+
+    // So many bytes at the front of a part have taken it from what it was to what it is.
+    ghost Heard: { Self → List ℕ → ℕ → Self → Type 0 };
+
+    // Hears bytes at the front of a part, and says how many.
+    fn hear(&mut self, part: &[u8]) -> Result<usize, Failed>
+        requires { Held self.old × (0 < length part.now) }
+        ensures held { Held self.new }
+        ensures heard { IfOk result (λ n. (0 < n) × (n ≤ length part.now) × Heard self.old part.now n self.new) };
+
+    // A part is heard to its end: what was gathered is written out. Whether to read on.
+    fn pause(&mut self) -> Result<ControlFlow<()>, Failed>
+        requires { Held self.old }
+        ensures { Held self.new };
+
+    ghost none: { (l : Self) (part : List ℕ) → Heard l part 0 l };
+
+    ghost on: { (l m o : Self) (part : List ℕ) (n k : ℕ) → Heard l part n m → Heard m (drop n part) k o → Heard l part (n + k) o };
+}
+
+// A whole part. Unless a write failed, every byte of it is heard.
+pub fn hear_part<L: Listener>(l: &mut L, part: &[u8]) -> Result<(), Failed>
+    requires { L.Held l.old }
+    ensures held { L.Held l.new }
+    ensures heard { IfOk result (λ _. L.Heard l.old part.now (length part.now) l.new) }
 {
-    from + by
+    let mut from = 0;
+    while from < part.len() {
+        from += l.hear(&part[from..])?;
+    }
+    Ok(())
+}
+
+// Reads to the end of the input, or as far as the listener goes on. A read that fails is no end of the input. A proved loop has to end, so its turns are
+// counted, to a number that no run uses up.
+pub fn read_all<L: Listener>(rt: &HostRuntime, l: &mut L, buf: &mut [u8]) -> Result<(), Failed>
+    requires { L.Held l.old }
+    ensures { L.Held l.new }
+{
+    for _ in 0..u64::MAX {
+        let n = read_part(rt, buf)?;
+        if n == 0 {
+            return Ok(());
+        }
+        hear_part(l, &buf[..n])?;
+        if let ControlFlow::Break(()) = l.pause()? {
+            return Ok(());
+        }
+    }
+    Ok(())
 }

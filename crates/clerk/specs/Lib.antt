@@ -1,0 +1,2 @@
+-- What the clerk's desk hears of a part.
+pub mod Hearing

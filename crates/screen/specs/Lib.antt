@@ -1,0 +1,2 @@
+-- What the easel has drawn of a part.
+pub mod Drawing
