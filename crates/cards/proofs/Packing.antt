@@ -1,6 +1,6 @@
 -- Cards packed into one number, the next the last digit; and what the search finds of the few that are packed. Assumes nothing.
 use mathlib.Core.Path.{◌≡◌, refl, sym, ap, ap₂, ◌∙◌, subst}
-use mathlib.Core.List.{List, [], ◌∷◌, ◌++◌}
+use mathlib.Core.List.{List, [], ◌∷◌, ◌++◌, reverse, reverse_aux}
 use Prim.Native.Nat.{ℕ, zero, suc, ◌+◌, ◌-◌, ◌*◌, ◌/◌, ◌%◌, ◌<◌, ◌≤◌}
 use native.Mathlib.Nat.{div-add-mod, mod-lt, mul_comm}
 use native.Mathlib.Omega.{arith}
@@ -79,15 +79,19 @@ seven_lows r a b c d e f g ha hb hc hd he hf hg h =
     nought : (p : ℕ) → p ≡ 0 * 256 + p
     nought p = omega arith
 
-same_turned : (a b c d e f g : ℕ) → SameNumbers (g ∷ f ∷ e ∷ d ∷ c ∷ b ∷ a ∷ []) (a ∷ b ∷ c ∷ d ∷ e ∷ f ∷ g ∷ [])
-same_turned a b c d e f g x = omega arith
+turned_onto : (x : ℕ) (l m : List ℕ) → count x (reverse_aux l m) ≡ count x l + count x m
+turned_onto x [] m = omega arith
+turned_onto x (y ∷ l) m = let ih = turned_onto x l (y ∷ m) in omega (arith, ih)
+
+same_turned : (l : List ℕ) → SameNumbers (reverse l) l
+same_turned l x = omega (arith, turned_onto x l [])
 
 -- the best of seven cards, put from high to low and packed
-pub seven_best : (t : Ranking) → Placed t → (l : List ℕ) (n a b c d e f g : ℕ) (r : Hand) → length l ≡ 7 → a ∷ b ∷ c ∷ d ∷ e ∷ f ∷ g ∷ [] ≡ fall l → lows 7 n ≡ g ∷ f ∷ e ∷ d ∷ c ∷ b ∷ a ∷ []
+pub seven_best : (t : Ranking) → Placed t → (l q : List ℕ) (n : ℕ) (r : Hand) → length l ≡ 7 → q ≡ fall l → lows 7 n ≡ reverse q
     → r ≡ keep t (hand_in 9895604649984) (values_left t (lows 0 0) 2 (lows 7 n)) → r ≡ best_of t l
 unfolding hand_in digits lows
-seven_best t pl l n a b c d e f g r seven down packed er =
-    let s : SameNumbers (lows 7 n) l = λ x. ap (count x) packed ∙ same_turned a b c d e f g x ∙ ap (count x) down ∙ fall_same l x in
+seven_best t pl l q n r seven down packed er =
+    let s : SameNumbers (lows 7 n) l = λ x. ap (count x) packed ∙ same_turned q x ∙ ap (count x) down ∙ fall_same l x in
     found_best t r (lows 7 n) (er ∙ left_best t pl (hand_in 9895604649984) [] [] 2 5 (lows 7 n) (omega arith) (sym (lows_length 7 n)) (λ m. refl))
     ∙ best_same t pl (lows 7 n) l (omega (arith, lows_length 7 n)) s
 

@@ -5,7 +5,7 @@ ghost use Rattle.cards.specs.Order.{ranking_of, keep, values_from, best_of, Plac
 ghost use Rattle.cards.specs.Packed.{digits, hand_in, IsHand};
 ghost use Rattle.cards.specs.Searching.{values_left, lows, units, Stands};
 
-use crate::seven::{fallen_seven, seven_in};
+use crate::seven::{fallen, seven_in};
 use crate::weighing::{better, hand_in, in_full};
 use crate::{Hand, Ranking, ranking_of};
 
@@ -164,7 +164,7 @@ fn best_by(ranking: Ranking, cards: &[u8]) -> Hand
     if cards.len() != 7 {
         return best_of_choices(ranking, cards);
     }
-    let n = seven_in(fallen_seven(cards));
+    let n = seven_in(fallen(cards));
     hand_in(search(ranking, n, 2, 0, 0, 1, NO_HAND))
 }
 

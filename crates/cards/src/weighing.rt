@@ -1,6 +1,6 @@
 // Document 01, "Hand order": five chosen cards, the digits of one number, beside the best hand so far. Most choices are settled without their ranks
 // being put in order: by which neighbours among them are the same, and the place of the class which that tells.
-ghost use Rattle.std.specs.Prelude.{◌≡◌, ◌/◌, ◌%◌, ◌≤◌, ◌<◌, max};
+ghost use Rattle.std.specs.Prelude.{◌≡◌, ◌/◌, ◌%◌, ◌≤◌, ◌<◌};
 ghost use Rattle.cards.specs.Hands.{value_of};
 ghost use Rattle.cards.specs.Order.{better_by, Placed};
 ghost use Rattle.cards.specs.Falls.{spread};
@@ -51,18 +51,12 @@ fn number_of(ranking: Ranking, h: Hand) -> u64
     ((high * 256 + h.r3 as u64) * 256 + h.r4 as u64) * 256 + h.r5 as u64
 }
 
-fn larger(x: u64, y: u64) -> u64
-    ensures { result ≡ max x y }
-{
-    if x < y { y } else { x }
-}
-
 // Of the hand so far and the five cards chosen, the better: the cards are put in order and weighed.
 pub(crate) fn in_full(ranking: Ranking, so_far: u64, chosen: u64) -> u64
     requires { Placed ranking × IsHand ranking so_far }
     ensures { (hand_in result ≡ better_by ranking (hand_in so_far) (value_of ranking (digits 5 chosen))) × IsHand ranking result }
 {
-    larger(so_far, number_of(ranking, value(ranking, five_in(chosen))))
+    so_far.max(number_of(ranking, value(ranking, five_in(chosen))))
 }
 
 // The ranks of five cards, as digits.
@@ -150,17 +144,14 @@ pub(crate) fn better(ranking: Ranking, so_far: u64, chosen: u64) -> u64
         if ranks == lowest_row(ranking.foot) {
             return in_full(ranking, so_far, chosen);
         }
-        return larger(
-            so_far,
-            (place(ranking, 8) as u64 * 256 + 8) * 1099511627776 + ranks,
-        );
+        return so_far.max((place(ranking, 8) as u64 * 256 + 8) * 1099511627776 + ranks);
     }
     let row = row_of(k);
     if (place(ranking, (row / 1048576 % 16) as u8) as u64) < so_far / 281474976710656 {
         return so_far;
     }
-    larger(
-        so_far,
-        number_of(ranking, hand_at(row, ranks_of(cards_in(chosen)), false)),
-    )
+    so_far.max(number_of(
+        ranking,
+        hand_at(row, ranks_of(cards_in(chosen)), false),
+    ))
 }

@@ -1,54 +1,36 @@
--- The code's tables of labels and refusals are the definitions': at each row, by a test that antt computes. Assumes nothing.
+-- How long each label and each refusal in words is, by a test that antt computes. Assumes nothing.
 use mathlib.Core.Path.{◌≡◌, refl}
-use mathlib.Core.List.{List, [], map}
+use mathlib.Core.List.{[]}
 use mathlib.Core.Bool.{Bool, true}
 use Prim.Native.Nat.{ℕ, ◌<◌}
 use lib.ListN.{length, get_or}
 use lib.Dec.{eqb}
 use borrow.Author.Tests.{eqb-true}
-use Rattle.laws.specs.Tests.{both}
-use Rattle.laws.proofs.Tests.{both_true}
 use Rattle.laws.proofs.Rules.{all_below, below_all}
-use Rattle.laws.specs.Listing.{same_list}
-use Rattle.laws.proofs.Members.{same_list_law}
 use Rattle.figures.specs.Words.{labels, words, refusals}
-use Rattle.figures.specs.declared.row.Label.{Label}
-use Rattle.figures.specs.declared.row.Words.{Words}
 
 -- ---- labels
 
-abbrev label_table : List Label
-label_table = map (λ (t : List ℕ). record { text = t }) labels
-
-abbrev pub label_at : ℕ → Label
-label_at k = get_or label_table k (record { text = [] })
-
-abbrev label_right : ℕ → Bool
-label_right k = both (eqb (length (label_at k).text) 12) (same_list (label_at k).text (get_or labels k []))
+label_right : ℕ → Bool
+label_right k = eqb (length (get_or labels k [])) 12
 
 labels_right : all_below (length labels) label_right ≡ true
+unfolding label_right
 labels_right = refl
 
-pub label_row : (k : ℕ) → k < length labels → (length (label_at k).text ≡ 12) × ((label_at k).text ≡ get_or labels k [])
-label_row k h =
-    let p = both_true _ _ (below_all (length labels) label_right labels_right k h) in
-    (eqb-true _ _ p.0, same_list_law _ _ p.1)
+pub label_length : (k : ℕ) → k < length labels → length (get_or labels k []) ≡ 12
+unfolding label_right
+label_length k h = eqb-true _ _ (below_all (length labels) label_right labels_right k h)
 
 -- ---- refusals in words
 
-abbrev word_table : List Words
-word_table = map (λ (t : List ℕ). record { text = t }) words
-
-abbrev pub words_at : ℕ → Words
-words_at k = get_or word_table k (record { text = [] })
-
-abbrev words_right : ℕ → Bool
-words_right k = both (eqb (length (words_at k).text) 40) (same_list (words_at k).text (get_or words k []))
+words_right : ℕ → Bool
+words_right k = eqb (length (get_or words k [])) 40
 
 all_words_right : all_below refusals words_right ≡ true
+unfolding words_right
 all_words_right = refl
 
-pub words_row_law : (k : ℕ) → k < refusals → (length (words_at k).text ≡ 40) × ((words_at k).text ≡ get_or words k [])
-words_row_law k h =
-    let p = both_true _ _ (below_all refusals words_right all_words_right k h) in
-    (eqb-true _ _ p.0, same_list_law _ _ p.1)
+pub words_length : (k : ℕ) → k < refusals → length (get_or words k []) ≡ 40
+unfolding words_right
+words_length k h = eqb-true _ _ (below_all refusals words_right all_words_right k h)

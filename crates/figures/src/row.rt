@@ -10,118 +10,48 @@ use crate::grouped::{column, grouped};
 use crate::put::{put, put_if};
 use laws::either;
 
-#[derive(Clone, Copy)]
-struct Label {
-    text: [u8; 12],
-}
-
 // How many kinds of line an answer has; the empty label stands behind theirs.
 pub const KINDS: usize = 11;
 
 // The left edge and the label of each kind of line, and the empty label.
-const LABELS: [Label; 12] = [
-    Label {
-        text: *b"| entry     ",
-    },
-    Label {
-        text: *b"| code      ",
-    },
-    Label {
-        text: *b"| turn      ",
-    },
-    Label {
-        text: *b"| mark      ",
-    },
-    Label {
-        text: *b"| pot       ",
-    },
-    Label {
-        text: *b"| back      ",
-    },
-    Label {
-        text: *b"| fee       ",
-    },
-    Label {
-        text: *b"| sitting   ",
-    },
-    Label {
-        text: *b"| paid      ",
-    },
-    Label {
-        text: *b"| unclaimed ",
-    },
-    Label {
-        text: *b"| jackpot   ",
-    },
-    Label {
-        text: *b"|           ",
-    },
+const LABELS: [[u8; 12]; KINDS + 1] = [
+    *b"| entry     ",
+    *b"| code      ",
+    *b"| turn      ",
+    *b"| mark      ",
+    *b"| pot       ",
+    *b"| back      ",
+    *b"| fee       ",
+    *b"| sitting   ",
+    *b"| paid      ",
+    *b"| unclaimed ",
+    *b"| jackpot   ",
+    *b"|           ",
 ];
-
-#[derive(Clone, Copy)]
-struct Words {
-    text: [u8; 40],
-}
 
 // How many refusal numbers there are: document 01's table, and those of the requests No. 12 and No. 13.
 pub const REFUSALS: usize = 18;
 
 // The refusals in words, by document 01's table and the requests.
-const WORDS: [Words; REFUSALS] = [
-    Words {
-        text: *b"0: taken                                ",
-    },
-    Words {
-        text: *b"1: the block's form is wrong            ",
-    },
-    Words {
-        text: *b"2: unknown kind or number out of range  ",
-    },
-    Words {
-        text: *b"3: n is not the next                    ",
-    },
-    Words {
-        text: *b"4: wrong moment                         ",
-    },
-    Words {
-        text: *b"5: the seat isn't as asked              ",
-    },
-    Words {
-        text: *b"6: not that seat's turn                 ",
-    },
-    Words {
-        text: *b"7: amount or act not allowed by Betting ",
-    },
-    Words {
-        text: *b"8: a card already in this hand          ",
-    },
-    Words {
-        text: *b"9: sit: more than 100,000,000 chips     ",
-    },
-    Words {
-        text: *b"10: a live seat has no cards entered    ",
-    },
-    Words {
-        text: *b"11: the sheet is bad                    ",
-    },
-    Words {
-        text: *b"12: the answer sheet is too short       ",
-    },
-    Words {
-        text: *b"13: put right, an entry would be refused",
-    },
-    Words {
-        text: *b"14: a shared pool: nothing is put right ",
-    },
-    Words {
-        text: *b"15: the stored log is full              ",
-    },
-    Words {
-        text: *b"16: the proposal does not pay exactly   ",
-    },
-    Words {
-        text: *b"17: the proposer leaves something unpaid",
-    },
+const WORDS: [[u8; 40]; REFUSALS] = [
+    *b"0: taken                                ",
+    *b"1: the block's form is wrong            ",
+    *b"2: unknown kind or number out of range  ",
+    *b"3: n is not the next                    ",
+    *b"4: wrong moment                         ",
+    *b"5: the seat isn't as asked              ",
+    *b"6: not that seat's turn                 ",
+    *b"7: amount or act not allowed by Betting ",
+    *b"8: a card already in this hand          ",
+    *b"9: sit: more than 100,000,000 chips     ",
+    *b"10: a live seat has no cards entered    ",
+    *b"11: the sheet is bad                    ",
+    *b"12: the answer sheet is too short       ",
+    *b"13: put right, an entry would be refused",
+    *b"14: a shared pool: nothing is put right ",
+    *b"15: the stored log is full              ",
+    *b"16: the proposal does not pay exactly   ",
+    *b"17: the proposer leaves something unpaid",
 ];
 
 // A line of this kind is a left half, whose right half comes with the next line: an entry's number, a sitting's.
@@ -182,11 +112,8 @@ pub fn put_left(out: &mut [u8], at: usize, kind: usize, shown: bool, n: u32) -> 
     requires { (kind < length labels) × (at + 23 ≤ length out.old) }
     ensures { Put (left_of kind shown n) at out.old out.new result × (result ≤ at + 23) }
 {
-    let row = LABELS[kind];
-    let text = row.text;
-    let a = put(out, at, &text);
-    let g = column(shown, n);
-    put(out, a, &g)
+    let a = put(out, at, &LABELS[kind]);
+    put(out, a, &column(shown, n))
 }
 
 // A refusal in words.
@@ -194,8 +121,7 @@ pub fn words_of(code: usize) -> [u8; 40]
     requires { code < refusals }
     ensures { result ≡ get_or words code [] }
 {
-    let row = WORDS[code];
-    row.text
+    WORDS[code]
 }
 
 // The row that gives a refusal in words.
@@ -203,10 +129,8 @@ pub fn put_words(out: &mut [u8], at: usize, colour: bool, code: usize) -> usize
     requires { (code < refusals) × (at + 56 ≤ length out.old) }
     ensures { Put (words_row colour code) at out.old out.new result × (result ≤ at + 56) }
 {
-    let row = WORDS[code];
-    let text = row.text;
     let a = put(out, at, b"| ");
-    let b = put_lit(out, a, colour, b"\x1b[1;31m", &text);
+    let b = put_lit(out, a, colour, b"\x1b[1;31m", &WORDS[code]);
     put(out, b, b" |\n")
 }
 

@@ -9,7 +9,7 @@ use native.Mathlib.Numerals.{add-one}
 use native.Mathlib.Omega.{arith}
 use lib.ListN.{length, get_or, take, drop, set, length-drop, drop_of_length-le}
 use lib.Seq.{drop-cons, drop-drop, take_all}
-use Rattle.std.specs.Prelude.{Option}
+use Rattle.std.specs.Prelude.{Option, Some, None}
 use Rattle.laws.specs.Tests.{both}
 use Rattle.laws.proofs.Places.{store_front}
 use Rattle.laws.proofs.Sums.{le_or_lt}
@@ -29,22 +29,11 @@ behind_is l at e h =
     rw m (drop_of_length-le l (le_refl _) ∙ sym (drop_of_length-le (drop at l) {i = suc e} (omega (arith, length-drop at l)))))
     (le_or_lt (at + e + 1) (length l))
 
--- what was read of the line that starts at a place
-module _ (block bytes : List ℕ) (at k letters : ℕ) {e next : ℕ} {x : Option ℕ} {g : Bool} {v : ℕ} (h : at ≤ length block) where
-  pub line_said : e ≡ line_len (take (length block - at) (drop at block))
-      → take letters bytes ≡ get_or keys k []
-      → x ≡ line_number (take (letters - 0) bytes) (take (length block - at) (drop at block))
-      → g ≡ is_value x
-      → v ≡ value_in x
-      → next ≡ min (at + e + 1) (length block)
-      → ((g ≡ is_value (line_number (get_or keys k []) (drop at block))) × (v ≡ value_in (line_number (get_or keys k []) (drop at block))))
-      × ((drop next block ≡ after_line (drop at block)) × (next ≤ length block))
-  line_said le key number good value behind =
-      let z : letters - 0 ≡ letters = omega arith in
-      let n : x ≡ line_number (get_or keys k []) (drop at block) = number ∙ rw (z, key, rest_is block at) in
-      let w : e ≡ line_len (drop at block) = le ∙ ap line_len (rest_is block at) in
-      let m : next ≤ length block = omega arith in
-      ((good ∙ ap is_value n, value ∙ ap value_in n), (rw (behind, behind_is block at e h) (ap (λ (j : ℕ). drop (suc j) (drop at block)) w), m))
+-- where the next line starts
+pub next_line : (block : List ℕ) (at : ℕ) {e next : ℕ} → at ≤ length block → e ≡ line_len (drop at block) → next ≡ min (at + e + 1) (length block)
+    → (drop next block ≡ after_line (drop at block)) × (next ≤ length block)
+next_line block at {e} {next} h w m =
+    (rw (m, behind_is block at e h) (ap (λ (j : ℕ). drop (suc j) (drop at block)) w), omega arith)
 
 -- ---- the numbers, line by line
 
@@ -54,17 +43,14 @@ reads_on k log h =
     ap (λ (ks : List (List ℕ)). readings ks log) (drop-cons keys k [] h)
     ∙ ap (λ (j : ℕ). line_number (get_or keys k []) log ∷ readings (drop j keys) (after_line log)) (sym (add-one k))
 
-both_both : (a b c : Bool) → both (both a b) c ≡ both a (both b c)
-both_both true b c = refl
-both_both false b c = refl
-
 module _ (k : ℕ) (log next : List ℕ) (h : k < 16) (w : next ≡ after_line log) where
-  pub good_turn : (g : Bool) {g2 l all : Bool} → both g (all_values (readings (drop k keys) log)) ≡ all → l ≡ is_value (line_number (get_or keys k []) log) → g2 ≡ both g l
-      → both g2 (all_values (readings (drop (k + 1) keys) next)) ≡ all
-  good_turn g {g2} {l} {all} e p q =
-      rw (q, p, w)
-      (both_both g (is_value (line_number (get_or keys k []) log)) (all_values (readings (drop (k + 1) keys) (after_line log)))
-      ∙ ap (λ (xs : List (Option ℕ)). both g (all_values xs)) (sym (reads_on k log h))
+  -- a good line
+  pub good_turn : {v : ℕ} {all : Bool} → all_values (readings (drop k keys) log) ≡ all → Some v ≡ line_number (get_or keys k []) log
+      → all_values (readings (drop (k + 1) keys) next) ≡ all
+  good_turn e s =
+      rw w
+      (ap (λ (x : Option ℕ). both (is_value x) (all_values (readings (drop (k + 1) keys) (after_line log)))) s
+      ∙ sym (ap all_values (reads_on k log h))
       ∙ e)
 
   pub value_turn : (a : List ℕ) {v : ℕ} {all : List ℕ} → k < length a → take k a ++ map value_in (readings (drop k keys) log) ≡ all → v ≡ value_in (line_number (get_or keys k []) log)
@@ -72,6 +58,13 @@ module _ (k : ℕ) (log next : List ℕ) (h : k < 16) (w : next ≡ after_line l
   value_turn a {v} {all} l e p =
       store_front a k v (map value_in (readings (drop (k + 1) keys) next)) l
       ∙ rw (p, w) (ap (λ (xs : List (Option ℕ)). take k a ++ map value_in xs) (sym (reads_on k log h)) ∙ e)
+
+-- a line of bad form spoils the block
+pub bad_turn : (k : ℕ) (log : List ℕ) {all : Bool} → k < 16 → all_values (readings (drop k keys) log) ≡ all → None ≡ line_number (get_or keys k []) log → all ≡ false
+bad_turn k log h e s =
+    sym e
+    ∙ ap all_values (reads_on k log h)
+    ∙ ap (λ (x : Option ℕ). both (is_value x) (all_values (readings (drop (k + 1) keys) (after_line log)))) (sym s)
 
 -- ---- how many bytes the lines use up
 
@@ -87,12 +80,8 @@ reads_end : (log : List ℕ) → readings (drop 16 keys) log ≡ []
 unfolding readings
 reads_end log = refl
 
-pub good_done : (k : ℕ) (log : List ℕ) (g : Bool) {all : Bool} → k ≡ 16 → both g (all_values (readings (drop k keys) log)) ≡ all → g ≡ all
-good_done k log g e p = sym (both-true-end g) ∙ rw (e, reads_end log) at p
-  where
-    both-true-end : (b : Bool) → both b true ≡ b
-    both-true-end true = refl
-    both-true-end false = refl
+pub good_done : (k : ℕ) (log : List ℕ) {all : Bool} → k ≡ 16 → all_values (readings (drop k keys) log) ≡ all → all ≡ true
+good_done k log e p = sym (rw (e, reads_end log) at p)
 
 pub value_done : (k : ℕ) (log a : List ℕ) {all : List ℕ} → k ≡ 16 → length a ≡ 16 → take k a ++ map value_in (readings (drop k keys) log) ≡ all → a ≡ all
 value_done k log a e l p = sym (take_all 16 a (omega arith)) ∙ sym (append-nil (take 16 a)) ∙ rw (e, reads_end log) at p

@@ -2,7 +2,7 @@
 use mathlib.Core.Path.{◌≡◌, refl, sym, ap, subst, ◌∙◌}
 use mathlib.Core.Bool.{Bool, true, false}
 use mathlib.Core.Logic.{⊎_elim}
-use mathlib.Core.List.{List, [], ◌∷◌, ◌++◌, map, append-nil}
+use mathlib.Core.List.{List, [], ◌∷◌, ◌++◌, append-nil}
 use Prim.Native.Nat.{ℕ, ◌≤◌, ◌<◌}
 use native.Mathlib.Omega.{arith}
 use lib.Dec.{eqb, leb}
@@ -13,15 +13,16 @@ use Rattle.laws.proofs.Tests.{both_true, test}
 use Rattle.laws.proofs.Sums.{le_or_lt}
 use Rattle.text.specs.Number.{number_of, well_formed}
 use Rattle.text.specs.Line.{after_line, line_number, after_lines}
-use Rattle.text.specs.TableSheet.{is_value, value_in}
+use Rattle.text.specs.TableSheet.{is_value}
 use Rattle.writing.specs.AnswerSheet.{Wrote}
 use Rattle.lines.proofs.Whole.{value_open}
 use Rattle.cuts.proofs.Lines.{lfs, keep_all, keep_append, snoc, lfs_lf, lfs_on, kept_lines, ended, lfs_append, lfs_after, lines_lfs, lines_last}
 use Rattle.rounds.specs.RoundText.{keys, readings, all_values, good_form, numbers_of, judged_of}
 use Rattle.rounds.specs.RoundAnswer.{outcome_bytes, answer_bytes}
 use Rattle.rounds.specs.RoundParts.{Kept, nothing, keep_of, Gathered, gather_of, state_of, kept_after, bytes_after}
-use Rattle.banked.specs.declared.judged.Outcome.{Outcome}
+use Rattle.banked.specs.Rounds.{Outcome}
 use Rattle.rounds.specs.declared.parts.Fill.{Fill}
+use Rattle.rounds.proofs.Lengths.{answer_good}
 use Rattle.rounds.proofs.Whole.{kept_cut, ended_answer, last_lf}
 
 -- ---- a block of good form has an LF for each of its lines
@@ -84,7 +85,7 @@ gathers raw (b ∷ bs) h w =
 -- ---- a feed that answers a block where it lies
 
 module _ (m : Fill) (buf part : List ℕ) (e : both (eqb m.count 0) (both (eqb m.lines 0) (eqb m.width 0)) ≡ true)
-    (good : all_values (readings keys part) ≡ true) where
+    (good : good_form part ≡ true) where
   none_kept : state_of m buf ≡ nothing
   none_kept =
       let p = both_true (eqb m.count 0) (both (eqb m.lines 0) (eqb m.width 0)) e in
@@ -92,6 +93,7 @@ module _ (m : Fill) (buf part : List ℕ) (e : both (eqb m.count 0) (both (eqb m
       rw (eqb-true m.count 0 p.0, eqb-true m.lines 0 q.0, eqb-true m.width 0 q.1)
 
   took : Took part (gather_of (state_of m buf) part)
+  unfolding good_form
   took = rw none_kept (gathers [] part (omega arith) (values_lfs keys part good))
 
   pub here_left : (used : ℕ) → drop used part ≡ after_lines 16 part → drop used part ≡ (gather_of (state_of m buf) part).left
@@ -100,15 +102,13 @@ module _ (m : Fill) (buf part : List ℕ) (e : both (eqb m.count 0) (both (eqb m
   pub here_kept : (z : Fill) → z.count ≡ 0 → z.lines ≡ 0 → z.width ≡ 0 → state_of z buf ≡ kept_after (gather_of (state_of m buf) part).kept
   here_kept z c l w = rw (le-ltb (gather_of (state_of m buf) part).kept.lines 16 took.lines, c, l, w)
 
-  pub here_wrote : {out out2 ns : List ℕ} {o : Outcome} {w : ℕ} → ns ≡ map value_in (readings keys part) → o ≡ judged_of ns → Wrote (outcome_bytes o) out out2 w
+  pub here_wrote : {out out2 ns : List ℕ} {o : Outcome} {w : ℕ} → ns ≡ numbers_of part → o ≡ judged_of ns → Wrote (outcome_bytes o) out out2 w
       → Wrote (bytes_after (gather_of (state_of m buf) part).kept) out out2 w
-  unfolding answer_bytes good_form numbers_of
-  here_wrote n o p =
-      let a : answer_bytes part ≡ outcome_bytes (judged_of (map value_in (readings keys part))) = rw good in
-      rw (le-ltb (gather_of (state_of m buf) part).kept.lines 16 took.lines, took.answer, a, sym n, sym o) p
+  here_wrote n o p = rw (le-ltb (gather_of (state_of m buf) part).kept.lines 16 took.lines, took.answer, answer_good part good n o) p
 
 -- sixteen LFs are not used up by nothing
-pub here_used : (part : List ℕ) (used : ℕ) → all_values (readings keys part) ≡ true → drop used part ≡ after_lines 16 part → 0 < used
+pub here_used : (part : List ℕ) (used : ℕ) → good_form part ≡ true → drop used part ≡ after_lines 16 part → 0 < used
+unfolding good_form
 here_used part used good u = ⊎_elim
     (λ z. let n : used ≡ 0 = omega arith in
     let s : lfs part ≡ lfs (after_lines 16 part) = ap (λ (k : ℕ). lfs (drop k part)) (sym n) ∙ ap lfs u in

@@ -1,15 +1,13 @@
 -- Request No. 14, the program `crown`: "The answer is `code` alone, or after 0 what comes back to the player for each wager, stake and win together, 0 where it
 -- is lost or was not made: ante, flop, turn, river, jackpot, extra, dealer; then staked and back, their sums, and won and lost, both always, by how much back is
 -- above or below staked (else 0)." Assumes nothing.
-use Rattle.std.specs.Prelude.{List, [], ◌∷◌, ◌++◌, ℕ, zero, suc, eqb, length}
+use Rattle.std.specs.Prelude.{List, [], ◌∷◌, ◌++◌, ℕ, zero, suc, eqb, length, Ok, Err}
 use Rattle.laws.specs.Tests.{pick}
 use Rattle.paper.specs.RefusalNumbers.{malformed}
 use Rattle.text.specs.Line.{after_lines, number_line}
-use Rattle.banked.specs.Rounds.{code_of_outcome}
+use Rattle.banked.specs.Rounds.{Outcome, code_of_outcome}
 use Rattle.banked.specs.declared.judged.Seven.{Seven}
 use Rattle.banked.specs.declared.judged.Settled.{Settled}
-use Rattle.banked.specs.declared.judged.Outcome.{Outcome}
-use Rattle.banked.specs.declared.judged.Outcome.TheVariants.{Paid, OutOfRange, Repeat}
 use Rattle.rounds.specs.RoundText.{good_form, numbers_of, judged_of}
 
 abbrev pub key_code : List ℕ
@@ -67,9 +65,8 @@ settled_bytes s = seven_bytes s.backs ++ sums_bytes s
 
 -- what stands behind the code
 abbrev pub behind_code : Outcome → List ℕ
-behind_code (Paid s) = settled_bytes s
-behind_code OutOfRange = []
-behind_code Repeat = []
+behind_code (Ok s) = settled_bytes s
+behind_code (Err e) = []
 
 unfoldable pub outcome_bytes : Outcome → List ℕ
 outcome_bytes o = number_line key_code (code_of_outcome o) ++ behind_code o

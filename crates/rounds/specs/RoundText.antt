@@ -1,16 +1,15 @@
 -- Request No. 14, the program `crown`: "blocks of sixteen lines", in document 01's text form; the numbers of a block and the round that they make. Assumes
 -- nothing.
-use Rattle.std.specs.Prelude.{Bool, true, List, [], ◌∷◌, map, ℕ, min, eqb, leb, get_or, Option}
+use Rattle.std.specs.Prelude.{Bool, true, List, [], ◌∷◌, map, ℕ, min, eqb, leb, get_or, Option, Err}
 use Rattle.laws.specs.Tests.{both, either, pick}
 use Rattle.text.specs.Line.{after_line, line_number}
 use Rattle.text.specs.TableSheet.{is_value, value_in}
-use Rattle.banked.specs.Rounds.{outcome_of}
+use Rattle.banked.specs.Rounds.{Outcome, outcome_of}
 use Rattle.banked.specs.declared.Choice.{Choice}
 use Rattle.banked.specs.declared.Choice.TheVariants.{Fold, Stay}
 use Rattle.banked.specs.declared.Deal.{Deal}
 use Rattle.banked.specs.declared.Round.{Round}
-use Rattle.banked.specs.declared.judged.Outcome.{Outcome}
-use Rattle.banked.specs.declared.judged.Outcome.TheVariants.{OutOfRange}
+use Rattle.paper.specs.declared.refusal.Refusal.TheVariants.{OutOfRange}
 
 -- the keys: ante, jackpot, extra (on the player's hand), dealer (extra on the dealer's), fold, turn, river, p1, p2, d1, d2, b1 to b5
 abbrev pub keys : List (List ℕ)
@@ -85,4 +84,4 @@ round_of ns = record {
 
 -- sixteen numbers judged: a fold, turn or river that is not so is outside its range, as any other number of code 2
 unfoldable pub judged_of : List ℕ → Outcome
-judged_of ns = pick (is_choice (get_or ns 4 0) (get_or ns 5 0) (get_or ns 6 0)) (outcome_of (round_of ns)) OutOfRange
+judged_of ns = pick (is_choice (get_or ns 4 0) (get_or ns 5 0) (get_or ns 6 0)) (outcome_of (round_of ns)) (Err OutOfRange)

@@ -6,7 +6,8 @@ ghost use Rattle.rounds.specs.RoundText.{judged_of};
 ghost use Rattle.rounds.specs.RoundAnswer.{two_bytes, seven_bytes, sums_bytes, settled_bytes, outcome_bytes, answer_bytes};
 
 use crate::reading::{is_choice, read_numbers, round_of};
-use banked::{Outcome, Settled, Seven, code_of, settle};
+use banked::{Settled, Seven, settle};
+use paper::Refusal;
 use writing::write_number_line;
 
 fn put_two(sheet: &mut [u8], first: &[u8], x: u32, second: &[u8], y: u32) -> usize
@@ -46,27 +47,28 @@ fn put_settled(sheet: &mut [u8], s: Settled) -> usize
     a + put_sums(&mut sheet[a..], s)
 }
 
-pub fn put_outcome(sheet: &mut [u8], o: Outcome) -> usize
+// The answer to a round that was judged.
+pub fn put_outcome(sheet: &mut [u8], o: Result<Settled, Refusal>) -> usize
     requires { SmallOutcome o × (216 ≤ length sheet.old) }
     ensures { Wrote (outcome_bytes o) sheet.old sheet.new result × (result ≤ 216) }
 {
-    let code = code_of(o) as u32;
-    let a = write_number_line(sheet, b"code", code);
     match o {
-        Outcome::Paid(s) => a + put_settled(&mut sheet[a..], s),
-        Outcome::OutOfRange => a,
-        Outcome::Repeat => a,
+        Ok(s) => {
+            let a = write_number_line(sheet, b"code", 0);
+            a + put_settled(&mut sheet[a..], s)
+        }
+        Err(e) => write_number_line(sheet, b"code", u32::from(e.number())),
     }
 }
 
 // Sixteen numbers judged.
-pub fn judge(n: [u32; 16]) -> Outcome
+pub fn judge(n: [u32; 16]) -> Result<Settled, Refusal>
     ensures { (result ≡ judged_of n) × SmallOutcome result }
 {
     if is_choice(n[4], n[5], n[6]) {
         return settle(round_of(n));
     }
-    Outcome::OutOfRange
+    Err(Refusal::OutOfRange)
 }
 
 // The answer to a block, whole or not, at the front of a sheet that has room for any answer.
@@ -74,10 +76,8 @@ pub fn answer(block: &[u8], sheet: &mut [u8]) -> usize
     requires { 216 ≤ length sheet.old }
     ensures { Wrote (answer_bytes block.now) sheet.old sheet.new result × (result ≤ 216) }
 {
-    let s = read_numbers(block);
-    if s.good {
-        let n = s.numbers;
-        return put_outcome(sheet, judge(n));
+    match read_numbers(block) {
+        Some(s) => put_outcome(sheet, judge(s.numbers)),
+        None => put_outcome(sheet, Err(Refusal::Malformed)),
     }
-    write_number_line(sheet, b"code", 1)
 }

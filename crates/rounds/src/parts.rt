@@ -65,17 +65,16 @@ fn gather(buf: &mut [u8], m: Fill, part: &[u8]) -> Progress
     ensures room { Room result.fill × (result.used ≤ length part.now) × (0 < length part.now → 0 < result.used) }
 {
     let mut fill = m;
-    let mut i: usize = 0;
-    while i < part.len() {
-        let b = part[i];
-        fill = keep(buf, fill, b);
-        i += 1;
-        let n = fill.lines;
-        if 16 <= n {
-            return Progress { fill, used: i };
+    for (i, b) in part.iter().enumerate() {
+        fill = keep(buf, fill, *b);
+        if 16 <= fill.lines {
+            return Progress { fill, used: i + 1 };
         }
     }
-    Progress { fill, used: i }
+    Progress {
+        fill,
+        used: part.len(),
+    }
 }
 
 // What is kept after some bytes, how many were used up and how many written.
@@ -95,20 +94,16 @@ fn feed_kept(m: Fill, buf: &mut [u8], part: &[u8], out: &mut [u8]) -> Fed
     ensures held { Held result.fill × (result.used ≤ length part.now) × (0 < length part.now → 0 < result.used) × (result.written ≤ 216) }
 {
     let g = gather(buf, m, part);
-    let k = g.fill;
-    let n = k.lines;
-    if n < 16 {
+    if g.fill.lines < 16 {
         return Fed {
-            fill: k,
+            fill: g.fill,
             used: g.used,
             written: 0,
         };
     }
-    let e = k.count;
-    let written = answer(&buf[0..e], out);
-    let z = empty();
+    let written = answer(&buf[..g.fill.count], out);
     Fed {
-        fill: z,
+        fill: empty(),
         used: g.used,
         written,
     }
@@ -131,15 +126,11 @@ pub fn feed(m: Fill, buf: &mut [u8], part: &[u8], out: &mut [u8]) -> Fed
     ensures held { Held result.fill × (result.used ≤ length part.now) × (0 < length part.now → 0 < result.used) × (result.written ≤ 216) }
 {
     if is_empty(m) {
-        let s = read_numbers(part);
-        if s.good {
-            let n = s.numbers;
-            let used = s.used;
-            let written = put_outcome(out, judge(n));
-            let z = empty();
+        if let Some(s) = read_numbers(part) {
+            let written = put_outcome(out, judge(s.numbers));
             return Fed {
-                fill: z,
-                used,
+                fill: empty(),
+                used: s.used,
                 written,
             };
         }
@@ -152,9 +143,8 @@ pub fn close(m: Fill, buf: &[u8], out: &mut [u8]) -> usize
     requires { Held m × (544 ≤ length buf.now) × (216 ≤ length out.old) }
     ensures { Wrote (close_bytes (state_of m buf.now)) out.old out.new result × (result ≤ 216) }
 {
-    let e = m.count;
-    if e == 0 {
+    if m.count == 0 {
         return 0;
     }
-    answer(&buf[0..e], out)
+    answer(&buf[..m.count], out)
 }

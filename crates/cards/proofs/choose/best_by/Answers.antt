@@ -24,6 +24,5 @@ search-requires c =
 pub returns : goal.returns
 returns c =
     let s = c in
-    let q = c.fallen_seven.result in
-    seven_best s.args.ranking s.requires s.args.cards.now c.seven_in-n.result q.a q.b q.c q.d q.e q.f q.g _ c.if-cards-ne7.false
-    c.fallen_seven.ensures c.seven_in-n.ensures.is (c.hand_in.ensures ∙ c.search.ensures.is)
+    seven_best s.args.ranking s.requires s.args.cards.now c.fallen.result c.seven_in-n.result _ c.if-cards-ne7.false
+    c.fallen.ensures c.seven_in-n.ensures.is (c.hand_in.ensures ∙ c.search.ensures.is)

@@ -2,7 +2,6 @@
 use Rattle.rounds.specs.RoundText.{keys, readings, all_values}
 use Rattle.text.specs.Line.{after_lines}
 use Rattle.text.specs.TableSheet.{value_in}
-use Rattle.laws.specs.Tests.{both}
 use lib.ListN.{length, take, drop}
 use Prim.Native.Nat.{◌-◌, ◌≤◌}
 use mathlib.Core.List.{◌++◌, map}
@@ -11,12 +10,8 @@ use Rattle.rounds.proofs.reading.read_numbers.Given as goal
 
 abbrev pub invariant-loop-k : goal.invariant-loop-k
 invariant-loop-k l =
-    (l.k ≤ 16)
-    × (length l.numbers ≡ 16)
-    × (l.at ≤ length l.block)
-    × (both l.good (all_values (readings (drop l.k keys) (drop l.at l.block))) ≡ all_values (readings keys l.block))
-    × (take l.k l.numbers ++ map value_in (readings (drop l.k keys) (drop l.at l.block)) ≡ map value_in (readings keys l.block))
-    × (after_lines (16 - l.k) (drop l.at l.block) ≡ after_lines 16 l.block)
-
-abbrev pub decreases-loop-k : goal.decreases-loop-k
-decreases-loop-k l = 16 - l.k
+    (length l.numbers ≡ 16)
+    × (l.used ≤ length l.block)
+    × (all_values (readings (drop l.k keys) (drop l.used l.block)) ≡ all_values (readings keys l.block))
+    × (take l.k l.numbers ++ map value_in (readings (drop l.k keys) (drop l.used l.block)) ≡ map value_in (readings keys l.block))
+    × (after_lines (16 - l.k) (drop l.used l.block) ≡ after_lines 16 l.block)
