@@ -22,7 +22,7 @@ fn least_if(mask: u16, total: u32, bound: u32) -> u32
     ensures { result ≡ pick (eqb (mask % 2) 1) (min total bound) bound }
 {
     if mask % 2 == 1 {
-        return laws::least(total, bound);
+        return total.min(bound);
     }
     bound
 }
@@ -33,11 +33,9 @@ fn least_among(totals: [u32; 10], who: u16, bound: u32) -> u32
 {
     let mut m = bound;
     let mut rest = who;
-    let mut i: usize = 0;
-    while i < 10 {
-        m = least_if(rest, totals[i], m);
-        rest = rest / 2;
-        i += 1;
+    for t in &totals {
+        m = least_if(rest, *t, m);
+        rest /= 2;
     }
     m
 }
@@ -53,16 +51,16 @@ pub fn reach(totals: [u32; 10], who: u16) -> u32
 pub fn slab(total: u32, low: u32, high: u32) -> u32
     ensures { result ≡ slab_of total low high }
 {
-    laws::short_of(laws::least(total, high), laws::least(total, low))
+    total.min(high).saturating_sub(total.min(low))
 }
 
 // How high so many chips are drawn, where so many more than none are the highest column.
 pub fn height(chips: u32, most: u32) -> u64
     ensures { result ≡ drawn_of chips most }
 {
-    let whole = laws::most(most, 1);
-    let part = laws::least(chips, whole);
-    part as u64 * DRAWN / whole as u64
+    let whole = most.max(1);
+    let part = chips.min(whole);
+    u64::from(part) * DRAWN / u64::from(whole)
 }
 
 // Whether the seat at a place is in a mask.
@@ -70,10 +68,8 @@ pub fn in_mask(mask: u16, place: usize) -> bool
     ensures { result ≡ in_mask mask place }
 {
     let mut rest = mask;
-    let mut i: usize = 0;
-    while i < place {
-        rest = rest / 2;
-        i += 1;
+    for _i in 0..place {
+        rest /= 2;
     }
     rest % 2 == 1
 }
@@ -83,7 +79,7 @@ fn best_if(mask: u16, score: u32, best: u32) -> u32
     ensures { result ≡ pick (eqb (mask % 2) 1) (max score best) best }
 {
     if mask % 2 == 1 {
-        return laws::most(score, best);
+        return score.max(best);
     }
     best
 }
@@ -94,11 +90,9 @@ fn best_among(scores: [u32; 10], who: u16) -> u32
 {
     let mut m: u32 = 0;
     let mut rest = who;
-    let mut i: usize = 0;
-    while i < 10 {
-        m = best_if(rest, scores[i], m);
-        rest = rest / 2;
-        i += 1;
+    for score in &scores {
+        m = best_if(rest, *score, m);
+        rest /= 2;
     }
     m
 }

@@ -23,10 +23,8 @@ fn put_gives(out: &mut [u8], part: &[u32]) -> usize
     ensures { Wrote (joined give_text part.now) out.old out.new result × (result ≤ 15 * length part.now) }
 {
     let mut at: usize = 0;
-    let mut i: usize = 0;
-    while i < part.len() {
-        at += put_give(&mut out[at..], part[i]);
-        i += 1;
+    for n in part {
+        at += put_give(&mut out[at..], *n);
     }
     at
 }
@@ -52,12 +50,9 @@ pub fn put_sittings(
     ensures { Wrote (sittings_text n sittings rows gives.now) out.old out.new result × (result ≤ 2580) }
 {
     let mut at: usize = 0;
-    let mut s: usize = 0;
-    while s < n {
+    for s in 0..n {
         let from = s * rows;
-        let to = from + rows;
-        at += put_sitting(&mut out[at..], sittings[s], &gives[from..to]);
-        s += 1;
+        at += put_sitting(&mut out[at..], sittings[s], &gives[from..from + rows]);
     }
     at
 }
@@ -75,11 +70,8 @@ fn put_rows(out: &mut [u8], row: [Row; 16], n: usize) -> usize
     ensures { Wrote (joined row_text (take n row)) out.old out.new result × (result ≤ 512) }
 {
     let mut at: usize = 0;
-    let mut i: usize = 0;
-    while i < n {
-        let r = row[i];
-        at += put_row(&mut out[at..], r);
-        i += 1;
+    for r in &row[..n] {
+        at += put_row(&mut out[at..], *r);
     }
     at
 }

@@ -1,5 +1,5 @@
-// The dealer's tray as a lent slice of row structs whose counts are lowered on acceptance. What takes the rows lent, or lends them, is a walk by hand and
-// only loops and calls; the work on one row, on the columns and on the answer is covered functions that take structs by value.
+// The dealer's tray as a lent slice of row structs whose counts are lowered on acceptance. What takes the rows lent loops over them; the work on one row, on
+// the columns and on the answer is functions that take structs by value.
 #![tactic(auto)]
 
 ghost use Rattle.std.specs.Prelude.{◌≡◌, ◌++◌, ◌≤◌, length, take, drop};
@@ -80,16 +80,12 @@ pub fn accept(rows: &mut [Row], paid: &[u32], proposal: &[u32]) -> u32
     ensures { (result ≡ judged_rows rows.old paid.now proposal.now) × (rows.new ≡ rows_after result (length paid.now) proposal.now rows.old) }
 {
     let mut columns = no_columns();
-    let mut i = 0;
-    while i < rows.len() {
-        columns = with_row(columns, rows[i], i);
-        i = i + 1;
+    for (i, row) in rows.iter().enumerate() {
+        columns = with_row(columns, *row, i);
     }
     let s = settled(columns, rows.len(), paid, proposal);
-    let mut j = 0;
-    while j < rows.len() {
-        rows[j] = recounted(s, rows[j], j);
-        j = j + 1;
+    for (j, row) in rows.iter_mut().enumerate() {
+        *row = recounted(s, *row, j);
     }
     s.code
 }
@@ -112,10 +108,8 @@ pub fn propose(rows: &[Row], paid: &[u32], list: &mut [u32]) -> u32
     ensures { (result ≡ proposing_rows rows.now paid.now (length list.old)) × (list.new ≡ list_of result rows.now paid.now list.old) }
 {
     let mut columns = no_columns();
-    let mut i = 0;
-    while i < rows.len() {
-        columns = with_row(columns, rows[i], i);
-        i = i + 1;
+    for (i, row) in rows.iter().enumerate() {
+        columns = with_row(columns, *row, i);
     }
     proposed(columns, rows.len(), paid, list)
 }

@@ -1,8 +1,8 @@
 // What is drawn of a hand's chips, and where things stand in the picture, in tenths of a pixel: small total sums that always fit.
 #![tactic(auto)]
 
-ghost use Rattle.std.specs.Prelude.{◌≡◌, ◌-◌, get_or};
-ghost use Rattle.spots.specs.Spots.{no_pot, pot_at, reach_of_first, number_of_pot, column_x, right_of, next_column, y_at, apart_at, label_y, more_by};
+ghost use Rattle.std.specs.Prelude.{◌≡◌, ◌-◌};
+ghost use Rattle.spots.specs.Spots.{pot_at, reach_of_first, number_of_pot, column_x, right_of, next_column, y_at, apart_at, label_y, more_by};
 
 use columns::reach;
 use pots::{Pot, Pots};
@@ -21,22 +21,12 @@ pub struct Chips {
     pub back: u32,
 }
 
-// A place of a list of pots; an empty one past its end.
-fn pot_in(list: [Pot; 9], k: usize) -> Pot
-    ensures { result ≡ get_or list k no_pot }
-{
-    if k < 9 {
-        return list[k];
-    }
-    Pot { amount: 0, who: 0 }
-}
-
 // The k-th pot, from 0; an empty one where there is none.
 pub fn pot_at(ps: Pots, k: usize) -> Pot
     ensures { result ≡ pot_at ps k }
 {
-    let list = ps.list;
-    pot_in(list, k)
+    let none = Pot { amount: 0, who: 0 };
+    ps.list.get(k).copied().unwrap_or(none)
 }
 
 // Up to which height the first k pots reach.
@@ -75,25 +65,19 @@ pub fn more(a: u64, b: u64) -> u64
 pub fn less(a: u64, b: u64) -> u64
     ensures { result ≡ a - b }
 {
-    if a < b { 0 } else { a - b }
+    a.saturating_sub(b)
 }
 
 pub fn sum(a: u32, b: u32) -> u32
     ensures { result ≡ more_by a b }
 {
-    if 1000000000 < a {
-        return a;
-    }
-    if 1000000000 < b {
-        return a;
-    }
-    a + b
+    more(u64::from(a), u64::from(b)) as u32
 }
 
 pub fn wide(x: u32) -> u64
     ensures { result ≡ x }
 {
-    x as u64
+    u64::from(x)
 }
 
 // The number of the pot at a place.

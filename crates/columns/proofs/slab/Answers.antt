@@ -6,4 +6,4 @@ use Rattle.columns.proofs.slab.Goals as goal
 
 pub returns : goal.returns
 unfolding slab_of
-returns c = c.short_of.ensures ∙ ap₂ ◌-◌ c.least.ensures c.least-2.ensures
+returns c = c.saturating_sub.ensures ∙ ap₂ ◌-◌ c.min.ensures c.min-2.ensures

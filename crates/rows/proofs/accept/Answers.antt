@@ -13,9 +13,9 @@ pub loop-j-preserved : goal.loop-j-preserved
 loop-j-preserved c =
     let rows = c.args.rows.now in
     let f = recount c.settled-s.result.counts in
-    let long : length c.loop-j.rows ≡ length rows = ap length c.loop-j.invariant.1 ∙ front_long c.loop-j.j f rows in
+    let long : length c.loop-j.rows ≡ length rows = ap length c.loop-j.invariant ∙ front_long c.loop-j.j f rows in
     let in_range : c.loop-j.j < length rows = omega (arith, c.loop-j-test.true, long) in
-    (omega (arith, in_range), each_turn no_row f rows c.loop-j.rows c.loop-j.j c.recounted.result in_range c.loop-j.invariant.1 c.recounted.ensures)
+    each_turn no_row f rows c.loop-j.rows c.loop-j.j c.recounted.result in_range c.loop-j.invariant c.recounted.ensures
 
 pub returns : goal.returns
 returns c =
@@ -23,12 +23,12 @@ returns c =
     let paid = c.args.paid.now in
     let p = c.args.proposal.now in
     let f = recount c.settled-s.result.counts in
-    let e : c.loop-i.i ≡ length rows = omega (arith, c.loop-i.invariant.0, c.loop-i-test.false) in
-    let all : c.loop-i.columns ≡ columns_to (length rows) rows = c.loop-i.invariant.1 ∙ ap (λ i. columns_to i rows) e in
+    let e : c.loop-i.i ≡ length rows = omega (arith, c.loop-i-test.false) in
+    let all : c.loop-i.columns ≡ columns_to (length rows) rows = c.loop-i.invariant ∙ ap (λ i. columns_to i rows) e in
     let s : c.settled-s.result ≡ settled_of (columns_to (length rows) rows) (length rows) paid p =
     c.settled-s.ensures ∙ ap (λ (k : Columns). settled_of k (length rows) paid p) all in
     let ends = rows_settled rows paid p in
-    let long : length c.loop-j.rows ≡ length rows = ap length c.loop-j.invariant.1 ∙ front_long c.loop-j.j f rows in
-    let done = each_done f rows c.loop-j.rows c.loop-j.j (omega (arith, c.loop-j-test.false, long)) c.loop-j.invariant.1 in
+    let long : length c.loop-j.rows ≡ length rows = ap length c.loop-j.invariant ∙ front_long c.loop-j.j f rows in
+    let done = each_done f rows c.loop-j.rows c.loop-j.j (omega (arith, c.loop-j-test.false, long)) c.loop-j.invariant in
     let e = subst (λ (k : Answer). (k.code ≡ judged_rows rows paid p) × (each_by (recount k.counts) rows ≡ rows_after k.code (length paid) p rows)) (sym s) ends in
     (e.0, done ∙ e.1)

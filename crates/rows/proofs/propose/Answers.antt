@@ -11,8 +11,8 @@ returns c =
     let rows = c.args.rows.now in
     let paid = c.args.paid.now in
     let old = c.args.list.now in
-    let e : c.loop-i.i ≡ length rows = omega (arith, c.loop-i.invariant.0, c.loop-i-test.false) in
-    let all : c.loop-i.columns ≡ columns_to (length rows) rows = c.loop-i.invariant.1 ∙ ap (λ i. columns_to i rows) e in
+    let e : c.loop-i.i ≡ length rows = omega (arith, c.loop-i-test.false) in
+    let all : c.loop-i.columns ≡ columns_to (length rows) rows = c.loop-i.invariant ∙ ap (λ i. columns_to i rows) e in
     let code : c.proposed.result ≡ proposing_rows rows paid (length old) =
     c.proposed.ensures.0 ∙ ap (λ (k : Columns). proposed_code k (length rows) paid (length old)) all ∙ rows_proposed rows paid (length old) in (
       code,

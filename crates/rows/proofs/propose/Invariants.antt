@@ -1,10 +1,7 @@
 -- `propose` meets its contract. The loop has put i rows into the columns.
-use Rattle.std.proofs.Common.{◌≡◌, ◌-◌, ◌≤◌, length}
+use Rattle.std.proofs.Common.{◌≡◌}
 use Rattle.rows.specs.Columns.{columns_to}
 use Rattle.rows.proofs.propose.Given as goal
 
 abbrev pub invariant-loop-i : goal.invariant-loop-i
-invariant-loop-i l = (l.i ≤ length l.rows) × (l.columns ≡ columns_to l.i l.rows)
-
-abbrev pub decreases-loop-i : goal.decreases-loop-i
-decreases-loop-i l = length l.rows - l.i
+invariant-loop-i l = l.columns ≡ columns_to l.i l.rows

@@ -1,16 +1,24 @@
--- `sum` meets its contract, by its two tests.
-use borrow.Author.Tests.{lt-ltb, le-ltb}
-use Rattle.spots.specs.Spots.{more_by}
+-- `sum` meets its contract: what `more` gives of two numbers of 32 bits fits in 32.
+use Rattle.std.proofs.Common.{◌≡◌, ℕ, ◌+◌, ◌<◌, ◌^◌, Bool, true, false, ltb, refl, ◌∙◌, arith}
+use mathlib.Core.Path.{ap₂}
+use borrow.Author.Tests.{ltb-false}
+use Rattle.laws.specs.Tests.{pick, either}
+use Rattle.spots.specs.Spots.{more_by, place_most}
 use Rattle.spots.proofs.sum.Goals as goal
 
-pub returns-then-a-gt1000000000 : goal.returns-then-a-gt1000000000
+more_fits : (a b : ℕ) → a < 2 ^ 32 → more_by a b < 2 ^ 32
 unfolding more_by
-returns-then-a-gt1000000000 c = rw (lt-ltb _ _ c.if-a-gt1000000000.true)
+more_fits a b l = go (ltb place_most a) refl (ltb place_most b) refl
+  where
+    go : (s : Bool) → ltb place_most a ≡ s → (t : Bool) → ltb place_most b ≡ t → pick (either s t) a (a + b) < 2 ^ 32
+    go true e t f = l
+    go false e true f = l
+    go false e false f = omega (arith, ltb-false place_most a e, ltb-false place_most b f)
 
-pub returns-then-b-gt1000000000 : goal.returns-then-b-gt1000000000
-unfolding more_by
-returns-then-b-gt1000000000 c = rw (le-ltb _ _ c.if-a-gt1000000000.false, lt-ltb _ _ c.if-b-gt1000000000.true)
+pub overflow_cast-result : goal.overflow_cast-result
+overflow_cast-result c =
+    let l : c.from.result < 2 ^ 32 = omega (arith, c.from.ensures, c.ranges.a.fits) in
+    record { fits = omega (arith, c.more.ensures, more_fits c.from.result c.from-2.result l) }
 
 pub returns : goal.returns
-unfolding more_by
-returns c = rw (le-ltb _ _ c.if-a-gt1000000000.false, le-ltb _ _ c.if-b-gt1000000000.false)
+returns c = c.more.ensures ∙ ap₂ more_by c.from.ensures c.from-2.ensures
