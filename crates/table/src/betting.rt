@@ -104,7 +104,7 @@ fn paying(c: Chair, a: u32) -> Chair
     ensures { result ≡ acted_of (paid_of c (a - round_of c)) }
 {
     let put = laws::short_of(a, chairs::round_of(c));
-    chairs::acting(chairs::paid(c, put))
+    c.paid(put).acting()
 }
 
 // The chair of the seat that acts, after its act.
@@ -113,8 +113,8 @@ fn act_chair(t: Table, c: Chair, e: Entry) -> Chair
     ensures { result ≡ acted_by t c e }
 {
     match e {
-        Entry::Fold(s) => chairs::folded(c),
-        Entry::Check(s) => chairs::acting(c),
+        Entry::Fold(s) => c.folded(),
+        Entry::Check(s) => c.acting(),
         Entry::Call(s) => paying(c, t.play.mark),
         Entry::Wager(s, a) => paying(c, a),
         _ => c,
@@ -164,7 +164,7 @@ fn killed(t: Table, s: u32) -> Table
     requires { Seated t × (s ≤ t.sheet.seats) }
     ensures { result ≡ dead_to t s }
 {
-    let c = chairs::folded(table::seat_of(t, s));
+    let c = table::seat_of(t, s).folded();
     let u = table::with_chair(t, s, c);
     let next = turn_after(t, u, s);
     table::with_turn(u, next)
@@ -220,7 +220,7 @@ pub(crate) fn next_turn(ok: bool, t: Table, cs: [Chair; 10], mark: u32, s: u32) 
     }
 }
 
-// Fold, check, call and wager. The loop is the sweep of a wager, after which every other hand may act again: `last` is 0 where there is none.
+// Fold, check, call and wager. The sweep is that of a wager, after which every other hand may act again: `last` is 0 where there is none.
 // The seat's chair is read once and put down once, where the act is refused as it was.
 pub(crate) fn act(t: Table, e: Entry) -> Taken
     requires { Sound t × (in_kind t.sheet e ≡ true) × (is_act e ≡ true) }
@@ -236,13 +236,7 @@ pub(crate) fn act(t: Table, e: Entry) -> Taken
     let wager = both(ok, x.kind == WAGER);
     let full = is_full_lift(t, x.a);
     let last = laws::chosen(wager, t.sheet.seats, 0) as usize;
-    let mut j: usize = 0;
-    while j < last {
-        let b = cs[j];
-        let g = chairs::again(b, full);
-        cs[j] = g;
-        j += 1;
-    }
+    chairs::passes::sweep(&mut cs[..last], |b| b.again(full));
     cs[i] = d;
     let mark = laws::chosen(wager, x.a, t.play.mark);
     let lift = laws::chosen(wager, lift_after(t, x.a), t.play.lift);

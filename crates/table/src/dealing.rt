@@ -75,7 +75,7 @@ fn board_by(ok: bool, b: Board, card: u32) -> Board
     if ok { table::card_added(b, card) } else { b }
 }
 
-// One card more on the board. From the third on it opens a round: the loop is the sweep of a new round, and `last` is 0 where none opens.
+// One card more on the board. From the third on it opens a round: the sweep is that of a new round, and `last` is 0 where none opens.
 pub(crate) fn board(t: Table, a: u32) -> Taken
     requires { Sound t × (in_kind t.sheet (OnBoard a) ≡ true) }
     ensures { result ≡ kind_taken t (OnBoard a) }
@@ -87,13 +87,7 @@ pub(crate) fn board(t: Table, a: u32) -> Taken
     let d = board_by(ok, b, a);
     let round = laws::both(ok, 3 <= d.count);
     let last = laws::chosen(round, t.sheet.seats, 0) as usize;
-    let mut j: usize = 0;
-    while j < last {
-        let x = cs[j];
-        let y = chairs::rounded(x);
-        cs[j] = y;
-        j += 1;
-    }
+    chairs::passes::sweep(&mut cs[..last], |c| c.rounded());
     let mark = laws::chosen(round, 0, t.play.mark);
     let lift = laws::chosen(round, t.sheet.big, t.play.lift);
     let next = betting::next_turn(round, t, cs, 0, laws::short_of(t.play.puck, 1));
@@ -132,5 +126,5 @@ fn held_by(ok: bool, c: chairs::Chair, a: u32, b: u32) -> chairs::Chair
     requires { (a ≤ 51) × (b ≤ 51) }
     ensures { result ≡ pick ok (held_of c a b) c }
 {
-    if ok { chairs::held(c, a, b) } else { c }
+    if ok { c.held(a, b) } else { c }
 }

@@ -37,14 +37,14 @@ fn opened(t: Table, s: u32) -> Table
 {
     let cs = t.chairs;
     let big = t.sheet.big;
-    let c = chairs::dealt_in(chairs::seats::chair_at(cs, s));
+    let c = chairs::seats::chair_at(cs, s).dealt_in();
     let next = chairs::passes::chip_seats(cs, t.sheet.seats, s).next;
-    let d = chairs::dealt_in(chairs::seats::chair_at(cs, next));
+    let d = chairs::seats::chair_at(cs, next).dealt_in();
     let x = Dealing {
         seat: s,
-        chair: chairs::paid(c, t.sheet.small),
+        chair: c.paid(t.sheet.small),
         other: next,
-        second: chairs::paid(d, big),
+        second: d.paid(big),
     };
     let ds = chairs::passes::deal_all(cs, t.sheet.seats, x);
     let turn = chairs::seats::turn_from(ds, t.sheet.seats, big, next);

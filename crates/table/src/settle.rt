@@ -91,14 +91,11 @@ fn scores(deck: u32, game: u32, b: Board, cs: [Chair; 10]) -> [u32; 10]
     requires { is_game game ≡ true }
     ensures { result ≡ map (score_of deck game b) cs }
 {
-    let mut a = [0u32; 10];
-    let mut i: usize = 0;
-    while i < 10 {
-        let c = cs[i];
-        a[i] = score(deck, game, b, c);
-        i += 1;
+    let mut all = [0u32; 10];
+    for (i, c) in cs.iter().enumerate() {
+        all[i] = score(deck, game, b, *c);
     }
-    a
+    all
 }
 
 // The scores that a settle goes by: where one hand alone is live it needs no cards, and no hand is looked at.

@@ -79,5 +79,5 @@ pub(crate) fn leave(t: Table, s: u32) -> Taken
 fn seated_by(ok: bool, c: chairs::Chair, n: u32, a: u32) -> chairs::Chair
     ensures { result ≡ pick ok (seated_of c n a) c }
 {
-    if ok { chairs::seated(c, n, a) } else { c }
+    if ok { c.seated(n, a) } else { c }
 }

@@ -1,5 +1,6 @@
--- `act` meets its contract: the loop has swept the first j chairs, up to the last seat for a wager and to none for any other act.
-use Rattle.table.proofs.Acts.{act_seat, swept_put, sweep_turn, last_most, seats_by, act_taken}
+-- `act` meets its contract: the sweep goes up to the last seat for a wager and to none for any other act. Assumes nothing.
+use borrow.Author.Rules.{rules}
+use Rattle.table.proofs.Acts.{act_seat, swept_put, seats_by, act_taken}
 use Rattle.table.proofs.Arms.{seat_place, seat_read}
 use Rattle.table.proofs.Standing.{seat_within}
 use Rattle.table.specs.State.{seat_of}
@@ -8,10 +9,10 @@ use Rattle.chairs.proofs.Above.{seats_put}
 use Rattle.chairs.proofs.Laws.{chips_at}
 use Rattle.chairs.specs.Sweep.{Again}
 use Rattle.chairs.specs.declared.Chair.{Chair}
-use Rattle.chairs.specs.Chairs.{again_of}
+use Rattle.chairs.specs.Chairs.{sweep_of}
 use native.Mathlib.Omega.{arith}
-use mathlib.Core.Path.{◌≡◌, refl, ap, ◌∙◌}
-use Prim.Native.Nat.{◌+◌, ◌-◌}
+use mathlib.Core.Path.{refl, ap, ◌∙◌}
+use Prim.Native.Nat.{◌+◌}
 use Rattle.table.proofs.betting.act.Goals as goal
 
 pub place-i-requires : goal.place-i-requires
@@ -28,13 +29,6 @@ act_by-d-requires c = let t = c.args.t in
     let q = seat_read t c.place-i.result s c.requires.0 c.place-i.ensures.0 c.place-i.ensures.1 in
     omega (arith, ap (λ (d : Chair). d.stack + d.dealt.total) q, chips_at t.chairs s, c.requires.0.payable.chips)
 
-pub loop-j-init : goal.loop-j-init
-loop-j-init c = (omega arith, last_most c.both-wager.result c.args.t.sheet.seats _ c.requires.0.standing.seated.few c.chosen-last.ensures, refl)
-
-pub loop-j-preserved : goal.loop-j-preserved
-loop-j-preserved c = let t = c.args.t in
-    (omega arith, c.loop-j.invariant.1, sweep_turn (again_of c.is_full_lift-full.result) c.loop-j.j t.chairs c.loop-j.cs _ (omega (arith, c.loop-j.invariant.1, c.requires.0.standing.size)) c.loop-j.invariant.2 c.again-g.ensures)
-
 pub next_turn-next-requires : goal.next_turn-next-requires
 next_turn-next-requires c = let h = c.requires.0 in
     let t = c.args.t in
@@ -42,8 +36,8 @@ next_turn-next-requires c = let h = c.requires.0 in
     let s = x.result.seat in
     let d = c.act_by-d.result in
     let k = Again c.is_full_lift-full.result in
-    let e : c.loop-j.j ≡ c.chosen-last.result = omega (arith, c.loop-j.invariant.0) in
-    let put = swept_put k c.both-wager.result t _ c.loop-j.j c.place-i.result s d c.loop-j.cs h c.chosen-last.ensures e c.loop-j.invariant.2 c.place-i.ensures.0 in
+    let e = c.sweep.ensures (sweep_of k) (λ x y f. search rules) in
+    let put = swept_put k c.both-wager.result t _ c.place-i.result s d _ h c.chosen-last.ensures e c.place-i.ensures.0 in
     let within = seat_within t.sheet s (act_seat t c.args.e x.result x.ensures c.requires.2 c.requires.1) in
     (rw put (seats_put t.sheet.seats _ s d within (seats_by k c.both-wager.result t.sheet.seats t.chairs h.standing.seated)), within)
 
@@ -53,7 +47,7 @@ returns c = let h = c.requires.0 in
     let x = c.numbers_of-x in
     let s = x.result.seat in
     let k = Again c.is_full_lift-full.result in
-    let e : c.loop-j.j ≡ c.chosen-last.result = omega (arith, c.loop-j.invariant.0) in
-    let put = swept_put k c.both-wager.result t _ c.loop-j.j c.place-i.result s c.act_by-d.result c.loop-j.cs h c.chosen-last.ensures e c.loop-j.invariant.2 c.place-i.ensures.0 in
+    let e = c.sweep.ensures (sweep_of k) (λ x y f. search rules) in
+    let put = swept_put k c.both-wager.result t _ c.place-i.result s c.act_by-d.result _ h c.chosen-last.ensures e c.place-i.ensures.0 in
     let q = seat_read t c.place-i.result s h c.place-i.ensures.0 c.place-i.ensures.1 in
     act_taken t c.args.e x.result _ _ _ _ _ _ _ _ _ _ _ _ c.requires.2 x.ensures q c.act_code-k.ensures refl c.act_by-d.ensures c.both-wager.ensures c.is_full_lift-full.ensures put c.chosen-mark.ensures c.lift_after.ensures c.chosen-lift.ensures c.next_turn-next.ensures c.judged.ensures
