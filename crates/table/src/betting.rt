@@ -1,4 +1,4 @@
-// Document 01, "Betting": who owes, whose turn it is, and fold, check, call, wager, dead. For each the code that refuses it, and the table after it.
+// Document 01, "Betting": who owes, whose turn it is, and fold, check, call, wager, dead. For each what refuses it, and the table after it.
 ghost use Rattle.std.specs.Prelude.{◌≡◌, true, ◌+◌, ◌-◌, ◌≤◌, leb};
 ghost use Rattle.laws.specs.Tests.{pick};
 ghost use Rattle.paper.specs.Paper.{in_kind};
@@ -7,48 +7,46 @@ ghost use Rattle.paper.specs.declared.Entry.TheVariants.{Dead};
 ghost use Rattle.chairs.specs.Chairs.{Seats, acted_of, paid_of, round_of};
 ghost use Rattle.table.specs.State.{seat_of, with_chairs, with_mark};
 ghost use Rattle.table.specs.Betting.{live_hands, first_owing, nobody_owes, turn_code, check_code, call_code, may_raise, is_wager, wager_code, is_act, acted_by, is_full_lift, lift_after, dead_code, turn_after, dead_to};
+ghost use Rattle.table.specs.Refused.{number_by};
 ghost use Rattle.table.specs.Standing.{Standing, Seated};
 ghost use Rattle.table.specs.Take.{Sound, kind_code, kind_taken};
 
-use crate::table::{Table, Taken};
+use crate::table::{Table, Taken, refuse};
 use crate::{settle, table};
 use chairs::Chair;
 use laws::{both, either};
-use paper::{Entry, NOT_ALLOWED, NOT_IN_TURN, TAKEN, WRONG_MOMENT, WRONG_SEAT, or_else, when};
+use paper::{Entry, Refusal};
 
 // The kind of a wager in the table of entries.
 const WAGER: u32 = 7;
 
-// The codes that stop an act out of its moment, at a seat that is not live, or out of turn. c is the seat's chair, which is read once.
-fn turn_code(t: Table, c: Chair, s: u32) -> u8
+// What stops an act out of its moment, at a seat that is not live, or out of turn. c is the seat's chair, which is read once.
+fn turn_code(t: Table, c: Chair, s: u32) -> Result<(), Refusal>
     requires { Standing t × (c ≡ seat_of t s) }
-    ensures { result ≡ turn_code t s }
+    ensures { number_by result ≡ turn_code t s }
 {
-    let none = nobody_owes(t);
-    let out = !c.dealt.live;
-    let other = t.play.turn != s;
-    or_else(
-        when(none, WRONG_MOMENT),
-        or_else(when(out, WRONG_SEAT), when(other, NOT_IN_TURN)),
-    )
+    refuse(nobody_owes(t), Refusal::WrongMoment)?;
+    refuse(!c.dealt.live, Refusal::WrongSeat)?;
+    refuse(t.play.turn != s, Refusal::NotInTurn)
 }
 
 // The round total equals the mark.
-fn check_code(t: Table, c: Chair, s: u32) -> u8
+fn check_code(t: Table, c: Chair, s: u32) -> Result<(), Refusal>
     requires { Standing t × (c ≡ seat_of t s) }
-    ensures { result ≡ check_code t s }
+    ensures { number_by result ≡ check_code t s }
 {
-    let short = chairs::round_of(c) != t.play.mark;
-    or_else(turn_code(t, c, s), when(short, NOT_ALLOWED))
+    turn_code(t, c, s)?;
+    refuse(chairs::round_of(c) != t.play.mark, Refusal::NotAllowed)
 }
 
 // The round total is below the mark.
-fn call_code(t: Table, c: Chair, s: u32) -> u8
+fn call_code(t: Table, c: Chair, s: u32) -> Result<(), Refusal>
     requires { Standing t × (c ≡ seat_of t s) }
-    ensures { result ≡ call_code t s }
+    ensures { number_by result ≡ call_code t s }
 {
+    turn_code(t, c, s)?;
     let below = chairs::round_of(c) < t.play.mark;
-    or_else(turn_code(t, c, s), when(!below, NOT_ALLOWED))
+    refuse(!below, Refusal::NotAllowed)
 }
 
 // "a is at least mark plus lift".
@@ -76,25 +74,25 @@ fn may_wager(t: Table, c: Chair, a: u32) -> bool
     both(may_raise(c), enough)
 }
 
-fn wager_code(t: Table, c: Chair, s: u32, a: u32) -> u8
+fn wager_code(t: Table, c: Chair, s: u32, a: u32) -> Result<(), Refusal>
     requires { Standing t × (c ≡ seat_of t s) }
-    ensures { result ≡ wager_code t s a }
+    ensures { number_by result ≡ wager_code t s a }
 {
-    let ok = may_wager(t, c, a);
-    or_else(turn_code(t, c, s), when(!ok, NOT_ALLOWED))
+    turn_code(t, c, s)?;
+    refuse(!may_wager(t, c, a), Refusal::NotAllowed)
 }
 
-// The code of an act. c is the chair of its seat.
-fn act_code(t: Table, c: Chair, e: Entry) -> u8
+// What stops an act. c is the chair of its seat.
+fn act_code(t: Table, c: Chair, e: Entry) -> Result<(), Refusal>
     requires { Standing t × (is_act e ≡ true) × (c ≡ seat_of t (numbers_of e).seat) }
-    ensures { result ≡ kind_code t e }
+    ensures { number_by result ≡ kind_code t e }
 {
     match e {
         Entry::Fold(s) => turn_code(t, c, s),
         Entry::Check(s) => check_code(t, c, s),
         Entry::Call(s) => call_code(t, c, s),
         Entry::Wager(s, a) => wager_code(t, c, s, a),
-        _ => WRONG_MOMENT,
+        _ => Err(Refusal::WrongMoment),
     }
 }
 
@@ -137,15 +135,13 @@ fn lift_after(t: Table, a: u32) -> u32
 }
 
 // The seat is live, in a hand with two live or more.
-fn dead_code(t: Table, s: u32) -> u8
+fn dead_code(t: Table, s: u32) -> Result<(), Refusal>
     requires { Standing t }
-    ensures { result ≡ dead_code t s }
+    ensures { number_by result ≡ dead_code t s }
 {
-    let c = table::seat_of(t, s);
-    let off = !t.play.opened;
     let few = lives(t) < 2;
-    let out = !c.dealt.live;
-    or_else(when(either(off, few), WRONG_MOMENT), when(out, WRONG_SEAT))
+    refuse(either(!t.play.opened, few), Refusal::WrongMoment)?;
+    refuse(!table::seat_of(t, s).dealt.live, Refusal::WrongSeat)
 }
 
 // The turn after a hand was killed: on from the seat in turn; else kept, or ended where nobody owes.
@@ -176,10 +172,10 @@ pub(crate) fn dead(t: Table, s: u32) -> Taken
     ensures { result ≡ kind_taken t (Dead s) }
 {
     let k = dead_code(t, s);
-    if k != TAKEN {
+    if k.is_err() {
         return settle::judged(t, k);
     }
-    settle::judged(killed(t, s), TAKEN)
+    settle::judged(killed(t, s), k)
 }
 
 // How many hands are live.
@@ -231,7 +227,7 @@ pub(crate) fn act(t: Table, e: Entry) -> Taken
     let i = table::place(x.seat);
     let c = cs[i];
     let k = act_code(t, c, e);
-    let ok = k == TAKEN;
+    let ok = k.is_ok();
     let d = act_by(ok, t, c, e);
     let wager = both(ok, x.kind == WAGER);
     let full = is_full_lift(t, x.a);

@@ -6,32 +6,25 @@ ghost use Rattle.paper.specs.Paper.{in_kind};
 ghost use Rattle.paper.specs.declared.Entry.TheVariants.{Hole, Board as OnBoard};
 ghost use Rattle.table.specs.State.{seat_of, card_added};
 ghost use Rattle.table.specs.Dealing.{in_this_hand, hole_code, board_code};
+ghost use Rattle.table.specs.Refused.{number_by};
 ghost use Rattle.table.specs.Standing.{Standing};
 ghost use Rattle.table.specs.Take.{Sound, kind_taken};
 
-use crate::table::{Board, Table, Taken};
+use crate::table::{Board, Table, Taken, refuse};
 use crate::{betting, settle, table};
 use chairs::Chair;
 use laws::either;
-use paper::{CARD_TWICE, TAKEN, WRONG_MOMENT, WRONG_SEAT, or_else, when};
+use paper::Refusal;
 
 // The seat is live and has not all its cards yet, and the cards are two new ones. c is the seat's chair, which is read once.
-fn hole_code(t: Table, c: Chair, s: u32, a: u32, b: u32) -> u8
+fn hole_code(t: Table, c: Chair, s: u32, a: u32, b: u32) -> Result<(), Refusal>
     requires { Standing t × (c ≡ seat_of t s) }
-    ensures { result ≡ hole_code t s a b }
+    ensures { number_by result ≡ hole_code t s a b }
 {
-    let off = !t.play.opened;
-    let out = !c.dealt.live;
     let full = c.hole.count as u32 == t.sheet.game;
-    let same = a == b;
-    let old = used(t, a, b);
-    or_else(
-        when(off, WRONG_MOMENT),
-        or_else(
-            when(either(out, full), WRONG_SEAT),
-            when(either(same, old), CARD_TWICE),
-        ),
-    )
+    refuse(!t.play.opened, Refusal::WrongMoment)?;
+    refuse(either(!c.dealt.live, full), Refusal::WrongSeat)?;
+    refuse(either(a == b, used(t, a, b)), Refusal::CardTwice)
 }
 
 // Two hole cards are entered; where that is refused, the chair is put there again.
@@ -43,15 +36,15 @@ pub(crate) fn hole(t: Table, s: u32, a: u32, b: u32) -> Taken
     let i = table::place(s);
     let c = cs[i];
     let k = hole_code(t, c, s, a, b);
-    let d = held_by(k == TAKEN, c, a, b);
+    let d = held_by(k.is_ok(), c, a, b);
     cs[i] = d;
     settle::judged(table::with_chairs(t, cs), k)
 }
 
 // Nobody owes, two hands or more are live, and fewer than five cards lie.
-fn board_code(t: Table, k: u32) -> u8
+fn board_code(t: Table, k: u32) -> Result<(), Refusal>
     requires { Standing t }
-    ensures { result ≡ board_code t k }
+    ensures { number_by result ≡ board_code t k }
 {
     let off = !t.play.opened;
     let owed = !betting::nobody_owes(t);
@@ -61,10 +54,11 @@ fn board_code(t: Table, k: u32) -> u8
     let few = n.hands < 2;
     let full = 5 <= bd.count;
     let old = either(lies(bd, k), n.holders != 0);
-    or_else(
-        when(either(off, either(owed, either(few, full))), WRONG_MOMENT),
-        when(old, CARD_TWICE),
-    )
+    refuse(
+        either(off, either(owed, either(few, full))),
+        Refusal::WrongMoment,
+    )?;
+    refuse(old, Refusal::CardTwice)
 }
 
 // The board with one card more, where it is taken.
@@ -82,7 +76,7 @@ pub(crate) fn board(t: Table, a: u32) -> Taken
 {
     let mut cs = t.chairs;
     let k = board_code(t, a);
-    let ok = k == TAKEN;
+    let ok = k.is_ok();
     let b = t.board;
     let d = board_by(ok, b, a);
     let round = laws::both(ok, 3 <= d.count);

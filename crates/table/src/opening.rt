@@ -4,29 +4,28 @@ ghost use Rattle.paper.specs.Paper.{is_seat, in_kind};
 ghost use Rattle.paper.specs.declared.Entry.TheVariants.{Hand};
 ghost use Rattle.chairs.specs.Chairs.{chips_of};
 ghost use Rattle.table.specs.Opening.{hand_code, opened_to};
+ghost use Rattle.table.specs.Refused.{number_by};
 ghost use Rattle.table.specs.Standing.{Standing};
 ghost use Rattle.table.specs.Take.{Sound, kind_taken};
 
-use crate::table::{Play, Table, Taken};
+use crate::table::{Play, Table, Taken, refuse};
 use crate::{settle, table};
 use chairs::passes::Dealing;
 use laws::{both, either};
-use paper::{TAKEN, WRONG_MOMENT, WRONG_SEAT, or_else, when};
+use paper::Refusal;
 
 // No hand, and two seats or more hold chips; then the puck seat.
-fn hand_code(t: Table, s: u32) -> u8
+fn hand_code(t: Table, s: u32) -> Result<(), Refusal>
     requires { Standing t }
-    ensures { result ≡ hand_code t s }
+    ensures { number_by result ≡ hand_code t s }
 {
     let c = table::seat_of(t, s);
     let cs = t.chairs;
     let last = t.play.puck;
     let k = chairs::passes::chip_seats(cs, t.sheet.seats, last);
     let ok = both(0 < c.stack, either(last == 0, k.next == s));
-    or_else(
-        when(either(t.play.opened, k.count < 2), WRONG_MOMENT),
-        when(!ok, WRONG_SEAT),
-    )
+    refuse(either(t.play.opened, k.count < 2), Refusal::WrongMoment)?;
+    refuse(!ok, Refusal::WrongSeat)
 }
 
 // A hand opens: everybody is dealt in; the puck sitter posts small, the next dealt-in seat, which is another, big, each at most its stack. The mark is
@@ -67,8 +66,8 @@ pub(crate) fn hand(t: Table, s: u32) -> Taken
     ensures { result ≡ kind_taken t (Hand s) }
 {
     let k = hand_code(t, s);
-    if k != TAKEN {
+    if k.is_err() {
         return settle::judged(t, k);
     }
-    settle::judged(opened(t, s), TAKEN)
+    settle::judged(opened(t, s), k)
 }

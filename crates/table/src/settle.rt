@@ -6,32 +6,31 @@ ghost use Rattle.laws.specs.Tests.{pick};
 ghost use Rattle.pots.specs.Runs.{padded};
 ghost use Rattle.pots.specs.Settle.{sole};
 ghost use Rattle.table.specs.Settle.{Payable, settle_code, totals_of, lives_of, hand_score, score_of, pots_now, back_now, commission_of, payout_now, settled_to, closed_play, no_payout};
+ghost use Rattle.table.specs.Refused.{number_by};
 ghost use Rattle.table.specs.Standing.{Standing};
 ghost use Rattle.table.specs.Take.{Sound, kind_taken};
 ghost use Rattle.paper.specs.declared.Entry.TheVariants.{Settle};
 
-use crate::table::{Board, Payout, Play, Table, Taken};
+use crate::table::{Board, Payout, Play, Table, Taken, refuse};
 use crate::{betting, table};
 use chairs::seats::PutIn;
 use chairs::{Chair, Hole};
 use laws::{both, either};
-use paper::{CARDS_MISSING, TAKEN, WRONG_MOMENT, or_else, when};
+use paper::{Refusal, TAKEN};
 use pots::{Commission, Stands};
 
 // One live; or nobody owes and five board cards lie. With two live or more each live seat has all its cards.
-fn settle_code(t: Table) -> u8
+fn settle_code(t: Table) -> Result<(), Refusal>
     requires { Standing t }
-    ensures { result ≡ settle_code t }
+    ensures { number_by result ≡ settle_code t }
 {
     let cs = t.chairs;
     let k = chairs::passes::shows(cs, t.sheet.seats, t.sheet.game);
     let none = betting::nobody_owes(t);
     let five = t.board.count == 5;
     let now = both(t.play.opened, either(k.hands == 1, both(none, five)));
-    or_else(
-        when(!now, WRONG_MOMENT),
-        when(both(2 <= k.hands, k.bare != 0), CARDS_MISSING),
-    )
+    refuse(!now, Refusal::WrongMoment)?;
+    refuse(both(2 <= k.hands, k.bare != 0), Refusal::CardsMissing)
 }
 
 // What each sitting dealt in has put in, and which hands are live.
@@ -189,7 +188,7 @@ pub(crate) fn settle_hand(t: Table) -> Taken
     ensures { result ≡ kind_taken t Settle }
 {
     let k = settle_code(t);
-    if k != TAKEN {
+    if k.is_err() {
         return judged(t, k);
     }
     let p = payout(t);
@@ -201,13 +200,13 @@ pub(crate) fn settle_hand(t: Table) -> Taken
     }
 }
 
-// A code and a table, and nothing is paid: any entry but a settle that is taken.
-pub(crate) fn judged(t: Table, k: u8) -> Taken
-    ensures { (result.code ≡ k) × (result.table ≡ t) × (result.payout ≡ no_payout) }
+// What was found and a table, and nothing is paid: any entry but a settle that is taken.
+pub(crate) fn judged(t: Table, k: Result<(), Refusal>) -> Taken
+    ensures { (result.code ≡ number_by k) × (result.table ≡ t) × (result.payout ≡ no_payout) }
 {
     let p = no_payout();
     Taken {
-        code: k,
+        code: table::number(k),
         table: t,
         payout: p,
     }

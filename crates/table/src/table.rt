@@ -1,9 +1,12 @@
 // The state of the table: what changes together.
 ghost use Rattle.std.specs.Prelude.{◌≡◌, ◌+◌, ◌≤◌, ◌<◌};
+ghost use Rattle.paper.specs.Paper.{when};
+ghost use Rattle.paper.specs.Refusals.{number_of};
+ghost use Rattle.table.specs.Refused.{number_by};
 ghost use Rattle.table.specs.State.{with_chairs, with_sitting, with_taken, with_turn, seat_of, with_chair, no_board, card_added};
 
 use chairs::Chair;
-use paper::Sheet;
+use paper::{Refusal, Sheet, TAKEN};
 
 // How the open hand stands; without one, the puck seat of the last.
 #[derive(Clone, Copy)]
@@ -48,6 +51,23 @@ pub struct Taken {
     pub code: u8,
     pub table: Table,
     pub payout: Payout,
+}
+
+// Refused for this reason, where the test says so.
+pub(crate) fn refuse(b: bool, why: Refusal) -> Result<(), Refusal>
+    ensures { number_by result ≡ when b (number_of why) }
+{
+    if b { Err(why) } else { Ok(()) }
+}
+
+// The paper's number for what was found: 0 where nothing refuses it.
+pub(crate) fn number(k: Result<(), Refusal>) -> u8
+    ensures { result ≡ number_by k }
+{
+    match k {
+        Ok(()) => TAKEN,
+        Err(why) => why.number(),
+    }
 }
 
 // The table with other chairs.

@@ -1,5 +1,6 @@
 -- `act` meets its contract: the sweep goes up to the last seat for a wager and to none for any other act. Assumes nothing.
 use borrow.Author.Rules.{rules}
+use Rattle.table.proofs.Refused.{ok_number}
 use Rattle.table.proofs.Acts.{act_seat, swept_put, seats_by, act_taken}
 use Rattle.table.proofs.Arms.{seat_place, seat_read}
 use Rattle.table.proofs.Standing.{seat_within}
@@ -50,4 +51,5 @@ returns c = let h = c.requires.0 in
     let e = c.sweep.ensures (sweep_of k) (λ x y f. search rules) in
     let put = swept_put k c.both-wager.result t _ c.place-i.result s c.act_by-d.result _ h c.chosen-last.ensures e c.place-i.ensures.0 in
     let q = seat_read t c.place-i.result s h c.place-i.ensures.0 c.place-i.ensures.1 in
-    act_taken t c.args.e x.result _ _ _ _ _ _ _ _ _ _ _ _ c.requires.2 x.ensures q c.act_code-k.ensures refl c.act_by-d.ensures c.both-wager.ensures c.is_full_lift-full.ensures put c.chosen-mark.ensures c.lift_after.ensures c.chosen-lift.ensures c.next_turn-next.ensures c.judged.ensures
+    let ok = c.is_ok-ok.ensures.value ∙ ok_number c.act_code-k.result in
+    act_taken t c.args.e x.result _ _ _ _ _ _ _ _ _ _ _ _ c.requires.2 x.ensures q c.act_code-k.ensures refl (rw ok at c.act_by-d.ensures) (rw ok at c.both-wager.ensures) c.is_full_lift-full.ensures put c.chosen-mark.ensures c.lift_after.ensures c.chosen-lift.ensures (rw ok at c.next_turn-next.ensures) c.judged.ensures

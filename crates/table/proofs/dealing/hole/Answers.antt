@@ -1,4 +1,5 @@
 -- `hole` meets its contract.
+use Rattle.table.proofs.Refused.{ok_number}
 use Rattle.table.proofs.Arms.{seat_place, seat_read, put_taken}
 use Rattle.table.proofs.Sounds.{hole_cards}
 use Rattle.table.specs.Dealing.{held_to}
@@ -29,4 +30,4 @@ returns c = let t = c.args.t in
     let s = c.args.s in
     let p = c.place-i in
     let q = seat_read t p.result s c.requires.0 p.ensures.0 p.ensures.1 in
-    put_taken t (Hole s c.args.a c.args.b) p.result s _ (λ (y : Chair). held_of y c.args.a c.args.b) _ _ _ _ _ refl refl p.ensures.0 q c.hole_code-k.ensures refl c.held_by-d.ensures c.with_chairs.ensures c.judged.ensures
+    put_taken t (Hole s c.args.a c.args.b) p.result s _ (λ (y : Chair). held_of y c.args.a c.args.b) _ _ _ _ _ refl refl p.ensures.0 q c.hole_code-k.ensures refl (rw (c.is_ok.ensures.value, ok_number c.hole_code-k.result) at c.held_by-d.ensures) c.with_chairs.ensures c.judged.ensures

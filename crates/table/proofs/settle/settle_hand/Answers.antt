@@ -1,11 +1,12 @@
 -- `settle_hand` meets its contract.
+use Rattle.table.proofs.Refused.{err_number, none_number}
 use Rattle.table.proofs.Arms.{refused_by, applied_by}
 use Rattle.paper.specs.declared.Entry.TheVariants.{Settle}
-use mathlib.Core.Path.{refl}
+use mathlib.Core.Path.{refl, sym, ◌∙◌}
 use Rattle.table.proofs.settle.settle_hand.Goals as goal
 
-pub returns-then-k-ne-TAKEN : goal.returns-then-k-ne-TAKEN
-returns-then-k-ne-TAKEN c = refused_by c.args.t Settle _ _ c.settle_code-k.ensures c.if-k-ne-TAKEN.true c.judged.ensures
+pub returns-then-is_err : goal.returns-then-is_err
+returns-then-is_err c = refused_by c.args.t Settle _ _ c.settle_code-k.ensures (err_number c.settle_code-k.result (sym c.is_err.ensures.value ∙ c.if-is_err.true)) c.judged.ensures
 
 pub returns : goal.returns
-returns c = applied_by c.args.t Settle _ _ c.settle_code-k.ensures c.if-k-ne-TAKEN.false refl c.shut-u.ensures c.payout-p.ensures
+returns c = applied_by c.args.t Settle _ _ c.settle_code-k.ensures (none_number c.settle_code-k.result (sym c.is_err.ensures.value ∙ c.if-is_err.false)) refl c.shut-u.ensures c.payout-p.ensures

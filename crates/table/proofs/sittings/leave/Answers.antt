@@ -1,4 +1,5 @@
 -- `leave` meets its contract.
+use Rattle.table.proofs.Refused.{ok_number}
 use Rattle.table.proofs.Arms.{seat_place, seat_read, put_taken}
 use Rattle.table.specs.Sittings.{leave_code, left_to}
 use Rattle.chairs.specs.declared.Chair.{Chair}
@@ -20,4 +21,4 @@ returns c = let t = c.args.t in
     let p = c.place-i in
     let q = seat_read t p.result s c.requires.0 p.ensures.0 p.ensures.1 in
     let k = c.leave_code-k.ensures ∙ ap (λ (y : Chair). when (either (eqb y.sitting 0) y.dealt.live) 5) q in
-    put_taken t (Leave s) p.result s _ (λ (y : Chair). seated_of y 0 0) _ _ _ _ _ refl refl p.ensures.0 q k refl c.seated_by-d.ensures c.with_chairs.ensures c.judged.ensures
+    put_taken t (Leave s) p.result s _ (λ (y : Chair). seated_of y 0 0) _ _ _ _ _ refl refl p.ensures.0 q k refl (rw (c.is_ok.ensures.value, ok_number c.leave_code-k.result) at c.seated_by-d.ensures) c.with_chairs.ensures c.judged.ensures

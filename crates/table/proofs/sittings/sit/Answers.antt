@@ -1,4 +1,5 @@
 -- `sit` meets its contract.
+use Rattle.table.proofs.Refused.{ok_number}
 use Rattle.table.proofs.Arms.{seat_place, seat_read, sit_taken}
 use Rattle.paper.specs.Paper.{is_seat, between}
 use Rattle.laws.proofs.Tests.{both_true}
@@ -18,4 +19,4 @@ returns c = let t = c.args.t in
     let s = c.args.s in
     let p = c.place-i in
     let q = seat_read t p.result s c.requires.0 p.ensures.0 p.ensures.1 in
-    sit_taken t p.result s c.args.a _ _ _ _ _ _ _ _ p.ensures.0 q c.sit_code-k.ensures c.chosen-n.ensures refl c.seated_by-d.ensures c.with_chairs.ensures c.with_sitting.ensures c.judged.ensures
+    sit_taken t p.result s c.args.a _ _ _ _ _ _ _ _ p.ensures.0 q c.sit_code-k.ensures (rw (c.is_ok-ok.ensures.value, ok_number c.sit_code-k.result) at c.chosen-n.ensures) refl (rw (c.is_ok-ok.ensures.value, ok_number c.sit_code-k.result) at c.seated_by-d.ensures) c.with_chairs.ensures c.with_sitting.ensures c.judged.ensures
