@@ -10,8 +10,8 @@ ghost use Rattle.table.specs.Refused.{number_by};
 ghost use Rattle.table.specs.Standing.{Standing};
 ghost use Rattle.table.specs.Take.{Sound, kind_taken};
 
+use crate::table;
 use crate::table::{Table, Taken, refuse};
-use crate::{settle, table};
 use chairs::Chair;
 use laws::either;
 use paper::Refusal;
@@ -27,30 +27,46 @@ fn too_many(all: u64, a: u32) -> bool
     }
 }
 
-// A seat must be empty, and the chips not too many. c is the seat's chair, which is read once.
-fn sit_code(t: Table, c: Chair, s: u32, a: u32) -> Result<(), Refusal>
-    requires { Standing t × (c ≡ seat_of t s) }
-    ensures { number_by result ≡ sit_code t s a }
-{
-    refuse(c.sitting != 0, Refusal::WrongSeat)?;
-    let over = too_many(chairs::seats::chips(t.chairs, t.sheet.seats), a);
-    refuse(over, Refusal::TooManyChips)
-}
+impl Table {
+    // A seat must be empty, and the chips not too many. c is the seat's chair, which is read once.
+    fn sit_code(self, c: Chair, s: u32, a: u32) -> Result<(), Refusal>
+        requires { Standing self × (c ≡ seat_of self s) }
+        ensures { number_by result ≡ sit_code self s a }
+    {
+        refuse(c.sitting != 0, Refusal::WrongSeat)?;
+        let over = too_many(chairs::seats::chips(self.chairs, self.sheet.seats), a);
+        refuse(over, Refusal::TooManyChips)
+    }
 
-// A sitting gets the next number; where it is refused, the chair that lies at the seat is put there again.
-pub(crate) fn sit(t: Table, s: u32, a: u32) -> Taken
-    requires { Sound t × (in_kind t.sheet (Sit s a) ≡ true) }
-    ensures { result ≡ kind_taken t (Sit s a) }
-{
-    let mut cs = t.chairs;
-    let i = table::place(s);
-    let c = cs[i];
-    let k = sit_code(t, c, s, a);
-    let ok = k.is_ok();
-    let n = laws::chosen(ok, t.sittings + 1, t.sittings);
-    let d = seated_by(ok, c, n, a);
-    cs[i] = d;
-    settle::judged(table::with_sitting(table::with_chairs(t, cs), n), k)
+    // A sitting gets the next number; where it is refused, the chair that lies at the seat is put there again.
+    pub(crate) fn sit(self, s: u32, a: u32) -> Taken
+        requires { Sound self × (in_kind self.sheet (Sit s a) ≡ true) }
+        ensures { result ≡ kind_taken self (Sit s a) }
+    {
+        let mut cs = self.chairs;
+        let i = table::place(s);
+        let c = cs[i];
+        let k = self.sit_code(c, s, a);
+        let ok = k.is_ok();
+        let n = laws::chosen(ok, self.sittings + 1, self.sittings);
+        let d = seated_by(ok, c, n, a);
+        cs[i] = d;
+        self.with_chairs(cs).with_sitting(n).judged(k)
+    }
+
+    // The whole stack is paid out; where that is refused, the chair is put there again.
+    pub(crate) fn leave(self, s: u32) -> Taken
+        requires { Sound self × (in_kind self.sheet (Leave s) ≡ true) }
+        ensures { result ≡ kind_taken self (Leave s) }
+    {
+        let mut cs = self.chairs;
+        let i = table::place(s);
+        let c = cs[i];
+        let k = leave_code(c);
+        let d = seated_by(k.is_ok(), c, 0, 0);
+        cs[i] = d;
+        self.with_chairs(cs).judged(k)
+    }
 }
 
 // The seat is occupied, its sitter not live in a hand.
@@ -58,20 +74,6 @@ fn leave_code(c: Chair) -> Result<(), Refusal>
     ensures { number_by result ≡ when_of (either_of (eqb c.sitting 0) c.dealt.live) wrong_seat }
 {
     refuse(either(c.sitting == 0, c.dealt.live), Refusal::WrongSeat)
-}
-
-// The whole stack is paid out; where that is refused, the chair is put there again.
-pub(crate) fn leave(t: Table, s: u32) -> Taken
-    requires { Sound t × (in_kind t.sheet (Leave s) ≡ true) }
-    ensures { result ≡ kind_taken t (Leave s) }
-{
-    let mut cs = t.chairs;
-    let i = table::place(s);
-    let c = cs[i];
-    let k = leave_code(c);
-    let d = seated_by(k.is_ok(), c, 0, 0);
-    cs[i] = d;
-    settle::judged(table::with_chairs(t, cs), k)
 }
 
 // The chair with another sitting, or as it was.

@@ -70,57 +70,59 @@ pub(crate) fn number(k: Result<(), Refusal>) -> u8
     }
 }
 
-// The table with other chairs.
-pub(crate) fn with_chairs(t: Table, cs: [Chair; 10]) -> Table
-    ensures { result ≡ with_chairs t cs }
-{
-    let mut u = t;
-    u.chairs = cs;
-    u
-}
+impl Table {
+    // The table with other chairs.
+    pub(crate) fn with_chairs(self, cs: [Chair; 10]) -> Table
+        ensures { result ≡ with_chairs self cs }
+    {
+        let mut u = self;
+        u.chairs = cs;
+        u
+    }
 
-// The table with the turn at a seat.
-pub(crate) fn with_turn(t: Table, s: u32) -> Table
-    ensures { result ≡ with_turn t s }
-{
-    let mut u = t;
-    u.play.turn = s;
-    u
-}
+    // The table with the turn at a seat.
+    pub(crate) fn with_turn(self, s: u32) -> Table
+        ensures { result ≡ with_turn self s }
+    {
+        let mut u = self;
+        u.play.turn = s;
+        u
+    }
 
-// The table with the count of sittings handed out.
-pub(crate) fn with_sitting(t: Table, k: u32) -> Table
-    ensures { result ≡ with_sitting t k }
-{
-    let mut u = t;
-    u.sittings = k;
-    u
-}
+    // The table with the count of sittings handed out.
+    pub(crate) fn with_sitting(self, k: u32) -> Table
+        ensures { result ≡ with_sitting self k }
+    {
+        let mut u = self;
+        u.sittings = k;
+        u
+    }
 
-// The table with another chair at a seat.
-pub(crate) fn with_chair(t: Table, s: u32, c: Chair) -> Table
-    ensures { result ≡ with_chair t s c }
-{
-    let cs = t.chairs;
-    let ds = chairs::seats::put_chair(cs, s, c);
-    with_chairs(t, ds)
-}
+    // The table with another chair at a seat.
+    pub(crate) fn with_chair(self, s: u32, c: Chair) -> Table
+        ensures { result ≡ with_chair self s c }
+    {
+        let cs = self.chairs;
+        let ds = chairs::seats::put_chair(cs, s, c);
+        self.with_chairs(ds)
+    }
 
-// The chair of a seat.
-pub(crate) fn seat_of(t: Table, s: u32) -> Chair
-    ensures { result ≡ seat_of t s }
-{
-    let cs = t.chairs;
-    chairs::seats::chair_at(cs, s)
-}
+    // The chair of a seat.
+    pub(crate) fn seat_of(self, s: u32) -> Chair
+        ensures { result ≡ seat_of self s }
+    {
+        let cs = self.chairs;
+        chairs::seats::chair_at(cs, s)
+    }
 
-// The table with the count of entries taken.
-pub(crate) fn with_taken(t: Table, n: u32) -> Table
-    ensures { result ≡ with_taken t n }
-{
-    let mut u = t;
-    u.taken = n;
-    u
+    // The table with the count of entries taken.
+    pub(crate) fn with_taken(self, n: u32) -> Table
+        ensures { result ≡ with_taken self n }
+    {
+        let mut u = self;
+        u.taken = n;
+        u
+    }
 }
 
 // One more card on the board.
