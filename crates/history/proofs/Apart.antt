@@ -2,7 +2,7 @@
 -- seat holds the royal flush that wins the pool (`royal_once`, No. 7). Assumes nothing.
 use Prim.Native.Nat.{ℕ, zero, suc, ◌+◌, ◌-◌, ◌≤◌}
 use native.Mathlib.Numerals.{add-one}
-use mathlib.Core.Bool.{Bool, true, false, not}
+use mathlib.Core.Bool.{Bool, true, false, not, ◌||◌, true≢false}
 use mathlib.Core.Path.{◌≡◌, refl, sym, ap, ◌∙◌, subst}
 use mathlib.Core.List.{List, [], ◌∷◌, map}
 use mathlib.Core.Logic.{⊎_elim}
@@ -72,10 +72,14 @@ module _ (k : ℕ) where
   close_times (c ∷ cs) (p ∷ ps) = omega (arith, close_times cs ps)
 
   -- ---- code 8: a card that is not in this hand
+  neither : (a b : Bool) → (a || b) ≡ false → (a ≡ false) × (b ≡ false)
+  neither true b e = absurd (true≢false e)
+  neither false b e = (refl, e)
+
   not_there : (l : List ℕ) → has_card k l ≡ false → count k l ≡ 0
   not_there [] e = refl
   not_there (x ∷ l) e =
-      let b = either_false (eqb x k) (has_card k l) e in
+      let b = neither (eqb x k) (has_card k l) e in
       omega (arith, ap one (ne_eqb k x (λ z. eqb-false x k b.0 (sym z))), not_there l b.1)
 
   nobody_has : (cs : List Chair) → count_of (is_holding k) cs ≡ 0 → held_times k cs ≡ 0

@@ -10,7 +10,7 @@ ghost use Rattle.royal.specs.Royal.{is_royal, any_royal, royal_in, holds_royal, 
 
 use cards::five_worth;
 use chairs::{Chair, Hole};
-use laws::{both, either, one};
+use laws::{both, either};
 use table::table::{Board, Table};
 
 // Whether five cards are of one suit.
@@ -118,11 +118,8 @@ fn royal_seats(game: u32, b: Board, cs: [Chair; 10]) -> u32
     ensures { result ≡ royal_seats game b cs }
 {
     let mut n: u32 = 0;
-    let mut i: usize = 0;
-    while i < 10 {
-        let c = cs[i];
-        n += one(holds_royal(game, b, c));
-        i += 1;
+    for c in &cs {
+        n += u32::from(holds_royal(game, b, *c));
     }
     n
 }

@@ -1,13 +1,12 @@
 -- The two arms with a sweep. An act: fold, check, call and wager are one, with a sweep up to 0 where it is no wager, and what is refused is put down as it
 -- was. A board card: with the sweep of a new round where one opens. Assumes nothing.
-use Prim.Native.Nat.{ℕ, ◌+◌, ◌-◌, ◌≤◌, ◌<◌}
+use Prim.Native.Nat.{ℕ, ◌+◌, ◌-◌, ◌≤◌}
 use mathlib.Core.Bool.{Bool, true, false, true≢false, false≢true}
 use mathlib.Core.Path.{◌≡◌, refl, sym, ap, ◌∙◌}
-use mathlib.Core.List.{List, [], ◌∷◌, map}
+use mathlib.Core.List.{List, [], ◌∷◌, ◌++◌, map}
 use mathlib.Core.Logic.{inl, inr}
 use native.Mathlib.Omega.{arith}
-use native.Mathlib.Numerals.{add-one}
-use lib.ListN.{length, get_or, set}
+use lib.ListN.{take, drop, set}
 use lib.Dec.{eqb, leb}
 use borrow.Author.Tests.{leb-true, leb-false}
 use types.Run.{OneOf}
@@ -24,7 +23,6 @@ use Rattle.chairs.specs.Chairs.{no_chair, put_at, want_of, first_of, clockwise, 
 use Rattle.chairs.specs.declared.Chair.{Chair}
 use Rattle.chairs.specs.Sweep.{Sweep, Again, Round}
 use Rattle.chairs.specs.Who.{Owing}
-use Rattle.chairs.proofs.Laws.{unread, sweep_to, sweep_step}
 use Rattle.chairs.proofs.Above.{sweep_none, above_sweep, seats_sweep}
 use Rattle.table.specs.State.{seat_of, with_chairs, with_mark, with_card, card_added}
 use Rattle.table.specs.Betting.{live_hands, only_with_chips, owes, first_owing, after_act, folded_to, checked_to, called_to, wagered_to, is_act, acted_by, is_full_lift, lift_after, new_round}
@@ -47,16 +45,10 @@ owing_is u s = go (leb 2 (live_hands u)) refl
     go false q = sym (owing_few u s (leb-false 2 (live_hands u) q))
 
 -- ---- the sweep up to a last chair: of all chairs, or of none
-pub swept_by : (f : Chair → Chair) → f no_chair ≡ no_chair → (w : Bool) (n last j : ℕ) (cs ds : List Chair) → Above n cs → last ≡ pick w n 0 → j ≡ last
-    → ds ≡ sweep_to f j cs → ds ≡ pick w (map f cs) cs
-swept_by f z true n last j cs ds h l e q = q ∙ ap (λ (m : ℕ). sweep_to f m cs) (e ∙ l) ∙ above_sweep f z n cs h
-swept_by f z false n last j cs ds h l e q = q ∙ ap (λ (m : ℕ). sweep_to f m cs) (e ∙ l)
-
--- one chair more is swept
-pub sweep_turn : (f : Chair → Chair) (j : ℕ) (cs ds : List Chair) (y : Chair) → j < length cs → ds ≡ sweep_to f j cs → y ≡ f (get_or ds j unread)
-    → set ds j y ≡ sweep_to f (j + 1) cs
-sweep_turn f j cs ds y l q e =
-    rw add-one (ap (λ (d : Chair). set ds j d) e ∙ ap (λ (k : List Chair). set k j (f (get_or k j unread))) q ∙ sweep_step f j cs unread l)
+pub swept_by : (f : Chair → Chair) → f no_chair ≡ no_chair → (w : Bool) (n last : ℕ) (cs : List Chair) → Above n cs → last ≡ pick w n 0
+    → map f (take last cs) ++ drop last cs ≡ pick w (map f cs) cs
+swept_by f z true n last cs h l = ap (λ (m : ℕ). map f (take m cs) ++ drop m cs) l ∙ above_sweep f z n cs h
+swept_by f z false n last cs h l = ap (λ (m : ℕ). map f (take m cs) ++ drop m cs) l
 
 pub last_most : (w : Bool) (n last : ℕ) → n ≤ 10 → last ≡ pick w n 0 → last ≤ 10
 last_most true n last h e = omega arith
@@ -67,11 +59,12 @@ seats_by k true n cs h = seats_sweep k n cs h
 seats_by k false n cs h = h
 
 -- the chairs after the sweep, and after the seat's own is put down
-pub swept_put : (k : Sweep) (w : Bool) (t : Table) (last j i s : ℕ) (d : Chair) (ds : List Chair) → Sound t → last ≡ pick w t.sheet.seats 0 → j ≡ last
-    → ds ≡ sweep_to (sweep_of k) j t.chairs → i + 1 ≡ s → set ds i d ≡ put_at (pick w (map (sweep_of k) t.chairs) t.chairs) s d
-swept_put k w t last j i s d ds h l e q p =
-    set_place ds i s d p
-    ∙ ap (λ (x : List Chair). put_at x s d) (swept_by (sweep_of k) (sweep_none k) w t.sheet.seats last j t.chairs ds h.standing.seated.above l e q)
+pub swept_put : (k : Sweep) (w : Bool) (t : Table) (last i s : ℕ) (d : Chair) (ds : List Chair) → Sound t → last ≡ pick w t.sheet.seats 0
+    → ds ≡ map (sweep_of k) (take last t.chairs) → i + 1 ≡ s → set (ds ++ drop last t.chairs) i d ≡ put_at (pick w (map (sweep_of k) t.chairs) t.chairs) s d
+swept_put k w t last i s d ds h l e p =
+    set_place (ds ++ drop last t.chairs) i s d p
+    ∙ ap (λ (x : List Chair). put_at (x ++ drop last t.chairs) s d) e
+    ∙ ap (λ (x : List Chair). put_at x s d) (swept_by (sweep_of k) (sweep_none k) w t.sheet.seats last t.chairs h.standing.seated.above l)
 
 -- ---- which entries are acts
 among : (x : ℕ) → OneOf (4 ∷ 5 ∷ 6 ∷ 7 ∷ []) x → (4 ≤ x) × (x ≤ 7)

@@ -1,4 +1,5 @@
 pub mod Laws
+pub mod Refused
 pub mod Turns
 pub mod Numbers
 pub mod Sounds

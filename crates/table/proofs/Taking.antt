@@ -13,14 +13,11 @@ use Rattle.paper.specs.declared.Entry.{Entry}
 use Rattle.paper.specs.declared.Entry.TheVariants.{Void}
 use Rattle.table.specs.State.{with_taken}
 use Rattle.table.specs.Settle.{no_payout}
+use Rattle.table.specs.Refused.{early_of}
 use Rattle.table.specs.Take.{Sound, kind_code, applied_to, payout_by, kind_taken, code_of, next_of, payout_of, taken_of}
 use Rattle.table.specs.declared.table.Table.{Table}
 use Rattle.table.specs.declared.table.Taken.{Taken}
 use Rattle.table.proofs.Standing.{sound_taken}
-
--- the codes that come before the table's state
-abbrev pub early_of : Table → ℕ → Entry → ℕ
-early_of t n e = or_else (when (not (in_range t.sheet n e)) 2) (when (not (eqb (t.taken + 1) n)) 3)
 
 or_assoc : (a b k : ℕ) → or_else (or_else a b) k ≡ or_else a (or_else b k)
 or_assoc zero b k = refl

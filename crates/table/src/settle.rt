@@ -6,41 +6,133 @@ ghost use Rattle.laws.specs.Tests.{pick};
 ghost use Rattle.pots.specs.Runs.{padded};
 ghost use Rattle.pots.specs.Settle.{sole};
 ghost use Rattle.table.specs.Settle.{Payable, settle_code, totals_of, lives_of, hand_score, score_of, pots_now, back_now, commission_of, payout_now, settled_to, closed_play, no_payout};
+ghost use Rattle.table.specs.Refused.{number_by};
 ghost use Rattle.table.specs.Standing.{Standing};
 ghost use Rattle.table.specs.Take.{Sound, kind_taken};
 ghost use Rattle.paper.specs.declared.Entry.TheVariants.{Settle};
 
-use crate::table::{Board, Payout, Play, Table, Taken};
-use crate::{betting, table};
+use crate::table;
+use crate::table::{Board, Payout, Play, Table, Taken, refuse};
 use chairs::seats::PutIn;
 use chairs::{Chair, Hole};
 use laws::{both, either};
-use paper::{CARDS_MISSING, TAKEN, WRONG_MOMENT, or_else, when};
+use paper::{Refusal, TAKEN};
 use pots::{Commission, Stands};
 
-// One live; or nobody owes and five board cards lie. With two live or more each live seat has all its cards.
-fn settle_code(t: Table) -> u8
-    requires { Standing t }
-    ensures { result ≡ settle_code t }
-{
-    let cs = t.chairs;
-    let k = chairs::passes::shows(cs, t.sheet.seats, t.sheet.game);
-    let none = betting::nobody_owes(t);
-    let five = t.board.count == 5;
-    let now = both(t.play.opened, either(k.hands == 1, both(none, five)));
-    or_else(
-        when(!now, WRONG_MOMENT),
-        when(both(2 <= k.hands, k.bare != 0), CARDS_MISSING),
-    )
-}
+impl Table {
+    // One live; or nobody owes and five board cards lie. With two live or more each live seat has all its cards.
+    fn settle_code(self) -> Result<(), Refusal>
+        requires { Standing self }
+        ensures { number_by result ≡ settle_code self }
+    {
+        let cs = self.chairs;
+        let k = chairs::passes::shows(cs, self.sheet.seats, self.sheet.game);
+        let none = self.nobody_owes();
+        let five = self.board.count == 5;
+        let now = both(self.play.opened, either(k.hands == 1, both(none, five)));
+        refuse(!now, Refusal::WrongMoment)?;
+        refuse(both(2 <= k.hands, k.bare != 0), Refusal::CardsMissing)
+    }
 
-// What each sitting dealt in has put in, and which hands are live.
-fn put_in(t: Table) -> PutIn
-    requires { Standing t }
-    ensures { (result.totals ≡ totals_of t) × (result.live ≡ lives_of t) }
-{
-    let cs = t.chairs;
-    chairs::seats::put_in(cs, t.sheet.seats)
+    // What each sitting dealt in has put in, and which hands are live.
+    fn put_in(self) -> PutIn
+        requires { Standing self }
+        ensures { (result.totals ≡ totals_of self) × (result.live ≡ lives_of self) }
+    {
+        let cs = self.chairs;
+        chairs::seats::put_in(cs, self.sheet.seats)
+    }
+
+    // What the commission of the open hand goes by.
+    fn commission(self) -> Commission
+        ensures { result ≡ commission_of self }
+    {
+        Commission {
+            rate: self.sheet.rate,
+            cap: self.sheet.cap,
+            step: self.sheet.step,
+            board: self.board.count as u32,
+            drop: self.sheet.drop,
+        }
+    }
+
+    // What a settle pays.
+    fn payout(self) -> Payout
+        requires { Payable self × Standing self }
+        ensures { result ≡ payout_now self }
+    {
+        let cs = self.chairs;
+        let b = self.board;
+        let put = chairs::passes::rows(cs, self.sheet.seats);
+        let sc = scores_needed(self.sheet.deck, self.sheet.game, b, cs, put.live);
+        let puck = self.play.puck as usize;
+        let totals = put.totals;
+        let s = pots::hand::settle_hand(totals, put.live, sc, self.commission(), puck);
+        let due = s.due;
+        let p = pots::hand::pay_out(due, put.here);
+        let paid = p.paid;
+        let sittings = put.sittings;
+        Payout {
+            settled: true,
+            fee: s.fee,
+            drop: s.drop,
+            paid,
+            sittings,
+            unclaimed: p.unclaimed,
+        }
+    }
+
+    // The hand is closed, and what is paid is added to the stacks.
+    fn shut(self, p: Payout) -> Table
+        requires { Payable self × Standing self × (p ≡ payout_now self) }
+        ensures { result ≡ settled_to self }
+    {
+        let cs = self.chairs;
+        let paid = p.paid;
+        let sheet = self.sheet;
+        let play = self.play;
+        let after = closed_play(play);
+        let board = table::no_board();
+        let ds = chairs::seats::close_all(cs, self.sheet.seats, paid);
+        Table {
+            sheet: sheet,
+            taken: self.taken,
+            sittings: self.sittings,
+            play: after,
+            board: board,
+            chairs: ds,
+        }
+    }
+
+    // A settle: the table after it, and what it pays.
+    pub(crate) fn settle_hand(self) -> Taken
+        requires { Sound self }
+        ensures { result ≡ kind_taken self Settle }
+    {
+        let k = self.settle_code();
+        if k.is_err() {
+            return self.judged(k);
+        }
+        let p = self.payout();
+        let u = self.shut(p);
+        Taken {
+            code: TAKEN,
+            table: u,
+            payout: p,
+        }
+    }
+
+    // What was found and a table, and nothing is paid: any entry but a settle that is taken.
+    pub(crate) fn judged(self, k: Result<(), Refusal>) -> Taken
+        ensures { (result.code ≡ number_by k) × (result.table ≡ self) × (result.payout ≡ no_payout) }
+    {
+        let p = no_payout();
+        Taken {
+            code: table::number(k),
+            table: self,
+            payout: p,
+        }
+    }
 }
 
 // What is kept of the deck's best hand of two hole cards and the board, any mixture.
@@ -91,14 +183,11 @@ fn scores(deck: u32, game: u32, b: Board, cs: [Chair; 10]) -> [u32; 10]
     requires { is_game game ≡ true }
     ensures { result ≡ map (score_of deck game b) cs }
 {
-    let mut a = [0u32; 10];
-    let mut i: usize = 0;
-    while i < 10 {
-        let c = cs[i];
-        a[i] = score(deck, game, b, c);
-        i += 1;
+    let mut all = [0u32; 10];
+    for (i, c) in cs.iter().enumerate() {
+        all[i] = score(deck, game, b, *c);
     }
-    a
+    all
 }
 
 // The scores that a settle goes by: where one hand alone is live it needs no cards, and no hand is looked at.
@@ -112,45 +201,6 @@ fn scores_needed(deck: u32, game: u32, b: Board, cs: [Chair; 10], live: u16) -> 
     scores(deck, game, b, cs)
 }
 
-// What the commission of the open hand goes by.
-fn commission(t: Table) -> Commission
-    ensures { result ≡ commission_of t }
-{
-    Commission {
-        rate: t.sheet.rate,
-        cap: t.sheet.cap,
-        step: t.sheet.step,
-        board: t.board.count as u32,
-        drop: t.sheet.drop,
-    }
-}
-
-// What a settle pays.
-fn payout(t: Table) -> Payout
-    requires { Payable t × Standing t }
-    ensures { result ≡ payout_now t }
-{
-    let cs = t.chairs;
-    let b = t.board;
-    let put = chairs::passes::rows(cs, t.sheet.seats);
-    let sc = scores_needed(t.sheet.deck, t.sheet.game, b, cs, put.live);
-    let puck = t.play.puck as usize;
-    let totals = put.totals;
-    let s = pots::hand::settle_hand(totals, put.live, sc, commission(t), puck);
-    let due = s.due;
-    let p = pots::hand::pay_out(due, put.here);
-    let paid = p.paid;
-    let sittings = put.sittings;
-    Payout {
-        settled: true,
-        fee: s.fee,
-        drop: s.drop,
-        paid,
-        sittings,
-        unclaimed: p.unclaimed,
-    }
-}
-
 // No hand: of the last one only the puck seat is kept.
 fn closed_play(p: Play) -> Play
     ensures { result ≡ closed_play p }
@@ -161,58 +211,6 @@ fn closed_play(p: Play) -> Play
         mark: 0,
         lift: 0,
         turn: 0,
-    }
-}
-
-// The hand is closed, and what is paid is added to the stacks.
-fn shut(t: Table, p: Payout) -> Table
-    requires { Payable t × Standing t × (p ≡ payout_now t) }
-    ensures { result ≡ settled_to t }
-{
-    let cs = t.chairs;
-    let paid = p.paid;
-    let sheet = t.sheet;
-    let play = t.play;
-    let after = closed_play(play);
-    let board = table::no_board();
-    let ds = chairs::seats::close_all(cs, t.sheet.seats, paid);
-    Table {
-        sheet: sheet,
-        taken: t.taken,
-        sittings: t.sittings,
-        play: after,
-        board: board,
-        chairs: ds,
-    }
-}
-
-// A settle: the table after it, and what it pays.
-pub(crate) fn settle_hand(t: Table) -> Taken
-    requires { Sound t }
-    ensures { result ≡ kind_taken t Settle }
-{
-    let k = settle_code(t);
-    if k != TAKEN {
-        return judged(t, k);
-    }
-    let p = payout(t);
-    let u = shut(t, p);
-    Taken {
-        code: TAKEN,
-        table: u,
-        payout: p,
-    }
-}
-
-// A code and a table, and nothing is paid: any entry but a settle that is taken.
-pub(crate) fn judged(t: Table, k: u8) -> Taken
-    ensures { (result.code ≡ k) × (result.table ≡ t) × (result.payout ≡ no_payout) }
-{
-    let p = no_payout();
-    Taken {
-        code: k,
-        table: t,
-        payout: p,
     }
 }
 
@@ -234,7 +232,7 @@ pub fn stands_now(t: Table) -> Stands
     requires { (chips_of t.chairs ≤ 100000000) × Standing t }
     ensures { (result.pots.n ≡ length (pots_now t)) × (result.pots.list ≡ padded 9 (pots_now t)) × (result.pots.n ≤ 9) × (result.back ≡ back_now t) }
 {
-    let put = put_in(t);
+    let put = t.put_in();
     let totals = put.totals;
     pots::stand(totals, put.live)
 }

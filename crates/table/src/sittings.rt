@@ -6,14 +6,15 @@ ghost use Rattle.paper.specs.Paper.{when as when_of, wrong_seat, in_kind};
 ghost use Rattle.paper.specs.declared.Entry.TheVariants.{Sit, Leave};
 ghost use Rattle.table.specs.State.{seat_of};
 ghost use Rattle.table.specs.Sittings.{sit_code};
+ghost use Rattle.table.specs.Refused.{number_by};
 ghost use Rattle.table.specs.Standing.{Standing};
 ghost use Rattle.table.specs.Take.{Sound, kind_taken};
 
-use crate::table::{Table, Taken};
-use crate::{settle, table};
+use crate::table;
+use crate::table::{Table, Taken, refuse};
 use chairs::Chair;
 use laws::either;
-use paper::{TAKEN, TOO_MANY_CHIPS, WRONG_SEAT, or_else, when};
+use paper::Refusal;
 
 // Whether chips and a more are above 100,000,000.
 fn too_many(all: u64, a: u32) -> bool
@@ -26,58 +27,58 @@ fn too_many(all: u64, a: u32) -> bool
     }
 }
 
-// A seat must be empty, and the chips not too many. c is the seat's chair, which is read once.
-fn sit_code(t: Table, c: Chair, s: u32, a: u32) -> u8
-    requires { Standing t × (c ≡ seat_of t s) }
-    ensures { result ≡ sit_code t s a }
-{
-    let cs = t.chairs;
-    let taken = c.sitting != 0;
-    let over = too_many(chairs::seats::chips(cs, t.sheet.seats), a);
-    or_else(when(taken, WRONG_SEAT), when(over, TOO_MANY_CHIPS))
-}
+impl Table {
+    // A seat must be empty, and the chips not too many. c is the seat's chair, which is read once.
+    fn sit_code(self, c: Chair, s: u32, a: u32) -> Result<(), Refusal>
+        requires { Standing self × (c ≡ seat_of self s) }
+        ensures { number_by result ≡ sit_code self s a }
+    {
+        refuse(c.sitting != 0, Refusal::WrongSeat)?;
+        let over = too_many(chairs::seats::chips(self.chairs, self.sheet.seats), a);
+        refuse(over, Refusal::TooManyChips)
+    }
 
-// A sitting gets the next number; where it is refused, the chair that lies at the seat is put there again.
-pub(crate) fn sit(t: Table, s: u32, a: u32) -> Taken
-    requires { Sound t × (in_kind t.sheet (Sit s a) ≡ true) }
-    ensures { result ≡ kind_taken t (Sit s a) }
-{
-    let mut cs = t.chairs;
-    let i = table::place(s);
-    let c = cs[i];
-    let k = sit_code(t, c, s, a);
-    let ok = k == TAKEN;
-    let n = laws::chosen(ok, t.sittings + 1, t.sittings);
-    let d = seated_by(ok, c, n, a);
-    cs[i] = d;
-    settle::judged(table::with_sitting(table::with_chairs(t, cs), n), k)
+    // A sitting gets the next number; where it is refused, the chair that lies at the seat is put there again.
+    pub(crate) fn sit(self, s: u32, a: u32) -> Taken
+        requires { Sound self × (in_kind self.sheet (Sit s a) ≡ true) }
+        ensures { result ≡ kind_taken self (Sit s a) }
+    {
+        let mut cs = self.chairs;
+        let i = table::place(s);
+        let c = cs[i];
+        let k = self.sit_code(c, s, a);
+        let ok = k.is_ok();
+        let n = laws::chosen(ok, self.sittings + 1, self.sittings);
+        let d = seated_by(ok, c, n, a);
+        cs[i] = d;
+        self.with_chairs(cs).with_sitting(n).judged(k)
+    }
+
+    // The whole stack is paid out; where that is refused, the chair is put there again.
+    pub(crate) fn leave(self, s: u32) -> Taken
+        requires { Sound self × (in_kind self.sheet (Leave s) ≡ true) }
+        ensures { result ≡ kind_taken self (Leave s) }
+    {
+        let mut cs = self.chairs;
+        let i = table::place(s);
+        let c = cs[i];
+        let k = leave_code(c);
+        let d = seated_by(k.is_ok(), c, 0, 0);
+        cs[i] = d;
+        self.with_chairs(cs).judged(k)
+    }
 }
 
 // The seat is occupied, its sitter not live in a hand.
-fn leave_code(c: Chair) -> u8
-    ensures { result ≡ when_of (either_of (eqb c.sitting 0) c.dealt.live) wrong_seat }
+fn leave_code(c: Chair) -> Result<(), Refusal>
+    ensures { number_by result ≡ when_of (either_of (eqb c.sitting 0) c.dealt.live) wrong_seat }
 {
-    let empty = c.sitting == 0;
-    when(either(empty, c.dealt.live), WRONG_SEAT)
-}
-
-// The whole stack is paid out; where that is refused, the chair is put there again.
-pub(crate) fn leave(t: Table, s: u32) -> Taken
-    requires { Sound t × (in_kind t.sheet (Leave s) ≡ true) }
-    ensures { result ≡ kind_taken t (Leave s) }
-{
-    let mut cs = t.chairs;
-    let i = table::place(s);
-    let c = cs[i];
-    let k = leave_code(c);
-    let d = seated_by(k == TAKEN, c, 0, 0);
-    cs[i] = d;
-    settle::judged(table::with_chairs(t, cs), k)
+    refuse(either(c.sitting == 0, c.dealt.live), Refusal::WrongSeat)
 }
 
 // The chair with another sitting, or as it was.
 fn seated_by(ok: bool, c: chairs::Chair, n: u32, a: u32) -> chairs::Chair
     ensures { result ≡ pick ok (seated_of c n a) c }
 {
-    if ok { chairs::seated(c, n, a) } else { c }
+    if ok { c.seated(n, a) } else { c }
 }

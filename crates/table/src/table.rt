@@ -1,9 +1,12 @@
 // The state of the table: what changes together.
 ghost use Rattle.std.specs.Prelude.{◌≡◌, ◌+◌, ◌≤◌, ◌<◌};
+ghost use Rattle.paper.specs.Paper.{when};
+ghost use Rattle.paper.specs.Refusals.{number_of};
+ghost use Rattle.table.specs.Refused.{number_by};
 ghost use Rattle.table.specs.State.{with_chairs, with_sitting, with_taken, with_turn, seat_of, with_chair, no_board, card_added};
 
 use chairs::Chair;
-use paper::Sheet;
+use paper::{Refusal, Sheet, TAKEN};
 
 // How the open hand stands; without one, the puck seat of the last.
 #[derive(Clone, Copy)]
@@ -50,57 +53,76 @@ pub struct Taken {
     pub payout: Payout,
 }
 
-// The table with other chairs.
-pub(crate) fn with_chairs(t: Table, cs: [Chair; 10]) -> Table
-    ensures { result ≡ with_chairs t cs }
+// Refused for this reason, where the test says so.
+pub(crate) fn refuse(b: bool, why: Refusal) -> Result<(), Refusal>
+    ensures { number_by result ≡ when b (number_of why) }
 {
-    let mut u = t;
-    u.chairs = cs;
-    u
+    if b { Err(why) } else { Ok(()) }
 }
 
-// The table with the turn at a seat.
-pub(crate) fn with_turn(t: Table, s: u32) -> Table
-    ensures { result ≡ with_turn t s }
+// The paper's number for what was found: 0 where nothing refuses it.
+pub(crate) fn number(k: Result<(), Refusal>) -> u8
+    ensures { result ≡ number_by k }
 {
-    let mut u = t;
-    u.play.turn = s;
-    u
+    match k {
+        Ok(()) => TAKEN,
+        Err(why) => why.number(),
+    }
 }
 
-// The table with the count of sittings handed out.
-pub(crate) fn with_sitting(t: Table, k: u32) -> Table
-    ensures { result ≡ with_sitting t k }
-{
-    let mut u = t;
-    u.sittings = k;
-    u
-}
+impl Table {
+    // The table with other chairs.
+    pub(crate) fn with_chairs(self, cs: [Chair; 10]) -> Table
+        ensures { result ≡ with_chairs self cs }
+    {
+        let mut u = self;
+        u.chairs = cs;
+        u
+    }
 
-// The table with another chair at a seat.
-pub(crate) fn with_chair(t: Table, s: u32, c: Chair) -> Table
-    ensures { result ≡ with_chair t s c }
-{
-    let cs = t.chairs;
-    let ds = chairs::seats::put_chair(cs, s, c);
-    with_chairs(t, ds)
-}
+    // The table with the turn at a seat.
+    pub(crate) fn with_turn(self, s: u32) -> Table
+        ensures { result ≡ with_turn self s }
+    {
+        let mut u = self;
+        u.play.turn = s;
+        u
+    }
 
-// The chair of a seat.
-pub(crate) fn seat_of(t: Table, s: u32) -> Chair
-    ensures { result ≡ seat_of t s }
-{
-    let cs = t.chairs;
-    chairs::seats::chair_at(cs, s)
-}
+    // The table with the count of sittings handed out.
+    pub(crate) fn with_sitting(self, k: u32) -> Table
+        ensures { result ≡ with_sitting self k }
+    {
+        let mut u = self;
+        u.sittings = k;
+        u
+    }
 
-// The table with the count of entries taken.
-pub(crate) fn with_taken(t: Table, n: u32) -> Table
-    ensures { result ≡ with_taken t n }
-{
-    let mut u = t;
-    u.taken = n;
-    u
+    // The table with another chair at a seat.
+    pub(crate) fn with_chair(self, s: u32, c: Chair) -> Table
+        ensures { result ≡ with_chair self s c }
+    {
+        let cs = self.chairs;
+        let ds = chairs::seats::put_chair(cs, s, c);
+        self.with_chairs(ds)
+    }
+
+    // The chair of a seat.
+    pub(crate) fn seat_of(self, s: u32) -> Chair
+        ensures { result ≡ seat_of self s }
+    {
+        let cs = self.chairs;
+        chairs::seats::chair_at(cs, s)
+    }
+
+    // The table with the count of entries taken.
+    pub(crate) fn with_taken(self, n: u32) -> Table
+        ensures { result ≡ with_taken self n }
+    {
+        let mut u = self;
+        u.taken = n;
+        u
+    }
 }
 
 // One more card on the board.

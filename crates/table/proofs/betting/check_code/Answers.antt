@@ -1,7 +1,0 @@
--- `check_code` meets its contract.
-use Rattle.table.specs.Betting.{check_code}
-use Rattle.table.proofs.betting.check_code.Goals as goal
-
-pub returns : goal.returns
-unfolding check_code
-returns c = rw (c.when.ensures, c.turn_code.ensures, c.round_of.ensures, c.requires.1) at c.or_else.ensures

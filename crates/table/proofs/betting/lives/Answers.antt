@@ -1,7 +1,0 @@
--- `lives` meets its contract.
-use Rattle.table.specs.Betting.{live_hands}
-use Rattle.table.proofs.betting.lives.Goals as goal
-
-pub returns : goal.returns
-unfolding live_hands
-returns c = c.lives.ensures

@@ -1,6 +1,0 @@
--- `nobody_owes` meets its contract.
-use Rattle.table.proofs.Reached.{turn_none}
-use Rattle.table.proofs.betting.nobody_owes.Goals as goal
-
-pub returns : goal.returns
-returns c = turn_none _ c.requires
