@@ -6,7 +6,6 @@ use Prim.Native.Nat.{ℕ}
 use lib.Dec.{leb}
 use borrow.Author.Tests.{le-leb}
 use Rattle.std.specs.Prelude.{Result, Ok, Err}
-use Rattle.paper.specs.declared.refusal.Refusal.TheVariants.{BadSheet}
 use Rattle.paper.specs.declared.refusal.Refusal.{Refusal}
 use Rattle.paper.specs.SheetAndEntries.{between, all_of, is_sheet, dealt_from, stand_in}
 use Rattle.paper.specs.declared.Sheet.{Sheet}
@@ -63,6 +62,6 @@ pub opened_read : (log : List ℕ) {o : Result Sheet Refusal} {s u : Sheet} → 
 unfolding opened_of
 opened_read log e f g = ap Ok g ∙ ap lone_read (sym f ∙ e)
 
-pub opened_bad : (log : List ℕ) {o : Result Sheet Refusal} → o ≡ sheet_of log → o ≡ Err BadSheet → (Err BadSheet) ≡ opened_of log
+pub opened_bad : (log : List ℕ) {o : Result Sheet Refusal} {why : Refusal} → o ≡ sheet_of log → o ≡ Err why → Err why ≡ opened_of log
 unfolding opened_of
 opened_bad log e f = ap lone_read (sym f ∙ e)

@@ -43,7 +43,7 @@ pub fn lone(s: Sheet) -> Sheet
 pub fn read_lone_sheet(log: &[u8]) -> Result<Sheet, Refusal>
     ensures { result ≡ opened_of log.now }
 {
-    read_sheet(log).map(lone)
+    Ok(lone(read_sheet(log)?))
 }
 
 // The one line of a bad sheet.
