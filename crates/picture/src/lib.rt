@@ -83,12 +83,10 @@ fn put_visible(out: &mut [u8], at: usize, bytes: &[u8]) -> usize
     requires { at + length bytes.now ≤ length out.old }
     ensures { Put (visible_all bytes.now) at out.old out.new result × (result ≡ at + length bytes.now) }
 {
-    let mut i: usize = 0;
-    while i < bytes.len() {
-        out[at + i] = visible(bytes[i]);
-        i += 1;
+    for (i, b) in bytes.iter().enumerate() {
+        out[at + i] = visible(*b);
     }
-    at + i
+    at + bytes.len()
 }
 
 // What stands before a foreign line, and before what is left of a long one.

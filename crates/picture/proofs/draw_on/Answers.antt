@@ -1,5 +1,4 @@
 -- `draw_on` meets its contract: at each turn what was drawn so far is said by `Drawing`.
-use Prim.Native.Nat.{◌-◌}
 use native.Mathlib.Omega.{arith}
 use borrow.Author.Rules.{rules}
 use Rattle.picture.proofs.Parts.{draw_start, draw_goes, draw_turn, draw_done}
