@@ -20,11 +20,11 @@ use Rattle.writing.specs.Nine.{nine_digits, nine_line}
 use Rattle.writing.proofs.Nine.{nine_count}
 use Rattle.pots.specs.declared.Pot.{Pot}
 use Rattle.answers.specs.declared.PaidRow.{PaidRow}
-use Rattle.answers.specs.declared.Jackpot.{Jackpot}
 use Rattle.answers.specs.declared.ShownPayout.{ShownPayout}
 use Rattle.answers.specs.declared.Shown.{Shown}
+use Rattle.std.specs.Prelude.{Option, Some, None, is_some}
 use Rattle.answers.specs.Answer.{joined, key_n, key_code, key_turn, key_mark, key_pot, key_back, key_fee, key_jackpot, key_sitting, key_paid, key_unclaimed, two_bytes, pot_bytes, row_bytes, state_bytes, jackpot_bytes, payout_bytes, table_bytes, answer_bytes, longest_shared, longest_with}
-use Rattle.answers.specs.Room.{Line, line, line_bytes, pot_line, table_lines, row_lines, rows_lines, jackpot_line, jackpot_lines, payout_lines, answer_lines, most_lines_with, longest_line}
+use Rattle.answers.specs.Room.{Line, line, line_bytes, pot_line, table_lines, row_lines, rows_lines, jackpot_lines, payout_lines, answer_lines, most_lines_with, longest_line}
 use Rattle.answers.proofs.Blocks.{joined_append, line_most}
 
 -- ---- an answer is its lines
@@ -48,13 +48,10 @@ rows_lines_law (r ∷ rs) = joined_append line_bytes (row_lines r) (rows_lines r
 one_line : (k : List ℕ) (n : ℕ) → joined line_bytes (line k n ∷ []) ≡ number_line k n
 one_line k n = append-nil (number_line k n)
 
-jackpot_lines_law : (j : Jackpot) → joined line_bytes (jackpot_lines j) ≡ jackpot_bytes j
+jackpot_lines_law : (j : Option ℕ) → joined line_bytes (jackpot_lines j) ≡ jackpot_bytes j
 unfolding jackpot_bytes
-jackpot_lines_law j = go j.shared
-  where
-    go : (b : Bool) → joined line_bytes (pick b (jackpot_line j ∷ []) []) ≡ pick b (nine_line key_jackpot j.amount) []
-    go true = append-nil (nine_line key_jackpot j.amount)
-    go false = refl
+jackpot_lines_law None = refl
+jackpot_lines_law (Some n) = append-nil (nine_line key_jackpot n)
 
 payout_lines_law : (p : ShownPayout) → joined line_bytes (payout_lines p) ≡ payout_bytes p
 unfolding payout_bytes
@@ -175,12 +172,9 @@ rows_good (r ∷ rs) = goods (row_lines r) (rows_lines rs) (go (eqb r.sitting 0)
     go true = tt
     go false = (good key_sitting r.sitting refl (omega arith), (good key_paid r.paid refl (omega arith), tt))
 
-jackpot_good : (j : Jackpot) → All Good (jackpot_lines j)
-jackpot_good j = go j.shared
-  where
-    go : (b : Bool) → All Good (pick b (jackpot_line j ∷ []) [])
-    go true = (record { plain = refl; short = omega arith }, tt)
-    go false = tt
+jackpot_good : (j : Option ℕ) → All Good (jackpot_lines j)
+jackpot_good None = tt
+jackpot_good (Some n) = (record { plain = refl; short = omega arith }, tt)
 
 payout_good : (p : ShownPayout) → All Good (payout_lines p)
 payout_good p =
@@ -222,14 +216,11 @@ rows_most (r ∷ rs) = omega (arith, length-append (row_lines r) (rows_lines rs)
     go true = omega arith
     go false = omega arith
 
-jackpot_one : (j : Jackpot) → length (jackpot_lines j) ≡ one j.shared
-jackpot_one j = go j.shared
-  where
-    go : (b : Bool) → length (pick b (jackpot_line j ∷ []) []) ≡ one b
-    go true = refl
-    go false = refl
+jackpot_one : (j : Option ℕ) → length (jackpot_lines j) ≡ one (is_some j)
+jackpot_one None = refl
+jackpot_one (Some n) = refl
 
-payout_most : (p : ShownPayout) → length p.rows ≤ 10 → length (payout_lines p) ≤ 22 + one p.jackpot.shared
+payout_most : (p : ShownPayout) → length p.rows ≤ 10 → length (payout_lines p) ≤ 22 + one (is_some p.jackpot)
 payout_most p h =
     let fee = line key_fee p.fee ∷ [] in
     let won = jackpot_lines p.jackpot in
@@ -260,12 +251,12 @@ bounds : (b : Bool) → (most_lines_with b ≡ 27 + one b) × (longest_with b �
 bounds true = (refl, refl)
 bounds false = (refl, refl)
 
-pub answer_lines_most : (s : Shown) → Few s → length (answer_lines s) ≤ most_lines_with s.payout.jackpot.shared
+pub answer_lines_most : (s : Shown) → Few s → length (answer_lines s) ≤ most_lines_with (is_some s.payout.jackpot)
 answer_lines_most s f =
-    omega (arith, length-append (table_lines s) (pick s.settled (payout_lines s.payout) []), go s.settled f.closed, (bounds s.payout.jackpot.shared).0)
+    omega (arith, length-append (table_lines s) (pick s.settled (payout_lines s.payout) []), go s.settled f.closed, (bounds (is_some s.payout.jackpot)).0)
   where
     go : (b : Bool) → (b ≡ true → s.pots.n ≡ 0)
-        → length (table_lines s) + length (pick b (payout_lines s.payout) []) ≤ 27 + one s.payout.jackpot.shared
+        → length (table_lines s) + length (pick b (payout_lines s.payout) []) ≤ 27 + one (is_some s.payout.jackpot)
     go true c = omega (arith, table_most s, payout_most s.payout f.rows, c refl)
     go false c = omega (arith, table_most s, f.pots)
 
@@ -273,13 +264,13 @@ answer_lines_most s f =
 pub answer_lfs : (s : Shown) → count 10 (answer_bytes s) ≡ length (answer_lines s)
 answer_lfs s = ap (count 10) (sym (answer_lines_law s)) ∙ lines_counted (answer_lines s) (answer_good s)
 
-pub answer_most : (s : Shown) → Few s → length (answer_bytes s) ≤ longest_with s.payout.jackpot.shared
+pub answer_most : (s : Shown) → Few s → length (answer_bytes s) ≤ longest_with (is_some s.payout.jackpot)
 answer_most s f =
-    omega (arith, ap length (answer_lines_law s), lines_room (answer_lines s) (answer_good s), answer_lines_most s f, (bounds s.payout.jackpot.shared).1)
+    omega (arith, ap length (answer_lines_law s), lines_room (answer_lines s) (answer_good s), answer_lines_most s f, (bounds (is_some s.payout.jackpot)).1)
 
 -- with a pool or without
 pub answer_any : (s : Shown) → Few s → length (answer_bytes s) ≤ longest_shared
-answer_any s f = omega (arith, answer_most s f, go s.payout.jackpot.shared)
+answer_any s f = omega (arith, answer_most s f, go (is_some s.payout.jackpot))
   where
     go : (b : Bool) → longest_with b ≤ longest_shared
     go true = omega arith

@@ -1,11 +1,10 @@
 -- Change request No. 8, "how much room": the answer block line by line, in document 01's order, so that its lines and their bytes are counted. Assumes nothing.
-use Rattle.std.specs.Prelude.{ℕ, Bool, true, false, List, [], ◌∷◌, ◌++◌, map, take, eqb}
+use Rattle.std.specs.Prelude.{ℕ, Bool, true, false, List, [], ◌∷◌, ◌++◌, map, take, eqb, Option, Some, None}
 use Rattle.laws.specs.Tests.{pick}
 use Rattle.text.specs.Line.{number_line}
 use Rattle.writing.specs.Nine.{nine_line}
 use Rattle.pots.specs.declared.Pot.{Pot}
 use Rattle.answers.specs.declared.PaidRow.{PaidRow}
-use Rattle.answers.specs.declared.Jackpot.{Jackpot}
 use Rattle.answers.specs.declared.ShownPayout.{ShownPayout}
 use Rattle.answers.specs.declared.Shown.{Shown}
 use Rattle.answers.specs.Answer.{key_n, key_code, key_turn, key_mark, key_pot, key_back, key_fee, key_jackpot, key_sitting, key_paid, key_unclaimed}
@@ -41,11 +40,12 @@ rows_lines [] = []
 rows_lines (r ∷ rs) = row_lines r ++ rows_lines rs
 
 -- "a `jackpot` line after `fee`"
-abbrev pub jackpot_line : Jackpot → Line
-jackpot_line j = record { key = key_jackpot; number = j.amount; nine = true }
+abbrev pub jackpot_line : ℕ → Line
+jackpot_line n = record { key = key_jackpot; number = n; nine = true }
 
-abbrev pub jackpot_lines : Jackpot → List Line
-jackpot_lines j = pick j.shared (jackpot_line j ∷ []) []
+abbrev pub jackpot_lines : Option ℕ → List Line
+jackpot_lines None = []
+jackpot_lines (Some n) = jackpot_line n ∷ []
 
 abbrev pub payout_lines : ShownPayout → List Line
 payout_lines p = (line key_fee p.fee ∷ []) ++ jackpot_lines p.jackpot ++ rows_lines p.rows ++ (line key_unclaimed p.unclaimed ∷ [])

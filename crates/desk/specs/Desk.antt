@@ -1,6 +1,6 @@
 -- Document 01, "The answer block" and "Refusal numbers": one block read, taken and answered.
 -- "12 stands in place of any of 0 to 10. After any of 1 to 10, or 12, the table and the count of taken entries equal those before."
-use Rattle.std.specs.Prelude.{ℕ, ◌<◌, ◌^◌, true, false, ◌≡◌, List, [], ◌∷◌, length, get_or, Result, Ok, Err}
+use Rattle.std.specs.Prelude.{ℕ, ◌<◌, ◌^◌, true, false, ◌≡◌, List, [], ◌∷◌, length, get_or, Result, Ok, Err, None}
 use Rattle.paper.specs.declared.Entry.{Entry}
 use Rattle.paper.specs.declared.refusal.Refusal.{Refusal}
 use Rattle.laws.specs.Tests.{pick}
@@ -17,7 +17,6 @@ use Rattle.table.specs.Settle.{pots_now, back_now, no_payout}
 use Rattle.table.specs.Take.{code_of, next_of, payout_of}
 use Rattle.pots.specs.Runs.{padded}
 use Rattle.answers.specs.declared.PaidRow.{PaidRow}
-use Rattle.answers.specs.declared.Jackpot.{Jackpot}
 use Rattle.answers.specs.declared.ShownPayout.{ShownPayout}
 use Rattle.answers.specs.declared.Shown.{Shown}
 use Rattle.answers.specs.Answer.{answer_bytes}
@@ -31,11 +30,8 @@ rows_of (s ∷ ss) [] = []
 rows_of (s ∷ ss) (p ∷ ps) = record { sitting = s; paid = p } ∷ rows_of ss ps
 
 -- a table that shares no pool shows no jackpot
-abbrev pub no_jackpot : Jackpot
-no_jackpot = record { shared = false; amount = 0 }
-
 abbrev pub payout_shown : Paid → ShownPayout
-payout_shown p = record { fee = p.fee; jackpot = no_jackpot; rows = rows_of p.sittings p.paid; unclaimed = p.unclaimed }
+payout_shown p = record { fee = p.fee; jackpot = None; rows = rows_of p.sittings p.paid; unclaimed = p.unclaimed }
 
 -- what the answer to a block with this number and code shows of the table after it, and of what the block paid
 unfoldable pub shown_of : ℕ → ℕ → Table → Paid → Shown

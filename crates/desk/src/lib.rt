@@ -10,9 +10,10 @@ ghost use Rattle.desk.specs.Desk.{rows_of, payout_shown, shown_of, refused_at, j
 ghost use Rattle.desk.specs.Room.{room_of};
 ghost use Rattle.desk.specs.Plans.{no_entry, plan_parsed, plan_of};
 
-use answers::{Jackpot, PaidRow, Shown, ShownPayout, answer_len, write_answer};
+use answers::{PaidRow, Shown, ShownPayout, answer_len, write_answer};
 use blocks::Block;
 use paper::{Entry, MALFORMED, NO_ROOM, OUT_OF_RANGE, Refusal, TAKEN, or_else};
+use blocks::Block;
 use quiet::shown_with;
 use table::settle::stands_now;
 use table::table::Table;
@@ -50,13 +51,9 @@ fn payout_shown(p: table::table::Payout) -> ShownPayout
 {
     let sittings = p.sittings;
     let paid = p.paid;
-    let none = Jackpot {
-        shared: false,
-        amount: 0,
-    };
     ShownPayout {
         fee: p.fee,
-        jackpot: none,
+        jackpot: None,
         rows: rows_of(sittings, paid),
         unclaimed: p.unclaimed,
     }

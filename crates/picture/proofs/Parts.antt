@@ -1,7 +1,7 @@
 -- The picture of an input that comes in parts is the picture of the whole, wherever it is cut; and the loop over a part, byte after byte. For any bytes.
 -- Assumes nothing.
 use Prim.Native.Nat.{ℕ, ◌+◌, ◌-◌, ◌≤◌, ◌<◌}
-use mathlib.Core.Bool.{Bool, true, false}
+use mathlib.Core.Bool.{Bool}
 use mathlib.Core.Path.{◌≡◌, refl, sym, ap, subst, ◌∙◌}
 use mathlib.Core.List.{List, [], ◌∷◌, ◌++◌, append_assoc, append-nil}
 use mathlib.Core.Logic.{⊎_elim}
@@ -9,11 +9,7 @@ use native.Mathlib.Numerals.{add-one}
 use native.Mathlib.Omega.{arith}
 use lib.ListN.{length, get_or, take, drop, length-drop}
 use lib.Seq.{take-suc, take-add}
-use lib.Dec.{ltb, leb}
-use borrow.Author.Tests.{ltb-true, leb-true, leb-false, lt-ltb}
 use borrow.Rule.Slice.PartMut.{mid_of}
-use Rattle.laws.specs.Tests.{both}
-use Rattle.laws.proofs.Tests.{both_true}
 use Rattle.laws.proofs.Sums.{le_or_lt}
 use Rattle.text.proofs.Parts.{part_is}
 use Rattle.writing.specs.AnswerSheet.{Wrote}
@@ -23,7 +19,7 @@ use Rattle.picture.specs.declared.Screen.{Screen}
 use Rattle.picture.specs.declared.Drawn.{Drawn}
 use Rattle.picture.specs.declared.Stepped.{Stepped}
 use Rattle.picture.specs.Screen.{drawn_most, Kept, Step, Held, state_of, step_of, close_of, fresh, picture_from, picture_of}
-use Rattle.picture.specs.Parts.{still, and_then, drawn_of, parts_drawn, whole, drawn_by, DrawnOn, DrawnTo, goes_on}
+use Rattle.picture.specs.Parts.{still, and_then, drawn_of, parts_drawn, whole, drawn_by, DrawnOn, DrawnTo}
 
 -- ---- one after another
 then_assoc : (x y z : Step) → and_then (and_then x y) z ≡ and_then x (and_then y z)
@@ -61,17 +57,6 @@ pub parts_picture : (colour : Bool) (parts : List (List ℕ))
 parts_picture colour parts =
     ap (λ (x : Step). x.drawn ++ close_of x.after) (parts_drawn_law colour fresh parts) ∙ sym (picture_end colour fresh (whole parts))
 
--- ---- the test
-
-goes_when : {b : Bool} (used size at room : ℕ) → b ≡ goes_on used size at room → b ≡ true → (used < size) × (drawn_most ≤ room - at)
-goes_when used size at room e y =
-    let h = both_true (ltb used size) (leb drawn_most (room - at)) (sym e ∙ y) in
-    (ltb-true used size h.0, leb-true drawn_most (room - at) h.1)
-
-stays_when : {b : Bool} (used size at room : ℕ) → b ≡ goes_on used size at room → b ≡ false → used < size → room - at < drawn_most
-stays_when used size at room e n l =
-    leb-false drawn_most (room - at) (sym (ap (λ (x : Bool). both x (leb drawn_most (room - at))) (lt-ltb used size l)) ∙ sym e ∙ n)
-
 -- ---- the loop over a part
 
 pub record Drawing (colour : Bool) (s : Screen) (buf₀ part out₀ buf out : List ℕ) (screen : Screen) (used at : ℕ) : Type 0 where
@@ -96,17 +81,12 @@ draw_start colour s buf part out h = record {
   state = refl;
 }
 
-module _ {colour : Bool} {s : Screen} {buf₀ part out₀ buf out : List ℕ} {screen : Screen} {used at : ℕ} (g : Drawing colour s buf₀ part out₀ buf out screen used at)
-    {b : Bool} (e : b ≡ goes_on used (length part) at (length out)) where
-  pub draw_goes : b ≡ true → (used < length part) × (at + drawn_most ≤ length out)
-  draw_goes y = let h = goes_when used (length part) at (length out) e y in (h.0, omega (arith, h.1, g.within, g.same))
-
+module _ {colour : Bool} {s : Screen} {buf₀ part out₀ buf out : List ℕ} {screen : Screen} {used at : ℕ} (g : Drawing colour s buf₀ part out₀ buf out screen used at) where
   -- one byte more
-  pub draw_turn : {r : Stepped} {buf2 out2 : List ℕ} → b ≡ true → Put (step_of colour (state_of screen buf) (get_or part used 0)).drawn at out out2 r.at
+  pub draw_turn : {r : Stepped} {buf2 out2 : List ℕ} → used < length part → Put (step_of colour (state_of screen buf) (get_or part used 0)).drawn at out out2 r.at
       → state_of r.screen buf2 ≡ (step_of colour (state_of screen buf) (get_or part used 0)).after → Held r.screen → length buf2 ≡ length buf → length out2 ≡ length out
       → Drawing colour s buf₀ part out₀ buf2 out2 r.screen (used + 1) r.at
-  draw_turn {r} {buf2} {out2} y p q h m n =
-      let l = (draw_goes y).0 in
+  draw_turn {r} {buf2} {out2} l p q h m n =
       let byte : ℕ = get_or part used 0 in
       let x : Step = drawn_by colour s buf₀ part used in
       let all : drawn_by colour s buf₀ part (used + 1) ≡ and_then x (step_of colour (state_of screen buf) byte) =
@@ -130,7 +110,8 @@ module _ {colour : Bool} {s : Screen} {buf₀ part out₀ buf out : List ℕ} {s
       let n : r ≡ length bs = omega (arith, p.count) in
       record { count = n; sheet = p.sheet ∙ ap (λ (i : ℕ). bs ++ drop i old) n }
 
-  pub draw_done : b ≡ false
+  -- the part is used up, or there is less room than a byte may draw
+  pub draw_done : (used < length part → length out - at < drawn_most)
       → DrawnOn colour s buf₀ part out₀ buf out (record { screen = screen; used = used; written = at })
       × ((Held screen × (used ≤ length part) × (at ≤ length out₀))
       × ((used < length part → length out₀ < at + drawn_most) × (0 < length part → drawn_most ≤ length out₀ → 0 < used)))
@@ -139,9 +120,9 @@ module _ {colour : Bool} {s : Screen} {buf₀ part out₀ buf out : List ℕ} {s
     (
       (g.held, g.inside, g.within),
       (
-        λ l. omega (arith, g.within, g.same, stays_when used (length part) at (length out) e n l),
+        λ l. omega (arith, g.within, g.same, n l),
         λ l m. ⊎_elim
-            (λ z. let k : used ≡ 0 = omega arith in absurd (omega (arith, g.same, g.first k, stays_when used (length part) at (length out) e n (omega arith))))
+            (λ z. let k : used ≡ 0 = omega arith in absurd (omega (arith, g.same, g.first k, n (omega arith))))
             (λ z. z)
             (le_or_lt used 0),
       ),

@@ -1,25 +1,21 @@
 -- The zeros in front of a number are passed one by one; and a number in nine digits, as the box writes it, is read back (`nine_read`). Assumes nothing.
 use mathlib.Core.Path.{◌≡◌, refl, sym, ap, ◌∙◌}
 use mathlib.Core.List.{List, [], ◌∷◌, ◌++◌, append_assoc}
-use mathlib.Core.Bool.{Bool, true, false, true≢false}
-use mathlib.Core.Logic.{⊎_elim}
-use Prim.Native.Nat.{ℕ, zero, suc, ◌+◌, ◌-◌, ◌≤◌, ◌<◌, ◌^◌}
-use native.Mathlib.Numerals.{add-one}
+use mathlib.Core.Bool.{true, true≢false}
+use Prim.Native.Nat.{ℕ, zero, suc, ◌-◌, ◌≤◌, ◌<◌, ◌^◌}
 use native.Mathlib.Omega.{arith}
-use lib.ListN.{length, get_or, drop, replicate, length-drop}
-use lib.Seq.{drop-cons}
-use lib.Dec.{eqb, leb, ltb}
-use borrow.Author.Tests.{eq-eqb, ne_eqb, eqb-true, eqb-false, lt-ltb, ltb-true, not-true}
+use lib.ListN.{length, get_or, drop, replicate}
+use lib.Dec.{eqb, leb}
+use borrow.Author.Tests.{eq-eqb, ne_eqb, eqb-false, not-true}
 use Rattle.std.specs.Prelude.{Some}
 use Rattle.laws.specs.Tests.{both}
 use Rattle.laws.proofs.Tests.{both_true}
-use Rattle.laws.proofs.Sums.{le_or_lt}
 use Rattle.text.specs.Number.{all_digits, digits, leads_well, well_formed}
 use Rattle.text.proofs.Numbers.{digits_formed, read_digits}
 use Rattle.text.proofs.RoundTrip.{NoLF, no_append, no_number}
 use Rattle.writing.specs.Nine.{nine_digits, nine_line}
 use Rattle.writing.proofs.Nine.{nine_is}
-use Rattle.picture.specs.Lines.{after_zeros, zero_leads, nine_of}
+use Rattle.picture.specs.Lines.{after_zeros, nine_of}
 
 -- ---- one byte after another
 
@@ -29,37 +25,22 @@ zero_led b c bs e = rw (eq-eqb b 48 e)
 other_led : (b c : ℕ) (bs : List ℕ) → (b ≡ 48 → ⊥) → after_zeros (b ∷ c ∷ bs) ≡ b ∷ c ∷ bs
 other_led b c bs e = rw (ne_eqb b 48 e)
 
-one_stays : (bs : List ℕ) → length bs ≤ 1 → after_zeros bs ≡ bs
+pub one_stays : (bs : List ℕ) → length bs ≤ 1 → after_zeros bs ≡ bs
 one_stays [] h = refl
 one_stays (b ∷ []) h = refl
 one_stays (b ∷ c ∷ bs) h = absurd (omega arith)
 
-module _ (bs : List ℕ) (i : ℕ) where
-  leads_when : zero_leads bs i ≡ true → (i + 1 < length bs) × (get_or bs i 0 ≡ 48)
-  unfolding zero_leads
-  leads_when e =
-      let p = both_true (ltb (i + 1) (length bs)) (eqb (get_or bs i 0) 48) e in
-      (ltb-true _ _ p.0, eqb-true _ 48 p.1)
+-- a zero in front is passed
+pub zero_passed : (bs : List ℕ) → 1 < length bs → get_or bs 0 0 ≡ 48 → after_zeros bs ≡ after_zeros (drop 1 bs)
+zero_passed [] h e = absurd (omega arith)
+zero_passed (b ∷ []) h e = absurd (omega arith)
+zero_passed (b ∷ c ∷ bs) h e = zero_led b c bs e
 
-  pub leads_within : {t : Bool} → t ≡ zero_leads bs i → t ≡ true → i + 1 < length bs
-  leads_within f e = (leads_when (sym f ∙ e)).0
-
-  -- a zero in front is passed
-  pub zero_passed : {t : Bool} → t ≡ zero_leads bs i → t ≡ true → after_zeros (drop i bs) ≡ after_zeros (drop (i + 1) bs)
-  zero_passed f e =
-      let p = leads_when (sym f ∙ e) in
-      rw (add-one i, drop-cons bs i 0 (omega arith), drop-cons bs (suc i) 0 (omega arith)) (zero_led (get_or bs i 0) (get_or bs (suc i) 0) (drop (suc (suc i)) bs) p.1)
-
-  -- where none leads, the bytes stay
-  pub none_leads : {t : Bool} → t ≡ zero_leads bs i → t ≡ false → after_zeros (drop i bs) ≡ drop i bs
-  unfolding zero_leads
-  none_leads f e =
-      ⊎_elim (λ (h : length bs ≤ i + 1). one_stays (drop i bs) (omega (arith, length-drop i bs)))
-      (λ (h : i + 1 < length bs).
-      let w : both (ltb (i + 1) (length bs)) (eqb (get_or bs i 0) 48) ≡ false = sym f ∙ e in
-      let n : eqb (get_or bs i 0) 48 ≡ false = rw (lt-ltb (i + 1) (length bs) h) at w in
-      rw (drop-cons bs i 0 (omega arith), drop-cons bs (suc i) 0 (omega arith)) (other_led (get_or bs i 0) (get_or bs (suc i) 0) (drop (suc (suc i)) bs) (eqb-false _ 48 n)))
-      (le_or_lt (length bs) (i + 1))
+-- where none leads, the bytes stay
+pub none_leads : (bs : List ℕ) → 1 < length bs → (get_or bs 0 0 ≡ 48 → ⊥) → after_zeros bs ≡ bs
+none_leads [] h e = absurd (omega arith)
+none_leads (b ∷ []) h e = absurd (omega arith)
+none_leads (b ∷ c ∷ bs) h e = other_led b c bs e
 
 -- ---- what is written is read back
 

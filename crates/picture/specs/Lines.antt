@@ -1,6 +1,6 @@
 -- Which answer line a line is. Document 01, "The answer block": its keys, and the numbers that the box writes behind them; and request No. 7's key `jackpot`.
-use Rattle.std.specs.Prelude.{ℕ, zero, suc, ◌+◌, ◌-◌, ◌≤◌, ◌<◌, ◌≡◌, List, [], ◌∷◌, Bool, length, get_or, eqb, leb, ltb, Option, Some, None}
-use Rattle.laws.specs.Tests.{pick, both}
+use Rattle.std.specs.Prelude.{ℕ, zero, suc, ◌+◌, ◌-◌, ◌≤◌, ◌<◌, ◌≡◌, List, [], ◌∷◌, length, get_or, eqb, leb, ltb, Option, Some, None}
+use Rattle.laws.specs.Tests.{pick}
 use Rattle.text.specs.Number.{number_of}
 use Rattle.text.specs.Line.{value_of, number_line}
 use Rattle.writing.specs.Nine.{nine_line}
@@ -50,10 +50,6 @@ abbrev pub after_zeros : List ℕ → List ℕ
 after_zeros [] = []
 after_zeros (b ∷ []) = b ∷ []
 after_zeros (b ∷ c ∷ bs) = pick (eqb b 48) (after_zeros (c ∷ bs)) (b ∷ c ∷ bs)
-
--- a zero in front at the place i
-unfoldable pub zero_leads : List ℕ → ℕ → Bool
-zero_leads bs i = both (ltb (i + 1) (length bs)) (eqb (get_or bs i 0) 48)
 
 -- request No. 7: "always nine digits, zeros in front"
 unfoldable pub nine_of : List ℕ → Option ℕ

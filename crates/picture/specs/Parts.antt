@@ -1,11 +1,10 @@
 -- The picture of a part of the input: what its bytes draw one by one, and what is kept after them; and an input that comes in parts. Assumes nothing.
-use Rattle.std.specs.Prelude.{ℕ, ◌-◌, ◌≤◌, ◌≡◌, List, [], ◌∷◌, ◌++◌, Bool, take, drop, ltb, leb}
+use Rattle.std.specs.Prelude.{ℕ, ◌-◌, ◌≤◌, ◌≡◌, List, [], ◌∷◌, ◌++◌, Bool, take, drop}
 pub use Rattle.laws.specs.Lists.{whole}
-use Rattle.laws.specs.Tests.{both}
 use Rattle.writing.specs.AnswerSheet.{Wrote}
 use Rattle.picture.specs.declared.Screen.{Screen}
 use Rattle.picture.specs.declared.Drawn.{Drawn}
-use Rattle.picture.specs.Screen.{Kept, Step, drawn_most, state_of, step_of}
+use Rattle.picture.specs.Screen.{Kept, Step, state_of, step_of}
 
 abbrev pub still : Kept → Step
 still k = record { after = k; drawn = [] }
@@ -35,7 +34,3 @@ pub record DrawnOn (colour : Bool) (s : Screen) (buf part out buf2 out2 : List �
 -- the screen that had drawn a part up to one place has drawn it up to another
 abbrev pub DrawnTo : Bool → Screen → List ℕ → List ℕ → ℕ → Screen → List ℕ → ℕ → Type 0
 DrawnTo colour s buf part from d buf2 to = (from ≤ to) × (state_of d buf2 ≡ (drawn_by colour s buf (drop from part) (to - from)).after)
-
--- bytes of the part are left, and there is room for what any byte draws
-abbrev pub goes_on : ℕ → ℕ → ℕ → ℕ → Bool
-goes_on used size at room = both (ltb used size) (leb drawn_most (room - at))

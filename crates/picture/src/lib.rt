@@ -10,7 +10,7 @@ ghost use Rattle.picture.specs.Lines.{Answering};
 ghost use Rattle.picture.specs.Rows.{visible_of, visible_all, mark_of, foreign_row};
 ghost use Rattle.figures.specs.ScreenRow.{counted_of};
 ghost use Rattle.picture.specs.Screen.{line_most, line_room, drawn_most, close_most, Held, state_of, start_of, said_of, shown_of, step_of, close_of};
-ghost use Rattle.picture.specs.Parts.{DrawnOn, goes_on};
+ghost use Rattle.picture.specs.Parts.{DrawnOn};
 
 use figures::put::{put, put_if};
 use figures::row;
@@ -83,12 +83,10 @@ fn put_visible(out: &mut [u8], at: usize, bytes: &[u8]) -> usize
     requires { at + length bytes.now ≤ length out.old }
     ensures { Put (visible_all bytes.now) at out.old out.new result × (result ≡ at + length bytes.now) }
 {
-    let mut i: usize = 0;
-    while i < bytes.len() {
-        out[at + i] = visible(bytes[i]);
-        i += 1;
+    for (i, b) in bytes.iter().enumerate() {
+        out[at + i] = visible(*b);
     }
-    at + i
+    at + bytes.len()
 }
 
 // What stands before a foreign line, and before what is left of a long one.
@@ -201,17 +199,6 @@ pub struct Drawn {
     pub written: usize,
 }
 
-// Whether bytes of the part are left, and there is room for what any byte draws.
-fn goes_on(used: usize, size: usize, at: usize, room: usize) -> bool
-    requires { at ≤ room }
-    ensures { result ≡ goes_on used size at room }
-{
-    if used < size {
-        return MOST <= room - at;
-    }
-    false
-}
-
 // A part of the input, byte after byte, until it is used up, or until there is less room than a byte may draw.
 pub fn draw_on(colour: bool, s: Screen, buf: &mut [u8], part: &[u8], out: &mut [u8]) -> Drawn
     requires { Held s × (line_room ≤ length buf.old) }
@@ -220,18 +207,22 @@ pub fn draw_on(colour: bool, s: Screen, buf: &mut [u8], part: &[u8], out: &mut [
     ensures far { (result.used < length part.now → length out.old < result.written + drawn_most) × (0 < length part.now → drawn_most ≤ length out.old → 0 < result.used) }
 {
     let mut screen = s;
-    let mut used: usize = 0;
     let mut at: usize = 0;
-    while goes_on(used, part.len(), at, out.len()) {
-        let d = step(colour, screen, buf, part[used], out, at);
-        let next = d.screen;
-        screen = next;
+    for (i, b) in part.iter().enumerate() {
+        if out.len() - at < MOST {
+            return Drawn {
+                screen,
+                used: i,
+                written: at,
+            };
+        }
+        let d = step(colour, screen, buf, *b, out, at);
+        screen = d.screen;
         at = d.at;
-        used += 1;
     }
     Drawn {
         screen,
-        used,
+        used: part.len(),
         written: at,
     }
 }

@@ -1,7 +1,7 @@
 // Which answer line a line is, by a table of the keys.
-ghost use Rattle.std.specs.Prelude.{◌≡◌, ◌≤◌, ◌<◌, length, get_or};
+ghost use Rattle.std.specs.Prelude.{◌≡◌, ◌<◌, get_or};
 ghost use Rattle.text.specs.Line.{value_of};
-ghost use Rattle.picture.specs.Lines.{Answering, line_kinds, mosts, zero_leads, after_zeros, nine_of, number_as, line_with, line_at, answer_line};
+ghost use Rattle.picture.specs.Lines.{Answering, line_kinds, mosts, after_zeros, nine_of, number_as, line_with, line_at, answer_line};
 
 use crate::Line;
 use figures::row::KINDS;
@@ -77,26 +77,15 @@ const KEYS: [Key; KINDS] = [
 // The key whose number has nine digits, with zeros in front.
 const JACKPOT: usize = 10;
 
-// Whether a zero stands in front at i: not as the last byte.
-fn zero_at(part: &[u8], i: usize) -> bool
-    requires { i ≤ length part.now }
-    ensures { result ≡ zero_leads part.now i }
-{
-    if i + 1 < part.len() {
-        return part[i] == 48;
-    }
-    false
-}
-
-// The bytes behind the zeros in front.
+// The bytes behind the zeros in front; the last byte is none of these.
 fn after_zeros(part: &[u8]) -> &[u8]
     ensures { result.now ≡ after_zeros part.now }
 {
-    let mut i: usize = 0;
-    while zero_at(part, i) {
-        i += 1;
+    let mut left = part;
+    while 1 < left.len() && left[0] == b'0' {
+        left = &left[1..];
     }
-    &part[i..]
+    left
 }
 
 // The number that nine digits are.
@@ -162,14 +151,11 @@ fn line_at(line: &[u8], k: usize) -> Line
 pub(crate) fn read_line(line: &[u8]) -> Line
     ensures { (result ≡ answer_line line.now) × Answering result }
 {
-    let mut k: usize = 0;
-    while k < KINDS {
+    for k in 0..KINDS {
         let l = line_at(line, k);
-        let kind = l.kind;
-        if kind < KINDS {
+        if l.kind < KINDS {
             return l;
         }
-        k += 1;
     }
     Line {
         kind: KINDS,

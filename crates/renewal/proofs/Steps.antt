@@ -5,7 +5,7 @@ use mathlib.Core.Path.{◌≡◌, refl, sym, ap, subst, ◌∙◌}
 use mathlib.Core.List.{List, [], ◌∷◌, ◌++◌}
 use native.Mathlib.Omega.{arith}
 use lib.ListN.{length, set, length-drop}
-use lib.Dec.{eqb, ltb, leb}
+use lib.Dec.{eqb}
 use borrow.Author.Tests.{eq-eqb, ne_eqb, eqb-false, leb-false}
 use borrow.Rule.Slice.PartMut.{mid_of, put_mid}
 use Rattle.laws.specs.Tests.{pick, both}
@@ -17,7 +17,7 @@ use Rattle.writing.proofs.Sheets.{then, push, push_first}
 use Rattle.renewal.specs.declared.Renewal.{Renewal}
 use Rattle.renewal.specs.OldSheets.{meant, missing, added_lines}
 use Rattle.renewal.specs.Renewing.{Step, gives, behind_lines, in_line, holding, ended_after, onward_of, may_end, held_step, sheet_step, step_of, close_of, InSheet, given_most}
-use Rattle.renewal.specs.Parts.{Gave, goes_on}
+use Rattle.renewal.specs.Parts.{Gave}
 
 -- ---- the constants
 
@@ -63,14 +63,6 @@ lines_short k {more} all m = subst (λ (l : List ℕ). length l ≤ length all) 
 pub lines_put : (k : ℕ) {more : List ℕ} (all : List ℕ) {out out2 : List ℕ} {r : ℕ} → more ≡ after_lines (k - 5) all → Wrote more out out2 r
     → Wrote (after_lines (k - 5) all) out out2 r × (r ≤ length all)
 lines_put k {more} all {out} {out2} {r} m w = (subst (λ (l : List ℕ). Wrote l out out2 r) m w, omega (arith, w.count, lines_short k all m))
-
--- ---- the tests
-
-pub goes_is : {b done : Bool} (used size room : ℕ) → done ≡ false → b ≡ both (ltb used size) (leb 31 room) → b ≡ goes_on done used size room
-goes_is {b} {done} used size room d e =
-    e
-    ∙ ap (λ (n : ℕ). both (ltb used size) (leb n room)) (sym most_is)
-    ∙ ap (λ (x : Bool). pick x false (both (ltb used size) (leb given_most room))) (sym d)
 
 -- ---- a byte of a line
 

@@ -1,11 +1,10 @@
 -- A part of a log renewed: what its bytes give one by one; and a log that comes in parts. Assumes nothing.
-use Rattle.std.specs.Prelude.{ℕ, ◌≡◌, List, [], ◌∷◌, Bool, false, take, ltb, leb}
+use Rattle.std.specs.Prelude.{ℕ, ◌≡◌, List, [], ◌∷◌, take}
 pub use Rattle.laws.specs.Lists.{whole}
-use Rattle.laws.specs.Tests.{both, pick}
 use Rattle.writing.specs.AnswerSheet.{Wrote}
 use Rattle.renewal.specs.declared.Renewal.{Renewal}
 use Rattle.renewal.specs.declared.Given.{Given}
-use Rattle.renewal.specs.Renewing.{Step, still, and_then, given_of, given_most}
+use Rattle.renewal.specs.Renewing.{Step, still, and_then, given_of}
 
 -- part after part
 abbrev pub parts_given : Renewal → List (List ℕ) → Step
@@ -24,7 +23,3 @@ pub record Gave (x : Step) (out out2 : List ℕ) (s : Renewal) (written : ℕ) :
 -- the promise of a call: with the bytes that it used up it has given what they give one by one
 abbrev pub GivenOn : Renewal → List ℕ → List ℕ → List ℕ → Given → Type 0
 GivenOn s part out out2 r = Gave (given_by s part r.used) out out2 r.renewal r.written
-
--- the sheet has not ended, bytes of the part are left, and there is room for what any byte gives
-abbrev pub goes_on : Bool → ℕ → ℕ → ℕ → Bool
-goes_on done used size room = pick done false (both (ltb used size) (leb given_most room))

@@ -7,7 +7,7 @@ ghost use Rattle.text.specs.TableSheet.{sheet_lines};
 ghost use Rattle.writing.specs.AnswerSheet.{Wrote};
 ghost use Rattle.renewal.specs.OldSheets.{first_lines, meant, missing, added_lines, added};
 ghost use Rattle.renewal.specs.Renewing.{onward_of, may_end, held_step, step_of, close_of, start_of, InSheet, given_most};
-ghost use Rattle.renewal.specs.Parts.{Gave, GivenOn, goes_on};
+ghost use Rattle.renewal.specs.Parts.{Gave, GivenOn};
 
 use laws::both;
 use text::line::after_lines;
@@ -191,16 +191,6 @@ pub struct Given {
     pub written: usize,
 }
 
-// Whether the sheet has not ended, bytes of the part are left, and there is room for what any byte gives.
-fn goes_on(done: bool, used: usize, size: usize, room: usize) -> bool
-    ensures { result ≡ goes_on done used size room }
-{
-    if done {
-        return false;
-    }
-    both(used < size, MOST <= room)
-}
-
 // A part of the log, byte after byte, until the sheet has ended, the part is used up, or there is less room than a byte may give. Behind the sheet every
 // byte passes, so the caller takes the rest as it is.
 pub fn renew_on(s: Renewal, part: &[u8], out: &mut [u8]) -> Given
@@ -210,18 +200,22 @@ pub fn renew_on(s: Renewal, part: &[u8], out: &mut [u8]) -> Given
     ensures far { s.done ≡ false → 0 < length part.now → given_most ≤ length out.old → 0 < result.used }
 {
     let mut renewal = s;
-    let mut used: usize = 0;
     let mut at: usize = 0;
-    while goes_on(renewal.done, used, part.len(), out.len() - at) {
-        let d = step(renewal, part[used], &mut out[at..]);
-        let next = d.renewal;
-        renewal = next;
+    for (i, b) in part.iter().enumerate() {
+        if renewal.done || out.len() - at < MOST {
+            return Given {
+                renewal,
+                used: i,
+                written: at,
+            };
+        }
+        let d = step(renewal, *b, &mut out[at..]);
+        renewal = d.renewal;
         at += d.written;
-        used += 1;
     }
     Given {
         renewal,
-        used,
+        used: part.len(),
         written: at,
     }
 }

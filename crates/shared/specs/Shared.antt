@@ -1,7 +1,7 @@
 -- Request No. 7: one block at a table that shares a pool. The block is judged by the table alone, whatever the pool holds; a taken settle's drop goes into the pool, what
 -- doesn't fit to the house, and the royal flush wins the whole of it; "a settled block has a `jackpot` line after `fee`, this hand's win or 0". A table that shares a
 -- pool refuses corrections with 14 (No. 12). After a refusal, and after 12, the table and the pool are those before. Assumes nothing.
-use Rattle.std.specs.Prelude.{ℕ, Bool, true, List, [], length, Result, Ok, Err}
+use Rattle.std.specs.Prelude.{ℕ, Bool, List, [], length, Result, Ok, Err, Some}
 use Rattle.paper.specs.declared.refusal.Refusal.TheVariants.{NoRoom}
 use Rattle.paper.specs.declared.refusal.Refusal.{Refusal}
 use Rattle.laws.specs.Tests.{pick}
@@ -48,7 +48,7 @@ with_jackpot amount s = record {
   pots = s.pots;
   back = s.back;
   settled = s.settled;
-  payout = record { fee = s.payout.fee; jackpot = record { shared = true; amount = amount }; rows = s.payout.rows; unclaimed = s.payout.unclaimed };
+  payout = record { fee = s.payout.fee; jackpot = Some amount; rows = s.payout.rows; unclaimed = s.payout.unclaimed };
 }
 
 abbrev pub shown_at : Judged → ℕ → Shown

@@ -11,7 +11,7 @@ ghost use Rattle.desk.specs.Desk.{SmallPaid, Closed};
 ghost use Rattle.shared.specs.Shared.{corrected_number, judged_at, hand_of, with_jackpot, shown_at, bytes_at, room_at, said, kept, shared_from};
 
 use amends::is_right;
-use answers::{Jackpot, Shown, answer_len, write_answer};
+use answers::{Shown, answer_len, write_answer};
 use desk::{Judged, judge, refused, shown_of};
 use paper::{NO_ROOM, SHARES_POOL};
 use pool::{Hand, Pool, Settled, settled_pool};
@@ -74,12 +74,8 @@ fn with_jackpot(s: Shown, amount: u32) -> Shown
     requires { SmallShown s × (amount < 10 ^ 9) }
     ensures { (result ≡ with_jackpot amount s) × SmallShown result }
 {
-    let won = Jackpot {
-        shared: true,
-        amount,
-    };
     let mut p = s.payout;
-    p.jackpot = won;
+    p.jackpot = Some(amount);
     let mut u = s;
     u.payout = p;
     u

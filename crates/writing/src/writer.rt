@@ -26,14 +26,22 @@ pub fn put_bytes(sheet: &mut [u8], bytes: &[u8]) -> usize
     n
 }
 
+// What a line begins with: `key=` at the front of the sheet.
+fn put_key(sheet: &mut [u8], key: &[u8]) -> usize
+    requires { length key.now < length sheet.old }
+    ensures { Wrote (key.now ++ (61 ∷ [])) sheet.old sheet.new result }
+{
+    let a = put_bytes(sheet, key);
+    a + put_byte(&mut sheet[a..], b'=')
+}
+
 // The line `key=n` with its LF at the front of the sheet.
 pub fn write_number_line(sheet: &mut [u8], key: &[u8], n: u32) -> usize
     requires { (n < 10 ^ 9) × (length (number_line key.now n) ≤ length sheet.old) }
     ensures { Wrote (number_line key.now n) sheet.old sheet.new result }
 {
-    let a = put_bytes(sheet, key);
-    let b = a + put_byte(&mut sheet[a..], 61);
-    b + put_end(&mut sheet[b..], n)
+    let a = put_key(sheet, key);
+    a + put_end(&mut sheet[a..], n)
 }
 
 // The end of a line: the digits of n and the LF. One digit or two, as most numbers of an answer have, go without a call and to places that are known beforehand.
@@ -73,9 +81,8 @@ pub fn write_amount_line(sheet: &mut [u8], key: &[u8], n: u32) -> usize
     requires { (n < 10 ^ 9) × (length (number_line key.now n) ≤ length sheet.old) }
     ensures { Wrote (number_line key.now n) sheet.old sheet.new result }
 {
-    let a = put_bytes(sheet, key);
-    let b = a + put_byte(&mut sheet[a..], 61);
-    b + end_amount(&mut sheet[b..], n)
+    let a = put_key(sheet, key);
+    a + end_amount(&mut sheet[a..], n)
 }
 
 fn end_amount(sheet: &mut [u8], n: u32) -> usize
@@ -107,8 +114,7 @@ pub fn write_nine_line(sheet: &mut [u8], key: &[u8], n: u32) -> usize
     requires { (n < 10 ^ 9) × (length (nine_line key.now n) ≤ length sheet.old) }
     ensures { Wrote (nine_line key.now n) sheet.old sheet.new result }
 {
-    let a = put_bytes(sheet, key);
-    let b = a + put_byte(&mut sheet[a..], 61);
-    let c = b + put_nine(&mut sheet[b..], n);
-    c + put_byte(&mut sheet[c..], 10)
+    let a = put_key(sheet, key);
+    let b = a + put_nine(&mut sheet[a..], n);
+    b + put_byte(&mut sheet[b..], 10)
 }

@@ -1,15 +1,16 @@
 -- `put_jackpot` meets its contract.
-use native.Mathlib.Omega.{arith}
-use Rattle.answers.proofs.Blocks.{jackpot_shared, jackpot_lone}
-use lib.ListN.{length}
-use mathlib.Core.Path.{refl, ap}
+use mathlib.Core.Path.{refl}
+use Rattle.answers.specs.Answer.{jackpot_bytes}
 use Rattle.answers.proofs.put_jackpot.Goals as goal
 
 pub write_nine_line-requires : goal.write_nine_line-requires
-write_nine_line-requires c = (c.requires.0, omega (arith, ap length (jackpot_shared c.args.j c.if-j.true)))
+unfolding jackpot_bytes
+write_nine_line-requires c = rw c.in-Some.is at c.requires
 
-pub returns-then-j : goal.returns-then-j
-returns-then-j c = rw (jackpot_shared c.args.j c.if-j.true) c.write_nine_line.ensures
+pub returns-in-Some : goal.returns-in-Some
+unfolding jackpot_bytes
+returns-in-Some c = rw c.in-Some.is c.write_nine_line.ensures
 
-pub returns : goal.returns
-returns c = rw (jackpot_lone c.args.j c.if-j.false) (record { count = refl; sheet = refl })
+pub returns-in-None : goal.returns-in-None
+unfolding jackpot_bytes
+returns-in-None c = rw c.in-None.is (record { count = refl; sheet = refl })

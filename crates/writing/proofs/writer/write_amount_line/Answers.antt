@@ -1,4 +1,4 @@
--- `write_amount_line` meets its contract: each writer writes behind the ones before it.
+-- `write_amount_line` meets its contract: the end is written behind the key.
 use lib.ListN.{length-append}
 use mathlib.Core.List.{[], ◌∷◌, ◌++◌, append_assoc}
 use native.Mathlib.Omega.{arith}
@@ -8,30 +8,13 @@ use Rattle.text.specs.Number.{digits}
 use Rattle.text.specs.Line.{number_line}
 use Rattle.writing.proofs.writer.write_amount_line.Goals as goal
 
-pub put_bytes-a-requires : goal.put_bytes-a-requires
-put_bytes-a-requires c = let s = c in omega (arith, line_count s.args.key.now s.args.n)
-
-pub slice_bounds-put_byte-count : goal.slice_bounds-put_byte-count
-slice_bounds-put_byte-count c = let s = c in omega (arith, line_count s.args.key.now s.args.n)
-
-pub slice_bounds-put_byte-start : goal.slice_bounds-put_byte-start
-slice_bounds-put_byte-start c = let s = c in omega (arith, line_count s.args.key.now s.args.n)
-
-pub put_byte-requires : goal.put_byte-requires
-put_byte-requires c = let s = c in omega (arith, line_count s.args.key.now s.args.n)
-
-pub slice_bounds-end_amount-count : goal.slice_bounds-end_amount-count
-slice_bounds-end_amount-count c = let s = c in omega (arith, line_count s.args.key.now s.args.n)
-
-pub slice_bounds-end_amount-start : goal.slice_bounds-end_amount-start
-slice_bounds-end_amount-start c = let s = c in omega (arith, line_count s.args.key.now s.args.n)
+pub put_key-a-requires : goal.put_key-a-requires
+put_key-a-requires c = omega (arith, line_count c.args.key.now c.args.n)
 
 pub end_amount-requires : goal.end_amount-requires
-end_amount-requires c = let s = c in (s.requires.0, omega (arith, line_count s.args.key.now s.args.n))
-
-pub overflow_add-result : goal.overflow_add-result
-overflow_add-result c = let s = c in omega (arith, line_count s.args.key.now s.args.n, c.end_amount.ensures.count, length-append (digits s.args.n) (10 ∷ []))
+end_amount-requires c = (c.requires.0, omega (arith, line_count c.args.key.now c.args.n, length-append c.args.key.now (61 ∷ [])))
 
 pub returns : goal.returns
 unfolding number_line
-returns c = let s = c in let key = s.args.key.now in same_bytes (append_assoc (key ++ (61 ∷ [])) (digits s.args.n) (10 ∷ [])) (then (then c.put_bytes-a.ensures c.put_byte.ensures) c.end_amount.ensures)
+returns c =
+    same_bytes (append_assoc (c.args.key.now ++ (61 ∷ [])) (digits c.args.n) (10 ∷ [])) (then c.put_key-a.ensures c.end_amount.ensures)

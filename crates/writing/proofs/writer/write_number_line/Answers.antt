@@ -1,4 +1,4 @@
--- `write_number_line` meets its contract: each writer writes behind the ones before it.
+-- `write_number_line` meets its contract: the end is written behind the key.
 use lib.ListN.{length-append}
 use mathlib.Core.List.{[], ◌∷◌, ◌++◌, append_assoc}
 use native.Mathlib.Omega.{arith}
@@ -8,30 +8,13 @@ use Rattle.text.specs.Number.{digits}
 use Rattle.text.specs.Line.{number_line}
 use Rattle.writing.proofs.writer.write_number_line.Goals as goal
 
-pub put_bytes-a-requires : goal.put_bytes-a-requires
-put_bytes-a-requires c = let s = c in omega (arith, line_count s.args.key.now s.args.n)
-
-pub slice_bounds-put_byte-count : goal.slice_bounds-put_byte-count
-slice_bounds-put_byte-count c = let s = c in omega (arith, line_count s.args.key.now s.args.n)
-
-pub slice_bounds-put_byte-start : goal.slice_bounds-put_byte-start
-slice_bounds-put_byte-start c = let s = c in omega (arith, line_count s.args.key.now s.args.n)
-
-pub put_byte-requires : goal.put_byte-requires
-put_byte-requires c = let s = c in omega (arith, line_count s.args.key.now s.args.n)
-
-pub slice_bounds-put_end-count : goal.slice_bounds-put_end-count
-slice_bounds-put_end-count c = let s = c in omega (arith, line_count s.args.key.now s.args.n)
-
-pub slice_bounds-put_end-start : goal.slice_bounds-put_end-start
-slice_bounds-put_end-start c = let s = c in omega (arith, line_count s.args.key.now s.args.n)
+pub put_key-a-requires : goal.put_key-a-requires
+put_key-a-requires c = omega (arith, line_count c.args.key.now c.args.n)
 
 pub put_end-requires : goal.put_end-requires
-put_end-requires c = let s = c in (s.requires.0, omega (arith, line_count s.args.key.now s.args.n))
-
-pub overflow_add-result : goal.overflow_add-result
-overflow_add-result c = let s = c in omega (arith, line_count s.args.key.now s.args.n, c.put_end.ensures.count, length-append (digits s.args.n) (10 ∷ []))
+put_end-requires c = (c.requires.0, omega (arith, line_count c.args.key.now c.args.n, length-append c.args.key.now (61 ∷ [])))
 
 pub returns : goal.returns
 unfolding number_line
-returns c = let s = c in let key = s.args.key.now in same_bytes (append_assoc (key ++ (61 ∷ [])) (digits s.args.n) (10 ∷ [])) (then (then c.put_bytes-a.ensures c.put_byte.ensures) c.put_end.ensures)
+returns c =
+    same_bytes (append_assoc (c.args.key.now ++ (61 ∷ [])) (digits c.args.n) (10 ∷ [])) (then c.put_key-a.ensures c.put_end.ensures)
