@@ -27,9 +27,10 @@ use Rattle.pool.specs.declared.Pool.{Pool}
 use Rattle.pool.specs.declared.PoolOpened as opens
 use Rattle.laws.proofs.Tests.{test}
 use mathlib.Core.Logic.{◌⊎◌, inl, inr}
+use Rattle.frames.specs.declared.Due.{Due}
 use Rattle.frames.specs.Frames.{table_key}
 use Rattle.couple.specs.declared.Pair.{Pair}
-use Rattle.couple.specs.Couple.{is_second, table_at, with_table, start_of, shown_bytes, pool_key, house_key, last_bytes, still, refused, pool_done, sheet_done, Gave, Good}
+use Rattle.couple.specs.Couple.{is_second, table_at, with_table, start_of, named, shown_bytes, pool_key, house_key, last_bytes, still, refused, pool_done, sheet_done, Gave, Good}
 
 -- ---- a table by its place
 
@@ -99,24 +100,24 @@ house_is h part q e f g = (g ∙ ap (λ (x : ℕ). h + x) (f ∙ ap (min part) e
 pub line_most : (key : List ℕ) (n : ℕ) → length (number_line key n) ≤ length key + 11
 line_most key n = omega (arith, line_count key n, count_most n)
 
-module _ (only due : ℕ) (answer : List ℕ) {out new : List ℕ} {r : ℕ} where
-  pub shown_both : {n : ℕ} → n ≡ due - 4 → only ≡ 0 → Wrote (number_line table_key n ++ answer) out new r → Wrote (shown_bytes only due answer) out new r
+module _ (only : ℕ) (due : Due) (answer : List ℕ) {out new : List ℕ} {r : ℕ} where
+  pub shown_both : {n : ℕ} → n ≡ named due → only ≡ 0 → Wrote (number_line table_key n ++ answer) out new r → Wrote (shown_bytes only due answer) out new r
   unfolding shown_bytes
   shown_both {n} q e v =
-      let w : Wrote (number_line table_key (due - 4) ++ answer) out new r = subst (λ (i : ℕ). Wrote (number_line table_key i ++ answer) out new r) q v in
-      subst (λ (b : Bool). Wrote (pick b (number_line table_key (due - 4) ++ answer) (pick (eqb (only + 4) due) answer [])) out new r) (sym (eq-eqb only 0 e)) w
+      let w : Wrote (number_line table_key (named due) ++ answer) out new r = subst (λ (i : ℕ). Wrote (number_line table_key i ++ answer) out new r) q v in
+      subst (λ (b : Bool). Wrote (pick b (number_line table_key (named due) ++ answer) (pick (eqb only (named due)) answer [])) out new r) (sym (eq-eqb only 0 e)) w
 
-  pub shown_one : (only ≡ 0 → ⊥) → only + 4 ≡ due → Wrote answer out new r → Wrote (shown_bytes only due answer) out new r
+  pub shown_one : {n : ℕ} → n ≡ named due → (only ≡ 0 → ⊥) → only ≡ n → Wrote answer out new r → Wrote (shown_bytes only due answer) out new r
   unfolding shown_bytes
-  shown_one n e w =
-      subst (λ (b : Bool). Wrote (pick b (number_line table_key (due - 4) ++ answer) (pick (eqb (only + 4) due) answer [])) out new r) (sym (ne_eqb only 0 n))
-      (subst (λ (b : Bool). Wrote (pick b answer []) out new r) (sym (eq-eqb (only + 4) due e)) w)
+  shown_one {n} q z e w =
+      subst (λ (b : Bool). Wrote (pick b (number_line table_key (named due) ++ answer) (pick (eqb only (named due)) answer [])) out new r) (sym (ne_eqb only 0 z))
+      (subst (λ (b : Bool). Wrote (pick b answer []) out new r) (sym (eq-eqb only (named due) (e ∙ q))) w)
 
-pub shown_none : (only due : ℕ) (answer : List ℕ) {out : List ℕ} → (only ≡ 0 → ⊥) → (only + 4 ≡ due → ⊥) → Wrote (shown_bytes only due answer) out out 0
+pub shown_none : (only : ℕ) (due : Due) (answer : List ℕ) {out : List ℕ} {n : ℕ} → n ≡ named due → (only ≡ 0 → ⊥) → (only ≡ n → ⊥) → Wrote (shown_bytes only due answer) out out 0
 unfolding shown_bytes
-shown_none only due answer {out} n m =
-    subst (λ (b : Bool). Wrote (pick b (number_line table_key (due - 4) ++ answer) (pick (eqb (only + 4) due) answer [])) out out 0) (sym (ne_eqb only 0 n))
-    (subst (λ (b : Bool). Wrote (pick b answer []) out out 0) (sym (ne_eqb (only + 4) due m)) (record { count = refl; sheet = refl }))
+shown_none only due answer {out} {n} q z m =
+    subst (λ (b : Bool). Wrote (pick b (number_line table_key (named due) ++ answer) (pick (eqb only (named due)) answer [])) out out 0) (sym (ne_eqb only 0 z))
+    (subst (λ (b : Bool). Wrote (pick b answer []) out out 0) (sym (ne_eqb only (named due) (λ e. m (e ∙ sym q)))) (record { count = refl; sheet = refl }))
 
 -- ---- the last lines
 
@@ -170,7 +171,7 @@ module _ (p : Pair) {n : Option ℕ} where
   pub pool_bad : {x : Option ℕ} {q : Pair} {out new : List ℕ} {w : ℕ} → n ≡ x → n ≡ None → Gave (refused p) out new q w → Gave (pool_done p x) out new q w
   pool_bad {x} {q} {out} {new} {w} e f g = subst (λ (y : Option ℕ). Gave (pool_done p y) out new q w) (sym f ∙ e) g
 
-module _ (p : Pair) (due : ℕ) {o x : Result Sheet Refusal} {q : Pair} {out new : List ℕ} {w : ℕ} (e : o ≡ x) where
+module _ (p : Pair) (due : Due) {o x : Result Sheet Refusal} {q : Pair} {out new : List ℕ} {w : ℕ} (e : o ≡ x) where
   pub sheet_bad : {why : Refusal} → o ≡ Err why → Gave (refused p) out new q w → Gave (sheet_done p due x) out new q w
   sheet_bad f g = subst (λ (y : Result Sheet Refusal). Gave (sheet_done p due y) out new q w) (sym f ∙ e) g
 
@@ -178,7 +179,7 @@ module _ (p : Pair) (due : ℕ) {o x : Result Sheet Refusal} {q : Pair} {out new
   sheet_gave f g = subst (λ (y : Result Sheet Refusal). Gave (sheet_done p due y) out new q w) (sym f ∙ e) g
 
 -- a table that a sheet opens
-pub sheet_with : (p : Pair) (due : ℕ) (s : Sheet) {second : Bool} {t : Table} {ts : List Table} → Good p → second ≡ is_second due → (t ≡ fresh_table s) × Sound t → ts ≡ with_table p.tables second t
+pub sheet_with : (p : Pair) (due : Due) (s : Sheet) {second : Bool} {t : Table} {ts : List Table} → Good p → second ≡ is_second due → (t ≡ fresh_table s) × Sound t → ts ≡ with_table p.tables second t
     → (◌≡◌ {A = Pair} (record { shut = p.shut; tables = ts; pool = p.pool; house = p.house }) (record { shut = p.shut; tables = with_table p.tables (is_second due) (fresh_table s); pool = p.pool; house = p.house }))
     × Good (record { shut = p.shut; tables = ts; pool = p.pool; house = p.house })
 sheet_with p due s {second} {t} {ts} g e f w =

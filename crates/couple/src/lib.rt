@@ -8,11 +8,10 @@ ghost use Rattle.text.specs.TableSheet.{sheet_of};
 ghost use Rattle.paper.specs.Paper.{is_sheet};
 ghost use Rattle.table.specs.Take.{fresh_table};
 ghost use Rattle.pool.specs.Jackpot.{most};
-ghost use Rattle.frames.specs.Frames.{last_due};
-ghost use Rattle.couple.specs.Couple.{is_second, table_at, with_table, start_of, house_with, shown_bytes, last_bytes, stray_done, refused, pool_key, pool_done, sheet_done, room_most, Gave, Good};
+ghost use Rattle.couple.specs.Couple.{is_second, table_at, with_table, start_of, house_with, named, shown_bytes, last_bytes, stray_done, refused, pool_key, pool_done, sheet_done, room_most, Gave, Good};
 
-use frames::STRAY;
-use laws::{either, least, short_of};
+use frames::{Due, Which};
+use laws::{least, short_of};
 use paper::{STAND_IN, Sheet, TAKEN};
 use pool::{MOST, Pool, open_pool};
 use table::table::Table;
@@ -55,10 +54,10 @@ pub fn start() -> Pair
 }
 
 // Whether what is due is table 2's.
-pub fn is_second(due: u8) -> bool
+pub fn is_second(due: Due) -> bool
     ensures { result ≡ is_second due }
 {
-    either(due == 2, due == 6)
+    matches!(due, Due::Sheet(Which::Second) | Due::Block(Which::Second))
 }
 
 pub fn table_at(ts: [Table; 2], second: bool) -> Table
@@ -90,25 +89,31 @@ pub fn house_with(house: u32, part: u32) -> u32
     house + least(part, short_of(MOST, house))
 }
 
-// The number of the table that is due, 0 for lines of no table.
-fn named(due: u8) -> u32
-    requires { due ≤ last_due }
-    ensures { (result ≡ due - 4) × (result ≤ 2) }
+// The number of the table whose block is due, 0 for lines of no table.
+fn named(due: Due) -> u32
+    ensures { (result ≡ named due) × (result ≤ 2) }
 {
-    short_of(due as u32, 4)
+    match due {
+        Due::Pool => 0,
+        Due::Sheet(_) => 0,
+        Due::Table => 0,
+        Due::Stray => 0,
+        Due::Block(Which::First) => 1,
+        Due::Block(Which::Second) => 2,
+    }
 }
 
 // An answer of the table that is due, as the program shows it.
-pub fn put_shown(out: &mut [u8], only: u8, due: u8, answer: &[u8]) -> usize
-    requires { (due ≤ last_due) × (only ≤ 2) × (length answer.now + 16 ≤ length out.old) }
+pub fn put_shown(out: &mut [u8], only: u8, due: Due, answer: &[u8]) -> usize
+    requires { (only ≤ 2) × (length answer.now + 16 ≤ length out.old) }
     ensures { Wrote (shown_bytes only due answer.now) out.old out.new result }
 {
+    let n = named(due);
     if only == 0 {
-        let n = named(due);
         let a = write_number_line(out, b"table", n);
         return a + put_bytes(&mut out[a..], answer);
     }
-    if only + 4 == due {
+    if only as u32 == n {
         return put_bytes(out, answer);
     }
     0
@@ -171,7 +176,7 @@ pub fn open_line(p: Pair, lines: &[u8], out: &mut [u8]) -> PairAfter
 }
 
 // A table that a sheet opens.
-fn with_sheet(p: Pair, due: u8, s: Sheet) -> Pair
+fn with_sheet(p: Pair, due: Due, s: Sheet) -> Pair
     requires { Good p × (is_sheet s ≡ true) }
     ensures { (result ≡ record { shut = p.shut; tables = with_table p.tables (is_second due) (fresh_table s); pool = p.pool; house = p.house }) × Good result }
 {
@@ -187,7 +192,7 @@ fn with_sheet(p: Pair, due: u8, s: Sheet) -> Pair
 }
 
 // A sheet of the opening.
-pub fn open_sheet(p: Pair, due: u8, lines: &[u8], out: &mut [u8]) -> PairAfter
+pub fn open_sheet(p: Pair, due: Due, lines: &[u8], out: &mut [u8]) -> PairAfter
     requires { Good p × (room_most ≤ length out.old) }
     ensures gave { Gave (sheet_done p due (sheet_of lines.now)) out.old out.new result.pair result.written }
     ensures good { Good result.pair }
@@ -209,7 +214,7 @@ pub fn of_none(p: Pair, only: u8, out: &mut [u8]) -> PairAfter
 {
     PairAfter {
         pair: p,
-        written: put_shown(out, only, STRAY, b"n=0\ncode=1\nturn=0\nmark=0\nback=0\n"),
+        written: put_shown(out, only, Due::Stray, b"n=0\ncode=1\nturn=0\nmark=0\nback=0\n"),
     }
 }
 

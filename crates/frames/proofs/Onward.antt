@@ -18,10 +18,12 @@ use Rattle.lines.specs.Kept.{Kept, nothing, keep_of, Gathered, gather_of, kept_i
 use Rattle.lines.proofs.Keeps.{kept_back}
 use Rattle.lines.proofs.Cut.{keep_in, keep_out}
 use Rattle.lines.proofs.Gathers.{gather_ends, gather_goes, lines_lf, lines_on}
+use Rattle.frames.specs.declared.Due.{Due}
+use Rattle.frames.specs.declared.Due.TheVariants.{Pool}
 use Rattle.frames.specs.declared.Frame.{Frame}
 use Rattle.frames.specs.declared.Next.{Next}
 use Rattle.frames.specs.declared.Heard.{Heard}
-use Rattle.frames.specs.Frames.{Piece, piece_of, Framed, still, and_then, line_start, line_done, last_line, byte_of, onward, closing, pieces_of, parts_of, pool_due, whole_heard, kept_heard, heard_as}
+use Rattle.frames.specs.Frames.{Piece, piece_of, Framed, still, and_then, line_start, line_done, last_line, byte_of, onward, closing, pieces_of, parts_of, whole_heard, kept_heard, heard_as}
 
 -- ---- one after another
 
@@ -34,25 +36,25 @@ then_assoc x y z = ap (λ (l : List Piece). record { due = z.due; kept = z.kept;
 abbrev pub further : Framed → List ℕ → Framed
 further x bs = and_then x (onward x.due x.kept bs)
 
-pub onward_append : (due : ℕ) (k : Kept) (xs ys : List ℕ) → onward due k (xs ++ ys) ≡ further (onward due k xs) ys
+pub onward_append : (due : Due) (k : Kept) (xs ys : List ℕ) → onward due k (xs ++ ys) ≡ further (onward due k xs) ys
 onward_append due k [] ys = refl
 onward_append due k (b ∷ xs) ys =
     let x : Framed = byte_of due k b in
     ap (and_then x) (onward_append x.due x.kept xs ys)
     ∙ sym (then_assoc x (onward x.due x.kept xs) (onward (onward x.due x.kept xs).due (onward x.due x.kept xs).kept ys))
 
-pub parts_onward : (due : ℕ) (k : Kept) (parts : List (List ℕ)) → parts_of due k parts ≡ onward due k (whole parts)
+pub parts_onward : (due : Due) (k : Kept) (parts : List (List ℕ)) → parts_of due k parts ≡ onward due k (whole parts)
 parts_onward due k [] = refl
 parts_onward due k (p ∷ ps) =
     ap (and_then (onward due k p)) (parts_onward (onward due k p).due (onward due k p).kept ps) ∙ sym (onward_append due k p (whole ps))
 
 -- the pieces of an input in parts are those of the whole input, however it is cut
-pub pieces_parts : (parts : List (List ℕ)) → closing (parts_of pool_due nothing parts) ≡ pieces_of (whole parts)
-pieces_parts parts = ap closing (parts_onward pool_due nothing parts)
+pub pieces_parts : (parts : List (List ℕ)) → closing (parts_of Pool nothing parts) ≡ pieces_of (whole parts)
+pieces_parts parts = ap closing (parts_onward Pool nothing parts)
 
 -- ---- one byte
 
-module _ (due : ℕ) (k : Kept) (b : ℕ) where
+module _ (due : Due) (k : Kept) (b : ℕ) where
   pub byte_lf : eqb b 10 ≡ true → byte_of due k b ≡ line_done due (keep_of k b) (last_line due (keep_of k b) (line_start k))
   unfolding byte_of
   byte_lf e =
@@ -77,7 +79,7 @@ start_same k b e = ⊎_elim
 
 -- ---- a line
 
-module _ (due n : ℕ) where
+module _ (due : Due) (n : ℕ) where
   abbrev g : Kept → List ℕ → Gathered
   g k part = gather_of (n + 1) k part
 

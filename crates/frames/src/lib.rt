@@ -6,47 +6,60 @@ ghost use Rattle.std.specs.Prelude.{◌≡◌, ◌+◌, ◌≤◌, ◌<◌, leng
 ghost use Rattle.laws.specs.Tests.{pick};
 ghost use Rattle.writing.specs.AnswerSheet.{over};
 ghost use Rattle.lines.specs.Kept.{nothing, fill_of, gather_of, kept_in, kept_most};
-ghost use Rattle.frames.specs.Frames.{table_in, table_of, wanted, last_due, kept_next, table_next, other_next, line_next, end_what, start_of, Held, heard_as};
+ghost use Rattle.frames.specs.Frames.{table_in, table_of, wanted, in_opening, after_part, kept_next, table_next, other_next, line_next, end_what, start_of, Held, heard_as};
 
 use lines::{Fill, empty, gather};
 use text::sheet::LINES;
 use text::read_key_number;
 
-// What is due: 0 the pool's line, 1 and 2 the sheets of the tables, 3 a `table` line, 4 a `table` line within a run of lines of no table, 5 and 6 the lines of a block
-// of table 1 and table 2.
-pub const POOL: u8 = 0;
+// Table 1, or table 2.
+#[derive(Clone, Copy)]
+pub enum Which {
+    First,
+    Second,
+}
 
-pub const TABLE: u8 = 3;
+// What is due.
+#[derive(Clone, Copy)]
+pub enum Due {
+    // The pool's line.
+    Pool,
+    // The sheet of a table.
+    Sheet(Which),
+    // A `table` line.
+    Table,
+    // A `table` line within a run of lines of no table.
+    Stray,
+    // The lines of a block of a table.
+    Block(Which),
+}
 
-pub const STRAY: u8 = 4;
-
-pub const BLOCK: u8 = 5;
-
-// What a line or the end of the input has made whole: nothing; a part of the opening or a block, as it lies in the buffer; a block that is cut short; the first of some
-// lines of no table; an opening that is not whole.
-pub const NOTHING: u8 = 0;
-
-pub const WHOLE: u8 = 1;
-
-pub const CUT: u8 = 2;
-
-pub const OF_NONE: u8 = 3;
-
-pub const MISSING: u8 = 4;
+// What a line or the end of the input has made whole.
+#[derive(Clone, Copy)]
+pub enum Made {
+    // A part of the opening or a block, as it lies in the buffer.
+    Whole,
+    // A block that is cut short.
+    Cut,
+    // The first of some lines of no table.
+    OfNone,
+    // An opening that is not whole.
+    Missing,
+}
 
 // What is due, and what is kept of its lines.
 #[derive(Clone, Copy)]
 pub struct Frame {
-    pub due: u8,
+    pub due: Due,
     pub fill: Fill,
 }
 
-// What is due next, whether the lines are kept on, and what was made whole.
+// What is due next, whether the lines are kept on, and what was made whole, if anything.
 #[derive(Clone, Copy)]
 pub struct Next {
-    pub due: u8,
+    pub due: Due,
     pub keeps: bool,
-    pub what: u8,
+    pub what: Option<Made>,
 }
 
 // The frame after some bytes, how many are used up, what was made whole, what was due for it, and how many bytes of it lie in the buffer.
@@ -54,8 +67,8 @@ pub struct Next {
 pub struct Heard {
     pub frame: Frame,
     pub used: usize,
-    pub what: u8,
-    pub of: u8,
+    pub what: Option<Made>,
+    pub of: Due,
     pub count: usize,
 }
 
@@ -64,120 +77,137 @@ pub fn start() -> Frame
     ensures { (result ≡ start_of) × Held result }
 {
     let z = empty();
-    Frame { due: POOL, fill: z }
+    Frame {
+        due: Due::Pool,
+        fill: z,
+    }
 }
 
-// 1 or 2 where a number is a table's, else 0.
-fn table_in(x: Option<u32>) -> u8
-    ensures { (result ≡ table_in x) × (result ≤ 2) }
+// The table of a number, where it is 1 or 2.
+fn table_in(x: Option<u32>) -> Option<Which>
+    ensures { result ≡ table_in x }
 {
     match x {
         Some(v) => {
             if v == 1 {
-                return 1;
+                return Some(Which::First);
             }
             if v == 2 {
-                return 2;
+                return Some(Which::Second);
             }
-            0
+            None
         }
-        None => 0,
+        Option<u32>::Bad => None,
     }
 }
 
-// The table of a good `table` line, else 0.
-pub fn table_of(line: &[u8]) -> u8
-    ensures { (result ≡ table_of line.now) × (result ≤ 2) }
+// The table of a good `table` line.
+pub fn table_of(line: &[u8]) -> Option<Which>
+    ensures { result ≡ table_of line.now }
 {
     table_in(read_key_number(line, b"table"))
 }
 
 // How many lines are gathered for what is due.
-fn wanted(due: u8) -> usize
+fn wanted(due: Due) -> usize
     ensures { result ≡ wanted due }
 {
-    if due == POOL {
-        return 1;
+    match due {
+        Due::Pool => 1,
+        Due::Sheet(_) => LINES,
+        Due::Table => 1,
+        Due::Stray => 1,
+        Due::Block(_) => 5,
     }
-    if due < TABLE {
-        return LINES;
+}
+
+// Whether a part of the opening is due.
+fn in_opening(due: Due) -> bool
+    ensures { result ≡ in_opening due }
+{
+    matches!(due, Due::Pool | Due::Sheet(_))
+}
+
+// What is due behind a part of the opening.
+fn after_part(due: Due) -> Due
+    ensures { result ≡ after_part due }
+{
+    match due {
+        Due::Pool => Due::Sheet(Which::First),
+        Due::Sheet(Which::First) => Due::Sheet(Which::Second),
+        Due::Sheet(Which::Second) => Due::Table,
+        Due::Table => due,
+        Due::Stray => due,
+        Due::Block(_) => due,
     }
-    if due < BLOCK {
-        return 1;
-    }
-    5
 }
 
 // A line of the opening or of a block: with its last line it is whole, and something else is due.
-fn kept_next(due: u8, lines: usize, after: u8) -> Next
+fn kept_next(due: Due, lines: usize, after: Due) -> Next
     ensures { result ≡ kept_next due lines after }
 {
     if lines < wanted(due) {
         return Next {
             due: due,
             keeps: true,
-            what: NOTHING,
+            what: None,
         };
     }
     Next {
         due: after,
         keeps: false,
-        what: WHOLE,
+        what: Some(Made::Whole),
     }
 }
 
 // A good `table` line begins a block, whatever was due; a block that is under way is cut short.
-fn table_next(due: u8, table: u8) -> Next
-    requires { table ≤ 2 }
+fn table_next(due: Due, table: Which) -> Next
     ensures { result ≡ table_next due table }
 {
-    if due < BLOCK {
+    if let Due::Block(_) = due {
         return Next {
-            due: table + 4,
+            due: Due::Block(table),
             keeps: false,
-            what: NOTHING,
+            what: Some(Made::Cut),
         };
     }
     Next {
-        due: table + 4,
+        due: Due::Block(table),
         keeps: false,
-        what: CUT,
+        what: None,
     }
 }
 
 // Any other line: where a `table` line is due it is of no table, and the first of a run of them is answered.
-fn other_next(due: u8, lines: usize) -> Next
+fn other_next(due: Due, lines: usize) -> Next
     ensures { result ≡ other_next due lines }
 {
-    if due == TABLE {
-        return Next {
-            due: STRAY,
+    match due {
+        Due::Table => Next {
+            due: Due::Stray,
             keeps: false,
-            what: OF_NONE,
-        };
-    }
-    if due < BLOCK {
-        return Next {
-            due: STRAY,
+            what: Some(Made::OfNone),
+        },
+        Due::Block(_) => kept_next(due, lines, Due::Table),
+        _ => Next {
+            due: Due::Stray,
             keeps: false,
-            what: NOTHING,
-        };
+            what: None,
+        },
     }
-    kept_next(due, lines, TABLE)
 }
 
 // A line, the last of so many that are kept, which names that table.
-fn line_next(due: u8, lines: usize, table: u8) -> Next
-    requires { (due ≤ last_due) × (table ≤ 2) }
+fn line_next(due: Due, lines: usize, table: Option<Which>) -> Next
     ensures { result ≡ line_next due lines table }
 {
-    if due < TABLE {
-        return kept_next(due, lines, due + 1);
+    if in_opening(due) {
+        return kept_next(due, lines, after_part(due));
     }
-    if table == 0 {
-        return other_next(due, lines);
+    match table {
+        None => other_next(due, lines),
+        Some(t) => table_next(due, t),
     }
-    table_next(due, table)
 }
 
 // What is kept on, or nothing.
@@ -208,7 +238,7 @@ pub fn hear(f: Frame, buf: &mut [u8], part: &[u8]) -> Heard
         return Heard {
             frame: d,
             used: g.used,
-            what: NOTHING,
+            what: None,
             of: due,
             count: 0,
         };
@@ -230,20 +260,19 @@ pub fn hear(f: Frame, buf: &mut [u8], part: &[u8]) -> Heard
 }
 
 // What the end of the input makes whole, with so many bytes kept.
-pub fn at_end(due: u8, count: usize) -> u8
+pub fn at_end(due: Due, count: usize) -> Option<Made>
     ensures { result ≡ end_what due count }
 {
-    if due < TABLE {
-        return MISSING;
-    }
-    if due == TABLE {
-        if count == 0 {
-            return NOTHING;
+    match due {
+        Due::Pool => Some(Made::Missing),
+        Due::Sheet(_) => Some(Made::Missing),
+        Due::Table => {
+            if count == 0 {
+                return None;
+            }
+            Some(Made::OfNone)
         }
-        return OF_NONE;
+        Due::Stray => None,
+        Due::Block(_) => Some(Made::Cut),
     }
-    if due == STRAY {
-        return NOTHING;
-    }
-    CUT
 }

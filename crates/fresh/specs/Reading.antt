@@ -1,7 +1,7 @@
 -- Request No. 12: "when the whole corrected log is read afresh": the stored entries taken one after another at a new table, with one of them replaced; and the
 -- index, "for each hand, where it starts and each stack then". A log is given as its entries by their places, counted from 0; the k-th has the number k + 1.
 -- Assumes nothing.
-use Rattle.std.specs.Prelude.{ℕ, zero, suc, ◌+◌, Bool, true, List, map, eqb, ltb}
+use Rattle.std.specs.Prelude.{ℕ, zero, suc, ◌+◌, Bool, true, List, map, eqb, unwrap_or}
 use Rattle.laws.specs.Tests.{pick, both, one}
 use Rattle.paper.specs.RefusalNumbers.{taken}
 use Rattle.paper.specs.SheetAndEntries.{numbers_of}
@@ -9,10 +9,9 @@ use Rattle.paper.specs.declared.Sheet.{Sheet}
 use Rattle.paper.specs.declared.Entry.{Entry}
 use Rattle.chairs.specs.declared.Chair.{Chair}
 use Rattle.table.specs.Take.{code_of, next_of, fresh_table}
-use Rattle.records.specs.Stored.{record_at, entry_by, put_row}
+use Rattle.records.specs.Stored.{no_record, record_at, behind, entry_by, put_row}
 use Rattle.records.specs.declared.Record.{Record}
 use Rattle.fresh.specs.declared.Played.{Played}
-use Rattle.fresh.specs.declared.Rereading.{Rereading}
 use Rattle.fresh.specs.declared.Rowed.{Rowed}
 
 -- ---- the table after the entries, and whether each of them was taken
@@ -40,24 +39,18 @@ replacing at e f k = pick (eqb k at) e (f k)
 abbrev pub entry_or : ℕ → ℕ → Entry → Record → Entry
 entry_or k at e got = pick (eqb k at) e (entry_by got)
 
-unfoldable pub read_one : Rereading → Record → Rereading
-read_one p got = record {
-  played = played_of p.played (p.k + 1) (entry_or p.k p.at p.e got);
-  at = p.at;
-  e = p.e;
-  k = p.k + 1;
-  count = p.count;
-  more = ltb (p.k + 1) p.count;
-}
-
 -- where the reader stands after k records
 abbrev pub place_to : List ℕ → ℕ → ℕ
 place_to log zero = 0
-place_to log (suc k) = (record_at log (place_to log k)).next
+place_to log (suc k) = behind log (place_to log k)
 
-abbrev pub read_to : Rereading → List ℕ → ℕ → Rereading
-read_to p log zero = p
-read_to p log (suc k) = read_one (read_to p log k) (record_at log (place_to log k))
+-- the record that it comes to there
+abbrev pub met : List ℕ → ℕ → Record
+met log k = unwrap_or (record_at log (place_to log k)) no_record
+
+abbrev pub read_to : Played → List ℕ → ℕ → Entry → ℕ → Played
+read_to p log at e zero = p
+read_to p log at e (suc k) = played_of (read_to p log at e k) (k + 1) (entry_or k at e (met log k))
 
 -- ---- the rows
 

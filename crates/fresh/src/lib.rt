@@ -1,15 +1,15 @@
 // The stored log read afresh: every entry taken again at a new table, one of them replaced; and the index of the hands written anew.
 #![tactic(auto)]
 
-ghost use Rattle.std.specs.Prelude.{◌≡◌, true, map, ◌≤◌, ◌<◌, ltb};
+ghost use Rattle.std.specs.Prelude.{◌≡◌, true, map, ◌≤◌, ◌<◌};
 ghost use Rattle.paper.specs.Paper.{is_sheet};
 ghost use Rattle.table.specs.Take.{Sound};
 ghost use Rattle.records.specs.Stored.{entry_in};
-ghost use Rattle.fresh.specs.Reading.{begun_of, played_of, replacing, played_to, entry_or, read_one, read_to, stack_of, is_hand, rowed_of, index_after, rowed_by, index_by, index_to};
+ghost use Rattle.fresh.specs.Reading.{begun_of, played_of, replacing, played_to, entry_or, read_to, stack_of, is_hand, rowed_of, index_after, rowed_by, index_by, index_to};
 
 use chairs::Chair;
 use paper::{Entry, Sheet, TAKEN, numbers_of};
-use records::{Reader, Record, entry_by, entry_in, put_row};
+use records::{NO_RECORD, Reader, Record, entry_by, entry_in, put_row};
 use table::table::Table;
 use table::take::new_table;
 
@@ -43,18 +43,6 @@ fn play_on(p: Played, n: u32, e: Entry) -> Played
     }
 }
 
-// A reading of a stored log with one entry replaced: what was played so far, the place of the replaced entry and what stands there now, how many entries are
-// read and how many shall be, and whether more shall be.
-#[derive(Clone, Copy)]
-struct Rereading {
-    played: Played,
-    at: u32,
-    e: Entry,
-    k: u32,
-    count: u32,
-    more: bool,
-}
-
 // The entry of a record, or e where it is the replaced one.
 fn entry_or(k: u32, at: u32, e: Entry, got: Record) -> Entry
     ensures { result ≡ entry_or k at e got }
@@ -65,36 +53,16 @@ fn entry_or(k: u32, at: u32, e: Entry, got: Record) -> Entry
     entry_by(got)
 }
 
-// One record more.
-fn read_one(p: Rereading, got: Record) -> Rereading
-    requires { Sound p.played.table × (p.k < p.count) }
-    ensures { (result ≡ read_one p got) × Sound result.played.table }
+// The first `count` records of a stored log, one after another as its reader comes to them.
+fn read_on(start: Played, log: &[u8], count: u32, at: u32, e: Entry) -> Played
+    requires { Sound start.table }
+    ensures { (result ≡ read_to start log.now at e count) × Sound result.table }
 {
-    let q = p.played;
-    let e = p.e;
-    let x = entry_or(p.k, p.at, e, got);
-    let k = p.k + 1;
-    let played = play_on(q, k, x);
-    Rereading {
-        played,
-        at: p.at,
-        e,
-        k,
-        count: p.count,
-        more: k < p.count,
-    }
-}
-
-// The records of a stored log, one after another as its reader comes to them.
-fn read_on(log: &[u8], start: Rereading) -> Rereading
-    requires { Sound start.played.table × (start.k ≡ 0) × (start.more ≡ ltb 0 start.count) }
-    ensures { (result ≡ read_to start log.now start.count) × Sound result.played.table }
-{
-    let mut g = Reader::new(log).next();
+    let mut reader = Reader::new(log);
     let mut p = start;
-    while p.more {
-        p = read_one(p, g.got);
-        g = g.rest.next();
+    for k in 0..count {
+        let got = reader.next().unwrap_or(NO_RECORD);
+        p = play_on(p, k + 1, entry_or(k, at, e, got));
     }
     p
 }
@@ -104,19 +72,7 @@ pub fn replay(sheet: Sheet, log: &[u8], count: u32, at: u32, e: Entry) -> Played
     requires { is_sheet sheet ≡ true }
     ensures { (result ≡ played_to sheet (replacing at e (entry_in log.now)) count) × Sound result.table }
 {
-    let p = begun(sheet);
-    let r = read_on(
-        log,
-        Rereading {
-            played: p,
-            at,
-            e,
-            k: 0,
-            count,
-            more: 0 < count,
-        },
-    );
-    r.played
+    read_on(begun(sheet), log, count, at, e)
 }
 
 // ---- the index
@@ -125,14 +81,7 @@ pub fn replay(sheet: Sheet, log: &[u8], count: u32, at: u32, e: Entry) -> Played
 pub fn stacks_of(cs: [Chair; 10]) -> [u32; 10]
     ensures { result ≡ map stack_of cs }
 {
-    let mut stacks = [0u32; 10];
-    let mut i: usize = 0;
-    while i < 10 {
-        let c = cs[i];
-        stacks[i] = c.stack;
-        i += 1;
-    }
-    stacks
+    cs.map(|c| c.stack)
 }
 
 // Whether an entry opens a hand.
@@ -185,9 +134,7 @@ pub fn write_rows(sheet: Sheet, log: &[u8], count: u32, index: &mut [u8])
 {
     let t = new_table(sheet);
     let mut p = Rowed { table: t, hands: 0 };
-    let mut k: u32 = 0;
-    while k < count {
+    for k in 0..count {
         p = row_one(p, log, k, index);
-        k += 1;
     }
 }

@@ -5,16 +5,15 @@
 -- other (`screen_is`). Assumes nothing.
 use Prim.Native.Nat.{ℕ}
 use mathlib.Core.Bool.{Bool, true, false, not, true≢false, false≢true}
-use mathlib.Core.Path.{◌≡◌, refl, sym, ap, ap₂, subst, ◌∙◌}
+use mathlib.Core.Path.{◌≡◌, refl, sym, ap, ap₂, ◌∙◌}
 use mathlib.Core.List.{List, [], ◌∷◌, ◌++◌, map, append_assoc, append-nil}
-use mathlib.Core.Logic.{◌⊎◌, inl, inr, ⊎_elim}
+use mathlib.Core.Logic.{◌⊎◌, inl, inr}
 use lib.ListN.{length}
-use lib.Dec.{eqb, ltb}
-use borrow.Author.Tests.{eqb-true}
+use lib.Dec.{eqb}
 use Rattle.std.specs.Prelude.{Option, Some, None, Result, Ok, Err}
 use Rattle.paper.specs.declared.Sheet.{Sheet}
 use Rattle.paper.specs.declared.refusal.Refusal.{Refusal}
-use Rattle.laws.specs.Tests.{pick, both, either}
+use Rattle.laws.specs.Tests.{pick, both}
 use Rattle.laws.specs.Lists.{All, whole}
 use Rattle.laws.proofs.Tests.{test, both_true}
 use Rattle.paper.specs.RefusalNumbers.{taken}
@@ -23,7 +22,10 @@ use Rattle.text.specs.TableSheet.{sheet_of}
 use Rattle.table.specs.declared.table.Table.{Table}
 use Rattle.pool.specs.Jackpot.{opened_with}
 use Rattle.shared.specs.Shared.{bytes_at}
-use Rattle.frames.specs.Frames.{Piece, Whole, Cut, OfNone, Missing, pieces_of}
+use Rattle.frames.specs.declared.Which.TheVariants.{First, Second}
+use Rattle.frames.specs.declared.Due.{Due}
+use Rattle.frames.specs.declared.Due.TheVariants as dues
+use Rattle.frames.specs.Frames.{is_pool, in_opening, Piece, Whole, Cut, OfNone, Missing, pieces_of}
 use Rattle.couple.specs.declared.Pair.{Pair}
 use Rattle.couple.specs.Couple.{is_second, table_at, start_of, shown_bytes, last_bytes, Given, still, pool_key, house_key, pool_done, sheet_done}
 use Rattle.pairs.specs.Pairs.{answered, cut_lines, whole_done, piece_done, piece_in, ran, output_of}
@@ -32,7 +34,7 @@ use Rattle.neighbours.specs.Blanked.{blanked_in, blanked}
 use Rattle.neighbours.specs.Keyed.{is_of, keyed_at, is_shut, table_over, answer_to, answers_in, answers_at, screen_of}
 use Rattle.neighbours.proofs.Blanks.{line_after, blanked_append, blanked_length}
 use Rattle.neighbours.proofs.Answers.{answer_ended}
-use Rattle.neighbours.proofs.Order.{of_table, is_due, behind, in_order, pieces_ordered}
+use Rattle.neighbours.proofs.Order.{of_table, same_part, same_is, is_due, behind, in_order, pieces_ordered}
 use Rattle.neighbours.proofs.Tables.{still_open, open_in, pool_by, table_runs, blank_runs, table_run, answers_run}
 
 -- ---- what is shown changes nothing of the pair
@@ -43,7 +45,7 @@ pair_same only p x = go p.shut x
   where
     go : (b : Bool) (y : Piece) → (pick b (still p) (piece_done only p y)).pair ≡ (pick b (still p) (piece_done 0 p y)).pair
     go true y = refl
-    go false (Whole due lines) = at (eqb due 0) (ltb due 3)
+    go false (Whole due lines) = at (is_pool due) (in_opening due)
       where
         at : (a c : Bool) → (pick a (pool_done p (line_number pool_key lines)) (pick c (sheet_done p due (sheet_of lines)) (answered only p due lines))).pair
             ≡ (pick a (pool_done p (line_number pool_key lines)) (pick c (sheet_done p due (sheet_of lines)) (answered 0 p due lines))).pair
@@ -56,31 +58,28 @@ pair_same only p x = go p.shut x
 
 -- ---- what a table's screen shows of one piece
 
-five_or_six : (due : ℕ) → of_table due ≡ true → (due ≡ 5) ⊎ (due ≡ 6)
-five_or_six due h = go (test (eqb due 5))
-  where
-    go : (eqb due 5 ≡ true) ⊎ (eqb due 5 ≡ false) → (due ≡ 5) ⊎ (due ≡ 6)
-    go (inl e) = inl (eqb-true due 5 e)
-    go (inr e) = inr (eqb-true due 6 (sym (ap (λ (z : Bool). either z (eqb due 6)) e) ∙ h))
-
-abbrev Shows : Bool → List ℕ → ℕ → Type 0
+abbrev Shows : Bool → List ℕ → Due → Type 0
 Shows second answer due = shown_bytes (screen_of second) due answer ≡ whole (pick (same_table second (is_second due)) (answer ∷ []) [])
 
-shows_five : (second : Bool) (answer : List ℕ) → Shows second answer 5
+shows_first : (second : Bool) (answer : List ℕ) → Shows second answer (dues.Block First)
 unfolding shown_bytes
-shows_five true answer = refl
-shows_five false answer = sym (append-nil answer)
+shows_first true answer = refl
+shows_first false answer = sym (append-nil answer)
 
-shows_six : (second : Bool) (answer : List ℕ) → Shows second answer 6
+shows_second : (second : Bool) (answer : List ℕ) → Shows second answer (dues.Block Second)
 unfolding shown_bytes
-shows_six true answer = sym (append-nil answer)
-shows_six false answer = refl
+shows_second true answer = sym (append-nil answer)
+shows_second false answer = refl
 
-shows : (second : Bool) (answer : List ℕ) (due : ℕ) → of_table due ≡ true → Shows second answer due
-shows second answer due h =
-    ⊎_elim (λ (e : due ≡ 5). subst (Shows second answer) (sym e) (shows_five second answer)) (λ (e : due ≡ 6). subst (Shows second answer) (sym e) (shows_six second answer)) (five_or_six due h)
+shows : (second : Bool) (answer : List ℕ) (due : Due) → of_table due ≡ true → Shows second answer due
+shows second answer dues.Pool h = absurd (false≢true h)
+shows second answer (dues.Sheet w) h = absurd (false≢true h)
+shows second answer dues.Table h = absurd (false≢true h)
+shows second answer dues.Stray h = absurd (false≢true h)
+shows second answer (dues.Block First) h = shows_first second answer
+shows second answer (dues.Block Second) h = shows_second second answer
 
-none_shown : (second : Bool) (answer : List ℕ) → shown_bytes (screen_of second) 4 answer ≡ []
+none_shown : (second : Bool) (answer : List ℕ) → shown_bytes (screen_of second) dues.Stray answer ≡ []
 unfolding shown_bytes
 none_shown true answer = refl
 none_shown false answer = refl
@@ -94,24 +93,24 @@ pool_silent p (Some v) = go (eqb (opened_with v).code taken)
     go false h = absurd (true≢false h)
 pool_silent p None = λ h. absurd (true≢false h)
 
-sheet_silent : (p : Pair) (due : ℕ) (x : Result Sheet Refusal) → (sheet_done p due x).pair.shut ≡ false → (sheet_done p due x).bytes ≡ []
+sheet_silent : (p : Pair) (due : Due) (x : Result Sheet Refusal) → (sheet_done p due x).pair.shut ≡ false → (sheet_done p due x).bytes ≡ []
 sheet_silent p due (Ok s) h = refl
 sheet_silent p due (Err why) h = absurd (true≢false h)
 
 -- a block is one of table 1 or table 2
-whole_of : (due d : ℕ) (lines : List ℕ) → is_due due (Whole d lines) ≡ true → ltb d 3 ≡ false → of_table d ≡ true
-whole_of due d lines h l = go (test (ltb due 3))
+whole_of : (due d : Due) (lines : List ℕ) → is_due due (Whole d lines) ≡ true → in_opening d ≡ false → of_table d ≡ true
+whole_of due d lines h l = go (test (in_opening due))
   where
-    go : (ltb due 3 ≡ true) ⊎ (ltb due 3 ≡ false) → of_table d ≡ true
+    go : (in_opening due ≡ true) ⊎ (in_opening due ≡ false) → of_table d ≡ true
     go (inl e) =
-        let q : d ≡ due = eqb-true d due (sym (ap (λ (z : Bool). pick z (eqb d due) (of_table d)) e) ∙ h) in
-        absurd (true≢false (sym (ap (λ (k : ℕ). ltb k 3) q ∙ e) ∙ l))
-    go (inr e) = sym (ap (λ (z : Bool). pick z (eqb d due) (of_table d)) e) ∙ h
+        let q : d ≡ due = same_is d due (sym (ap (λ (z : Bool). pick z (same_part d due) (of_table d)) e) ∙ h) in
+        absurd (true≢false (sym (ap in_opening q ∙ e) ∙ l))
+    go (inr e) = sym (ap (λ (z : Bool). pick z (same_part d due) (of_table d)) e) ∙ h
 
-cut_of : (due d : ℕ) → is_due due (Cut d) ≡ true → of_table d ≡ true
-cut_of due d h = go (test (ltb due 3))
+cut_of : (due d : Due) → is_due due (Cut d) ≡ true → of_table d ≡ true
+cut_of due d h = go (test (in_opening due))
   where
-    go : (ltb due 3 ≡ true) ⊎ (ltb due 3 ≡ false) → of_table d ≡ true
+    go : (in_opening due ≡ true) ⊎ (in_opening due ≡ false) → of_table d ≡ true
     go (inl e) = absurd (false≢true (sym (ap (λ (z : Bool). pick z false (of_table d)) e) ∙ h))
     go (inr e) = sym (ap (λ (z : Bool). pick z false (of_table d)) e) ∙ h
 
@@ -119,16 +118,16 @@ module _ (second : Bool) (p : Pair) where
   abbrev shown : Piece → Type 0
   shown x = (piece_done (screen_of second) p x).bytes ≡ whole (pick (is_of second x) (answer_to p x) [])
 
-  abbrev whole_by : ℕ → List ℕ → Bool → Bool → Given
+  abbrev whole_by : Due → List ℕ → Bool → Bool → Given
   whole_by d lines a b = pick a (pool_done p (line_number pool_key lines)) (pick b (sheet_done p d (sheet_of lines)) (answered (screen_of second) p d lines))
 
   none : (c : Bool) → [] ≡ whole (pick c [] [])
   none true = refl
   none false = refl
 
-  screen_whole : (d : ℕ) (lines : List ℕ) → (ltb d 3 ≡ false → of_table d ≡ true) → (piece_done (screen_of second) p (Whole d lines)).pair.shut ≡ false → shown (Whole d lines)
+  screen_whole : (d : Due) (lines : List ℕ) → (in_opening d ≡ false → of_table d ≡ true) → (piece_done (screen_of second) p (Whole d lines)).pair.shut ≡ false → shown (Whole d lines)
   unfolding whole_done
-  screen_whole d lines f = go (eqb d 0) (ltb d 3) f
+  screen_whole d lines f = go (is_pool d) (in_opening d) f
     where
       go : (a b : Bool) → (b ≡ false → of_table d ≡ true) → (whole_by d lines a b).pair.shut ≡ false
           → (whole_by d lines a b).bytes ≡ whole (pick (pick a false (same_table second (is_second d))) (pick b [] (bytes_at (table_at p.tables (is_second d)) p.pool lines ∷ [])) [])
@@ -136,13 +135,13 @@ module _ (second : Bool) (p : Pair) where
       go false true e h = sheet_silent p d (sheet_of lines) h ∙ none (same_table second (is_second d))
       go false false e h = shows second (bytes_at (table_at p.tables (is_second d)) p.pool lines) d (e refl)
 
-  screen_piece : (due : ℕ) (x : Piece) → is_due due x ≡ true → (piece_done (screen_of second) p x).pair.shut ≡ false → shown x
+  screen_piece : (due : Due) (x : Piece) → is_due due x ≡ true → (piece_done (screen_of second) p x).pair.shut ≡ false → shown x
   screen_piece due (Whole d lines) i h = screen_whole d lines (whole_of due d lines i) h
   screen_piece due (Cut d) i h = shows second (bytes_at (table_at p.tables (is_second d)) p.pool cut_lines) d (cut_of due d i)
   screen_piece due OfNone i h = none_shown second _
   screen_piece due Missing i h = absurd (true≢false h)
 
-  screen_in : (due : ℕ) (x : Piece) → is_due due x ≡ true → p.shut ≡ false → (piece_in 0 p x).pair.shut ≡ false
+  screen_in : (due : Due) (x : Piece) → is_due due x ≡ true → p.shut ≡ false → (piece_in 0 p x).pair.shut ≡ false
       → (piece_in (screen_of second) p x).bytes ≡ whole (pick (both (not p.shut) (is_of second x)) (answer_to p x) [])
   screen_in due x i o h =
       let e = open_in (screen_of second) p x o in
@@ -156,7 +155,7 @@ whole_append : (xs ys : List (List ℕ)) → whole (xs ++ ys) ≡ whole xs ++ wh
 whole_append [] ys = refl
 whole_append (x ∷ xs) ys = ap (λ (l : List ℕ). x ++ l) (whole_append xs ys) ∙ sym (append_assoc x (whole xs) (whole ys))
 
-screen_run : (second : Bool) (p : Pair) (xs : List Piece) (due : ℕ) → in_order due xs ≡ true → (ran 0 p xs).pair.shut ≡ false
+screen_run : (second : Bool) (p : Pair) (xs : List Piece) (due : Due) → in_order due xs ≡ true → (ran 0 p xs).pair.shut ≡ false
     → (ran (screen_of second) p xs).bytes ≡ whole (answers_in second p xs)
 screen_run second p [] due i h = refl
 screen_run second p (x ∷ xs) due i h =
@@ -180,7 +179,7 @@ last_none second p = go second p.shut
 pub screen_is : (second : Bool) (input : List ℕ) → is_shut input ≡ false → output_of (screen_of second) input ≡ whole (answers_at second input)
 screen_is second input h =
     let x : Given = ran (screen_of second) start_of (pieces_of input) in
-    ap (λ (l : List ℕ). x.bytes ++ l) (last_none second x.pair) ∙ append-nil x.bytes ∙ screen_run second start_of (pieces_of input) 0 (pieces_ordered input) h
+    ap (λ (l : List ℕ). x.bytes ++ l) (last_none second x.pair) ∙ append-nil x.bytes ∙ screen_run second start_of (pieces_of input) dues.Pool (pieces_ordered input) h
 
 -- ---- blanked, answer by answer
 
@@ -196,7 +195,7 @@ ended_pick true xs h = h
 ended_pick false xs h = tt
 
 ended_to : (p : Pair) (x : Piece) → All Ended (answer_to p x)
-ended_to p (Whole due lines) = go (ltb due 3)
+ended_to p (Whole due lines) = go (in_opening due)
   where
     go : (b : Bool) → All Ended (pick b [] (bytes_at (table_at p.tables (is_second due)) p.pool lines ∷ []))
     go true = tt

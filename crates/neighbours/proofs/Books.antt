@@ -1,14 +1,14 @@
 -- Request No. 7, the books over a whole input with a good opening: the pair's pool at its end is that after all settled hands of the two tables (`pool_over`), its house
 -- all parts that went to the house, while they are at most 999,999,999 (`house_least`); and the opening and all drops are the jackpot payments, the parts that went to the
 -- house and that pool (`input_books`, by `pool_books`). For any bytes. Assumes nothing.
-use Prim.Native.Nat.{ℕ, suc, ◌+◌, ◌≤◌, ◌<◌, min}
+use Prim.Native.Nat.{ℕ, ◌+◌, ◌≤◌, ◌<◌, min}
 use mathlib.Core.Bool.{Bool, true, false, true≢false, false≢true}
 use mathlib.Core.Path.{◌≡◌, refl, sym, ap, ap₂, subst, ◌∙◌}
 use mathlib.Core.List.{List, [], ◌∷◌, ◌++◌, append-nil}
 use mathlib.Core.Logic.{◌⊎◌, inl, inr, ⊎_elim}
 use native.Mathlib.Omega.{arith}
-use lib.Dec.{eqb, ltb}
-use borrow.Author.Tests.{eqb-true, ne_eqb}
+use lib.Dec.{eqb}
+use borrow.Author.Tests.{eqb-true}
 use Rattle.std.specs.Prelude.{Option, Some, None, Result, Ok, Err}
 use Rattle.paper.specs.declared.Sheet.{Sheet}
 use Rattle.paper.specs.declared.refusal.Refusal.{Refusal}
@@ -29,13 +29,16 @@ use Rattle.pool.proofs.Hands.{no_hand_law, opening_bad, opening_good, opening_mo
 use Rattle.pool.proofs.Books.{pool_books}
 use Rattle.desk.specs.declared.Judged.{Judged}
 use Rattle.shared.specs.Shared.{judged_at, hand_of}
-use Rattle.frames.specs.Frames.{Piece, Whole, Cut, OfNone, Missing, pieces_of}
+use Rattle.frames.specs.declared.Which.TheVariants.{First, Second}
+use Rattle.frames.specs.declared.Due.{Due}
+use Rattle.frames.specs.declared.Due.TheVariants as dues
+use Rattle.frames.specs.Frames.{is_pool, in_opening, Piece, Whole, Cut, OfNone, Missing, pieces_of}
 use Rattle.couple.specs.declared.Pair.{Pair}
 use Rattle.couple.specs.Couple.{is_second, table_at, start_of, Given, pool_key, pool_done, sheet_done}
 use Rattle.pairs.specs.Pairs.{answered, cut_lines, whole_done, piece_done, piece_in, ran}
 use Rattle.neighbours.specs.Keyed.{is_shut}
 use Rattle.neighbours.specs.Hands.{pool_said, opening_in, opening_of, pool_of, which_of, played_by, played_to, hands_in, hands_of}
-use Rattle.neighbours.proofs.Order.{of_table, is_due, behind, in_order, pieces_ordered}
+use Rattle.neighbours.proofs.Order.{of_table, same_part, same_is, is_due, behind, in_order, pieces_ordered}
 use Rattle.neighbours.proofs.Tables.{still_open, open_in, pool_by}
 
 -- ---- hands one behind the other
@@ -71,7 +74,7 @@ unfolding pool_after house_parts
 one_hand q k h true = (refl, omega arith)
 one_hand q k h false = (ap (λ (s : Settled). s.pool) (no_hand_law q), ap (λ (s : Settled). s.house) (no_hand_law q))
 
-feeds_answer : (p : Pair) (due : ℕ) (lines : List ℕ) → Feeds p (played_by p due lines) (answered 0 p due lines)
+feeds_answer : (p : Pair) (due : Due) (lines : List ℕ) → Feeds p (played_by p due lines) (answered 0 p due lines)
 unfolding hand_of
 feeds_answer p due lines =
     let t : Table = table_at p.tables (is_second due) in
@@ -80,60 +83,65 @@ feeds_answer p due lines =
     let s = one_hand p.pool (which_of (is_second due)) h j.payout.settled in
     (s.0, ap (fed_by p.house) s.1)
 
-feeds_sheet : (p : Pair) (due : ℕ) (x : Result Sheet Refusal) → Feeds p [] (sheet_done p due x)
+feeds_sheet : (p : Pair) (due : Due) (x : Result Sheet Refusal) → Feeds p [] (sheet_done p due x)
 feeds_sheet p due (Ok s) = feeds_still p (sheet_done p due (Ok s)) refl refl
 feeds_sheet p due (Err why) = feeds_still p (sheet_done p due (Err why)) refl refl
 
-feeds_whole : (p : Pair) (due : ℕ) (lines : List ℕ) → eqb due 0 ≡ false → Feeds p (played_to p (Whole due lines)) (whole_done 0 p due lines)
+feeds_whole : (p : Pair) (due : Due) (lines : List ℕ) → is_pool due ≡ false → Feeds p (played_to p (Whole due lines)) (whole_done 0 p due lines)
 unfolding whole_done
 feeds_whole p due lines n =
-    subst (λ (z : Bool). Feeds p (played_to p (Whole due lines)) (pick z (pool_done p (line_number pool_key lines)) (pick (ltb due 3) (sheet_done p due (sheet_of lines)) (answered 0 p due lines))))
-    (sym n) (go (ltb due 3))
+    subst (λ (z : Bool). Feeds p (played_to p (Whole due lines)) (pick z (pool_done p (line_number pool_key lines)) (pick (in_opening due) (sheet_done p due (sheet_of lines)) (answered 0 p due lines))))
+    (sym n) (go (in_opening due))
   where
     go : (b : Bool) → Feeds p (pick b [] (played_by p due lines)) (pick b (sheet_done p due (sheet_of lines)) (answered 0 p due lines))
     go true = feeds_sheet p due (sheet_of lines)
     go false = feeds_answer p due lines
 
 -- behind the line `pool` no piece is one
-not_pool : (due d : ℕ) (lines : List ℕ) → 1 ≤ due → is_due due (Whole d lines) ≡ true → eqb d 0 ≡ false
-not_pool due d lines l i = go (test (ltb due 3))
+not_pool : (due d : Due) (lines : List ℕ) → is_pool due ≡ false → is_due due (Whole d lines) ≡ true → is_pool d ≡ false
+not_pool due d lines l i = go (test (in_opening due))
   where
-    zero-not : (b : Bool) → of_table 0 ≡ true → b ≡ false
-    zero-not b e = absurd (false≢true e)
+    block_not : (e : Due) → of_table e ≡ true → is_pool e ≡ false
+    block_not dues.Pool h = absurd (false≢true h)
+    block_not (dues.Sheet w) h = refl
+    block_not dues.Table h = refl
+    block_not dues.Stray h = refl
+    block_not (dues.Block w) h = refl
 
-    go : (ltb due 3 ≡ true) ⊎ (ltb due 3 ≡ false) → eqb d 0 ≡ false
+    go : (in_opening due ≡ true) ⊎ (in_opening due ≡ false) → is_pool d ≡ false
     go (inl e) =
-        let q : d ≡ due = eqb-true d due (sym (ap (λ (z : Bool). pick z (eqb d due) (of_table d)) e) ∙ i) in
-        ne_eqb d 0 (λ z. omega (arith, l, q))
+        let q : d ≡ due = same_is d due (sym (ap (λ (z : Bool). pick z (same_part d due) (of_table d)) e) ∙ i) in
+        ap is_pool q ∙ l
     go (inr e) =
-        let q : of_table d ≡ true = sym (ap (λ (z : Bool). pick z (eqb d due) (of_table d)) e) ∙ i in
-        ne_eqb d 0 (λ z. absurd (false≢true (sym (ap of_table z) ∙ q)))
+        let q : of_table d ≡ true = sym (ap (λ (z : Bool). pick z (same_part d due) (of_table d)) e) ∙ i in
+        block_not d q
 
-feeds : (p : Pair) (due : ℕ) (x : Piece) → 1 ≤ due → is_due due x ≡ true → Feeds p (played_to p x) (piece_done 0 p x)
+feeds : (p : Pair) (due : Due) (x : Piece) → is_pool due ≡ false → is_due due x ≡ true → Feeds p (played_to p x) (piece_done 0 p x)
 feeds p due (Whole d lines) l i = feeds_whole p d lines (not_pool due d lines l i)
 feeds p due (Cut d) l i = feeds_answer p d cut_lines
 feeds p due OfNone l i = feeds_still p (piece_done 0 p OfNone) refl refl
 feeds p due Missing l i = feeds_still p (piece_done 0 p Missing) refl refl
 
-feeds_in : (p : Pair) (due : ℕ) (x : Piece) → 1 ≤ due → is_due due x ≡ true → p.shut ≡ false → Feeds p (pick p.shut [] (played_to p x)) (piece_in 0 p x)
+feeds_in : (p : Pair) (due : Due) (x : Piece) → is_pool due ≡ false → is_due due x ≡ true → p.shut ≡ false → Feeds p (pick p.shut [] (played_to p x)) (piece_in 0 p x)
 feeds_in p due x l i o =
     subst (λ (z : Bool). Feeds p (pick z [] (played_to p x)) (piece_in 0 p x)) (sym o) (subst (Feeds p (played_to p x)) (sym (open_in 0 p x o)) (feeds p due x l i))
 
 -- ---- all pieces behind the line `pool`
 
-behind_most : (due : ℕ) → 1 ≤ due → 1 ≤ behind due
-behind_most due l = go (ltb due 3)
-  where
-    go : (b : Bool) → 1 ≤ pick b (suc due) due
-    go true = omega arith
-    go false = l
+behind_not : (due : Due) → is_pool (behind due) ≡ false
+behind_not dues.Pool = refl
+behind_not (dues.Sheet First) = refl
+behind_not (dues.Sheet Second) = refl
+behind_not dues.Table = refl
+behind_not dues.Stray = refl
+behind_not (dues.Block w) = refl
 
 -- at most so much is kept for the house
 house_more : (house sum part : ℕ) → house ≡ min most sum → fed_by house part ≡ min most (sum + part)
 unfolding fed_by fits_in
 house_more house sum part e = omega (arith, e)
 
-feeds_run : (p : Pair) (xs : List Piece) (due sum : ℕ) → 1 ≤ due → in_order due xs ≡ true → (ran 0 p xs).pair.shut ≡ false → p.house ≡ min most sum
+feeds_run : (p : Pair) (xs : List Piece) (due : Due) (sum : ℕ) → is_pool due ≡ false → in_order due xs ≡ true → (ran 0 p xs).pair.shut ≡ false → p.house ≡ min most sum
     → ((ran 0 p xs).pair.pool ≡ pool_after p.pool (hands_in p xs)) × ((ran 0 p xs).pair.house ≡ min most (sum + house_parts p.pool (hands_in p xs)))
 unfolding pool_after house_parts
 feeds_run p [] due sum l i h e = (refl, omega (arith, e))
@@ -144,7 +152,7 @@ feeds_run p (x ∷ xs) due sum l i h e =
     let hs : List Played = hands_in q xs in
     let s = feeds_in p due x l j.0 (still_open 0 p (x ∷ xs) h) in
     let part : ℕ = house_parts p.pool gs in
-    let r = feeds_run q xs (behind due) (sum + part) (behind_most due l) j.1 h (s.1 ∙ house_more p.house sum part e) in
+    let r = feeds_run q xs (behind due) (sum + part) (behind_not due) j.1 h (s.1 ∙ house_more p.house sum part e) in
     let v : sum + part + house_parts (pool_after p.pool gs) hs ≡ sum + house_parts p.pool (hs ++ gs) = omega (arith, parts_append p.pool hs gs) in (
       r.0 ∙ ap (λ (w : Pool). pool_after w hs) s.0 ∙ sym (after_append p.pool hs gs),
       r.1 ∙ ap (λ (w : Pool). min most (sum + part + house_parts w hs)) s.0 ∙ ap (min most) v,
@@ -182,7 +190,7 @@ books_none =
     let e : (opened_with 0).pool ≡ record { held = 0 } = rw (opening_good 0 (omega arith)) in
     (sym e, refl, ap (λ (q : Pool). q.held) e)
 
-books_on : (x : Piece) (xs : List Piece) (v : ℕ) → pool_said x ≡ v → pick start_of.shut [] (played_to start_of x) ≡ [] → in_order 1 xs ≡ true → (ran 0 start_of (x ∷ xs)).pair.shut ≡ false
+books_on : (x : Piece) (xs : List Piece) (v : ℕ) → pool_said x ≡ v → pick start_of.shut [] (played_to start_of x) ≡ [] → in_order (dues.Sheet First) xs ≡ true → (ran 0 start_of (x ∷ xs)).pair.shut ≡ false
     → ((piece_in 0 start_of x).pair.pool ≡ (opened_with v).pool) × ((piece_in 0 start_of x).pair.house ≡ 0) × ((opened_with v).code ≡ taken) → Books (x ∷ xs)
 books_on x xs v s n i h f =
     let q : Pair = (piece_in 0 start_of x).pair in
@@ -190,27 +198,27 @@ books_on x xs v s n i h f =
     let e : hands_in start_of (x ∷ xs) ≡ hs = ap (λ (l : List Played). hs ++ l) n ∙ append-nil hs in
     let w : q.pool ≡ (opened_with (pool_said x)).pool = f.0 ∙ ap (λ (k : ℕ). (opened_with k).pool) (sym s) in
     let z : 0 + house_parts q.pool hs ≡ house_parts q.pool hs = omega arith in
-    let r = feeds_run q xs 1 0 (omega arith) i h f.1 in (
+    let r = feeds_run q xs (dues.Sheet First) 0 refl i h f.1 in (
       r.0 ∙ ap₂ pool_after w (sym e),
       r.1 ∙ ap (min most) z ∙ ap₂ (λ (c : Pool) (l : List Played). min most (house_parts c l)) w (sym e),
       opened_held (pool_said x) (ap (λ (k : ℕ). (opened_with k).code) s ∙ f.2),
     )
 
-books_whole : (d : ℕ) (lines : List ℕ) (xs : List Piece) → d ≡ 0 → in_order 1 xs ≡ true → (ran 0 start_of (Whole d lines ∷ xs)).pair.shut ≡ false → Books (Whole d lines ∷ xs)
+books_whole : (d : Due) (lines : List ℕ) (xs : List Piece) → d ≡ dues.Pool → in_order (dues.Sheet First) xs ≡ true → (ran 0 start_of (Whole d lines ∷ xs)).pair.shut ≡ false → Books (Whole d lines ∷ xs)
 unfolding whole_done
 books_whole d lines xs e i h =
     let x : Option ℕ = line_number pool_key lines in
-    let z : piece_in 0 start_of (Whole d lines) ≡ pool_done start_of x = open_in 0 start_of (Whole d lines) refl ∙ ap (λ (k : ℕ). whole_done 0 start_of k lines) e in
+    let z : piece_in 0 start_of (Whole d lines) ≡ pool_done start_of x = open_in 0 start_of (Whole d lines) refl ∙ ap (λ (k : Due). whole_done 0 start_of k lines) e in
     let o = still_open 0 (piece_in 0 start_of (Whole d lines)).pair xs h in
     let f = pool_opens start_of x (sym (ap (λ (g : Given). g.pair.shut) z) ∙ o) in
-    books_on (Whole d lines) xs (value_in x) refl (ap (λ (k : ℕ). pick (ltb k 3) [] (played_by start_of d lines)) e) i h
+    books_on (Whole d lines) xs (value_in x) refl (ap (λ (k : Due). pick (in_opening k) [] (played_by start_of d lines)) e) i h
     (ap (λ (g : Given). g.pair.pool) z ∙ f.0, ap (λ (g : Given). g.pair.house) z ∙ f.1, f.2)
 
-books : (xs : List Piece) → in_order 0 xs ≡ true → (ran 0 start_of xs).pair.shut ≡ false → Books xs
+books : (xs : List Piece) → in_order dues.Pool xs ≡ true → (ran 0 start_of xs).pair.shut ≡ false → Books xs
 books [] i h = books_none
 books (Whole d lines ∷ xs) i h =
-    let j = both_true (eqb d 0) (in_order 1 xs) i in
-    books_whole d lines xs (eqb-true d 0 j.0) j.1 h
+    let j = both_true (is_pool d) (in_order (dues.Sheet First) xs) i in
+    books_whole d lines xs (same_is d dues.Pool j.0) j.1 h
 books (Cut d ∷ xs) i h = absurd (false≢true i)
 books (OfNone ∷ xs) i h = absurd (false≢true i)
 books (Missing ∷ xs) i h = absurd (true≢false (sym (ap (λ (g : Given). g.pair.shut) (open_in 0 start_of Missing refl)) ∙ still_open 0 (piece_in 0 start_of Missing).pair xs h))

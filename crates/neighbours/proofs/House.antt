@@ -1,14 +1,12 @@
 -- Request No. 7, "`house` fits nine digits": over a whole input each table drops at most 333,333,333 (`drops_most`), so `house=` says all parts that went to the house
 -- (`house_over`), and the last two lines of `pair` are these numbers (`last_lines`). For any bytes with a good opening. Assumes nothing.
-use Prim.Native.Nat.{ℕ, suc, ◌+◌, ◌≤◌, ◌<◌}
+use Prim.Native.Nat.{ℕ, ◌+◌, ◌≤◌}
 use mathlib.Core.Bool.{Bool, true, false, false≢true}
 use mathlib.Core.Path.{◌≡◌, refl, sym, ap, ap₂, subst, ◌∙◌}
 use mathlib.Core.List.{List, [], ◌∷◌, ◌++◌}
 use mathlib.Core.Logic.{◌⊎◌, inl, inr}
 use native.Mathlib.Omega.{arith}
 use lib.ListN.{length}
-use lib.Dec.{eqb, ltb}
-use borrow.Author.Tests.{ltb-true, ltb-false, lt-ltb, ne_eqb, eqb-true}
 use Rattle.std.specs.Prelude.{Result, Ok, Err}
 use Rattle.paper.specs.declared.refusal.Refusal.{Refusal}
 use Rattle.laws.specs.Tests.{pick}
@@ -28,14 +26,16 @@ use Rattle.pool.specs.declared.Pool.{Pool}
 use Rattle.pool.specs.declared.Hand.{Hand}
 use Rattle.desk.specs.declared.Judged.{Judged}
 use Rattle.shared.specs.Shared.{judged_at}
-use Rattle.frames.specs.Frames.{Piece, Whole, Cut, OfNone, Missing, pieces_of}
+use Rattle.frames.specs.declared.Due.{Due}
+use Rattle.frames.specs.declared.Due.TheVariants as dues
+use Rattle.frames.specs.Frames.{is_pool, in_opening, Piece, Whole, Cut, OfNone, Missing, pieces_of}
 use Rattle.couple.specs.declared.Pair.{Pair}
 use Rattle.couple.specs.Couple.{is_second, table_at, start_of, last_bytes, Given, pool_key, house_key}
 use Rattle.pairs.specs.Pairs.{cut_lines, piece_in, ran, output_of}
 use Rattle.pairs.specs.Alone.{same_table}
 use Rattle.neighbours.specs.Keyed.{is_shut, is_of}
 use Rattle.neighbours.specs.Hands.{pool_of, which_of, settled_by, played_by, played_to, hands_in, hands_of}
-use Rattle.neighbours.proofs.Order.{of_table, of_table_most, is_due, behind, in_order, pieces_ordered}
+use Rattle.neighbours.proofs.Order.{of_table, same_part, same_is, is_due, behind, in_order, pieces_ordered}
 use Rattle.neighbours.proofs.Tables.{still_open, sheet_table, table_to, leads_in}
 use Rattle.neighbours.proofs.Drops.{Few, few_less, few_same, few_sum, few_judged}
 use Rattle.neighbours.proofs.Books.{pool_over, house_least}
@@ -85,15 +85,26 @@ few_sheet t lines (Ok s) sum e z f = subst (Few (fresh_table s)) (sym z) (few_fr
 few_sheet t lines (Err why) sum e z f = f
 
 -- a sheet is due in the opening, a block behind it
-early : (due d : ℕ) (lines : List ℕ) → is_due due (Whole d lines) ≡ true → ltb d 3 ≡ true → due < 3
-early due d lines i l = go (test (ltb due 3))
-  where
-    no : of_table d ≡ true → ltb d 3 ≡ true → due < 3
-    no o k = absurd (omega (arith, ltb-true d 3 k, of_table_most d o))
+block_late : (d : Due) → of_table d ≡ true → in_opening d ≡ false
+block_late dues.Pool h = absurd (false≢true h)
+block_late (dues.Sheet w) h = absurd (false≢true h)
+block_late dues.Table h = refl
+block_late dues.Stray h = refl
+block_late (dues.Block w) h = refl
 
-    go : (ltb due 3 ≡ true) ⊎ (ltb due 3 ≡ false) → due < 3
-    go (inl e) = ltb-true due 3 e
-    go (inr e) = no (sym (ap (λ (z : Bool). pick z (eqb d due) (of_table d)) e) ∙ i) l
+early : (due d : Due) (lines : List ℕ) → is_due due (Whole d lines) ≡ true → in_opening d ≡ true → in_opening due ≡ true
+early due d lines i l = go (test (in_opening due))
+  where
+    go : (in_opening due ≡ true) ⊎ (in_opening due ≡ false) → in_opening due ≡ true
+    go (inl e) = e
+    go (inr e) = absurd (false≢true (sym (block_late d (sym (ap (λ (z : Bool). pick z (same_part d due) (of_table d)) e) ∙ i)) ∙ l))
+
+late_not : (d : Due) → in_opening d ≡ false → is_pool d ≡ false
+late_not dues.Pool h = h
+late_not (dues.Sheet w) h = refl
+late_not dues.Table h = refl
+late_not dues.Stray h = refl
+late_not (dues.Block w) h = refl
 
 -- ---- one piece
 
@@ -110,7 +121,7 @@ module _ (second : Bool) (p : Pair) (sum : ℕ) (f : Few (table_at p.tables seco
       subst (λ (hs : List Played). Few (pick (is_of second x) (table_to t x) t) (sum + drops_of (which_of second) hs)) (sym n)
       (subst (λ (b : Bool). Few (pick b (table_to t x) t) (sum + 0)) (sym e) (few_same t sum f))
 
-  abbrev Got : ℕ → List ℕ → Bool → Bool → Type 0
+  abbrev Got : Due → List ℕ → Bool → Bool → Type 0
   Got d lines a b =
       Few (pick (pick a false (same_table second (is_second d))) (pick b (sheet_table t (sheet_of lines)) (judged_at t lines).table) t)
       (sum + drops_of (which_of second) (pick b [] (played_by p d lines)))
@@ -120,17 +131,17 @@ module _ (second : Bool) (p : Pair) (sum : ℕ) (f : Few (table_at p.tables seco
   few_opens lines false true e = few_same (sheet_table t (sheet_of lines)) sum (few_sheet t lines (sheet_of lines) sum refl e f)
   few_opens lines false false e = few_same t sum f
 
-  few_whole : (d : ℕ) (lines : List ℕ) → (ltb d 3 ≡ true → sum ≡ 0) → After (Whole d lines)
+  few_whole : (d : Due) (lines : List ℕ) → (in_opening d ≡ true → sum ≡ 0) → After (Whole d lines)
   unfolding drops_of
-  few_whole d lines z = go (test (ltb d 3))
+  few_whole d lines z = go (test (in_opening d))
     where
-      go : (ltb d 3 ≡ true) ⊎ (ltb d 3 ≡ false) → Got d lines (eqb d 0) (ltb d 3)
-      go (inl e) = subst (Got d lines (eqb d 0)) (sym e) (few_opens lines (eqb d 0) (same_table second (is_second d)) (z e))
+      go : (in_opening d ≡ true) ⊎ (in_opening d ≡ false) → Got d lines (is_pool d) (in_opening d)
+      go (inl e) = subst (Got d lines (is_pool d)) (sym e) (few_opens lines (is_pool d) (same_table second (is_second d)) (z e))
       go (inr e) =
-          subst (Got d lines (eqb d 0)) (sym e)
-          (subst (λ (a : Bool). Got d lines a false) (sym (ne_eqb d 0 (λ w. absurd (omega (arith, ltb-false d 3 e, w))))) (few_answer second (is_second d) p.tables lines sum f))
+          subst (Got d lines (is_pool d)) (sym e)
+          (subst (λ (a : Bool). Got d lines a false) (sym (late_not d e)) (few_answer second (is_second d) p.tables lines sum f))
 
-  few_piece : (due : ℕ) (x : Piece) → is_due due x ≡ true → (due < 3 → sum ≡ 0) → After x
+  few_piece : (due : Due) (x : Piece) → is_due due x ≡ true → (in_opening due ≡ true → sum ≡ 0) → After x
   few_piece due (Whole d lines) i z = few_whole d lines (λ e. z (early due d lines i e))
   few_piece due (Cut d) i z = few_answer second (is_second d) p.tables cut_lines sum f
   few_piece due OfNone i z = few_still OfNone refl refl
@@ -144,22 +155,22 @@ drops_append k [] gs = omega arith
 drops_append k (h ∷ hs) gs = omega (arith, drops_append k hs gs)
 
 -- in the opening no hand is settled
-none_early : (p : Pair) (due : ℕ) (x : Piece) → is_due due x ≡ true → due < 3 → played_to p x ≡ []
+none_early : (p : Pair) (due : Due) (x : Piece) → is_due due x ≡ true → in_opening due ≡ true → played_to p x ≡ []
 none_early p due (Whole d lines) i l =
-    let q : d ≡ due = eqb-true d due (sym (ap (λ (z : Bool). pick z (eqb d due) (of_table d)) (lt-ltb due 3 l)) ∙ i) in
-    ap (λ (z : Bool). pick z [] (played_by p d lines)) (lt-ltb d 3 (omega (arith, l, q)))
-none_early p due (Cut d) i l = absurd (false≢true (sym (ap (λ (z : Bool). pick z false (of_table d)) (lt-ltb due 3 l)) ∙ i))
+    let q : d ≡ due = same_is d due (sym (ap (λ (z : Bool). pick z (same_part d due) (of_table d)) l) ∙ i) in
+    ap (λ (z : Bool). pick z [] (played_by p d lines)) (ap in_opening q ∙ l)
+none_early p due (Cut d) i l = absurd (false≢true (sym (ap (λ (z : Bool). pick z false (of_table d)) l) ∙ i))
 none_early p due OfNone i l = refl
 none_early p due Missing i l = refl
 
-behind_early : (due : ℕ) → behind due < 3 → due < 3
-behind_early due l = go (test (ltb due 3))
-  where
-    go : (ltb due 3 ≡ true) ⊎ (ltb due 3 ≡ false) → due < 3
-    go (inl e) = ltb-true due 3 e
-    go (inr e) = absurd (omega (arith, ltb-false due 3 e, l, ap (λ (z : Bool). pick z (suc due) due) e))
+behind_early : (due : Due) → in_opening (behind due) ≡ true → in_opening due ≡ true
+behind_early dues.Pool l = refl
+behind_early (dues.Sheet w) l = refl
+behind_early dues.Table l = l
+behind_early dues.Stray l = l
+behind_early (dues.Block w) l = l
 
-drops_run : (second : Bool) (p : Pair) (xs : List Piece) (due sum : ℕ) → length p.tables ≡ 2 → in_order due xs ≡ true → (ran 0 p xs).pair.shut ≡ false → (due < 3 → sum ≡ 0)
+drops_run : (second : Bool) (p : Pair) (xs : List Piece) (due : Due) (sum : ℕ) → length p.tables ≡ 2 → in_order due xs ≡ true → (ran 0 p xs).pair.shut ≡ false → (in_opening due ≡ true → sum ≡ 0)
     → Few (table_at p.tables second) sum → sum + drops_of (which_of second) (hands_in p xs) ≤ 333333333
 unfolding drops_of
 drops_run second p [] due sum n i h z f = omega (arith, few_sum (table_at p.tables second) sum f)
@@ -174,7 +185,7 @@ drops_run second p (x ∷ xs) due sum n i h z f =
     let g : Few (table_at q.tables second) (sum + drops_of k gs) =
     subst (λ (t : Table). Few t (sum + drops_of k gs)) (sym s.0)
     (subst (λ (l : List Played). Few (pick (is_of second x) (table_to (table_at p.tables second) x) (table_at p.tables second)) (sum + drops_of k l)) (sym e) (few_piece second p sum f due x j.0 z)) in
-    let w : behind due < 3 → sum + drops_of k gs ≡ 0 =
+    let w : in_opening (behind due) ≡ true → sum + drops_of k gs ≡ 0 =
     λ l. omega (arith, z (behind_early due l), ap (drops_of k) (e ∙ none_early p due x j.0 (behind_early due l))) in
     let r = drops_run second q xs (behind due) (sum + drops_of k gs) s.1 j.1 h w g in
     omega (arith, r, drops_append k (hands_in q xs) gs)
@@ -197,7 +208,7 @@ parts_most p (h ∷ hs) = omega (arith, parts_most p hs, part_most (pool_after p
 
 module _ (input : List ℕ) (h : is_shut input ≡ false) where
   pub drops_most : (second : Bool) → drops_of (which_of second) (hands_of input) ≤ 333333333
-  drops_most second = omega (arith, drops_run second start_of (pieces_of input) 0 0 refl (pieces_ordered input) h (λ l. refl) (start second))
+  drops_most second = omega (arith, drops_run second start_of (pieces_of input) dues.Pool 0 refl (pieces_ordered input) h (λ l. refl) (start second))
     where
       start : (b : Bool) → Few (table_at start_of.tables b) 0
       start true = few_fresh stand_in (omega arith)

@@ -1,201 +1,166 @@
 -- The pieces of a whole input stand in their order (`pieces_ordered`): the line `pool`, the sheet of table 1, that of table 2, then blocks of table 1 and of table 2 and lines
 -- of no table; where the opening is not whole nothing is behind that. For any bytes. Assumes nothing.
-use Prim.Native.Nat.{ℕ, suc, ◌+◌, ◌≤◌, ◌<◌}
-use mathlib.Core.Bool.{Bool, true, false}
+use Prim.Native.Nat.{ℕ}
+use mathlib.Core.Bool.{Bool, true, false, true≢false, false≢true}
 use mathlib.Core.Path.{◌≡◌, refl, sym, ap, ap₂, subst, ◌∙◌}
 use mathlib.Core.List.{List, [], ◌∷◌, ◌++◌, append_assoc}
-use mathlib.Core.Logic.{◌⊎◌, inl, inr, ⊎_elim}
-use native.Mathlib.Numerals.{add-one}
-use native.Mathlib.Omega.{arith}
 use lib.ListN.{length, drop}
 use lib.Dec.{eqb, ltb}
-use borrow.Author.Tests.{lt-ltb, le-ltb, eq-eqb, ne_eqb, eqb-true}
 use Rattle.std.specs.Prelude.{Option, Some, None}
-use Rattle.laws.specs.Tests.{pick, both, either}
-use Rattle.laws.proofs.Tests.{test}
-use Rattle.laws.proofs.Sums.{le_or_lt}
-use Rattle.text.specs.Line.{line_number}
+use Rattle.laws.specs.Tests.{pick, both}
 use Rattle.lines.specs.Kept.{Kept, nothing, keep_of}
 use Rattle.frames.specs.declared.Next.{Next}
-use Rattle.frames.specs.Frames.{table_key, table_in, table_of, wanted, kept_next, table_next, other_next, line_next, end_what, Piece, Whole, Cut, OfNone, Missing, piece_of, Framed, still, line_start, line_done, last_line, byte_of, onward, pieces_of}
-use Rattle.frames.proofs.Nexts.{table_first, table_cut, other_first, other_more, other_block, line_opening, line_other, line_table, end_opening, end_none, end_line, end_run, end_block}
+use Rattle.frames.specs.declared.Made.TheVariants as made
+use Rattle.frames.specs.declared.Which.{Which}
+use Rattle.frames.specs.declared.Which.TheVariants.{First, Second}
+use Rattle.frames.specs.declared.Due.{Due}
+use Rattle.frames.specs.declared.Due.TheVariants.{Pool, Sheet, Table, Stray, Block}
+use Rattle.frames.specs.Frames.{table_of, is_pool, in_opening, in_block, wanted, after_part, kept_next, line_next, end_what, Piece, Whole, Cut, OfNone, Missing, piece_of, Framed, still, line_start, line_done, last_line, byte_of, onward, pieces_of}
 
 -- a block of table 1 or of table 2
-abbrev pub of_table : ℕ → Bool
-of_table due = either (eqb due 5) (eqb due 6)
+abbrev pub of_table : Due → Bool
+of_table due = in_block due
+
+abbrev same_which : Which → Which → Bool
+same_which First First = true
+same_which First Second = false
+same_which Second First = false
+same_which Second Second = true
+
+-- d is that part of the opening
+abbrev is_sheet_of : Which → Due → Bool
+is_sheet_of w Pool = false
+is_sheet_of w (Sheet v) = same_which w v
+is_sheet_of w Table = false
+is_sheet_of w Stray = false
+is_sheet_of w (Block v) = false
+
+abbrev pub same_part : Due → Due → Bool
+same_part d Pool = is_pool d
+same_part d (Sheet w) = is_sheet_of w d
+same_part d Table = false
+same_part d Stray = false
+same_part d (Block w) = false
 
 -- what the next piece may be, while so much is due
-abbrev pub is_due : ℕ → Piece → Bool
-is_due due (Whole d lines) = pick (ltb due 3) (eqb d due) (of_table d)
-is_due due (Cut d) = pick (ltb due 3) false (of_table d)
-is_due due OfNone = pick (ltb due 3) false true
-is_due due Missing = ltb due 3
+abbrev pub is_due : Due → Piece → Bool
+is_due due (Whole d lines) = pick (in_opening due) (same_part d due) (of_table d)
+is_due due (Cut d) = pick (in_opening due) false (of_table d)
+is_due due OfNone = pick (in_opening due) false true
+is_due due Missing = in_opening due
 
-abbrev pub behind : ℕ → ℕ
-behind due = pick (ltb due 3) (suc due) due
+abbrev pub behind : Due → Due
+behind due = after_part due
 
-abbrev pub in_order : ℕ → List Piece → Bool
+abbrev pub in_order : Due → List Piece → Bool
 in_order due [] = true
 in_order due (x ∷ xs) = both (is_due due x) (in_order (behind due) xs)
 
+same_sheet : (w v : Which) → same_which w v ≡ true → Sheet v ≡ Sheet w
+same_sheet First First h = refl
+same_sheet First Second h = absurd (false≢true h)
+same_sheet Second First h = absurd (false≢true h)
+same_sheet Second Second h = refl
+
+pub same_is : (d due : Due) → same_part d due ≡ true → d ≡ due
+same_is Pool Pool h = refl
+same_is (Sheet v) Pool h = absurd (false≢true h)
+same_is Table Pool h = absurd (false≢true h)
+same_is Stray Pool h = absurd (false≢true h)
+same_is (Block v) Pool h = absurd (false≢true h)
+same_is Pool (Sheet w) h = absurd (false≢true h)
+same_is (Sheet v) (Sheet w) h = same_sheet w v h
+same_is Table (Sheet w) h = absurd (false≢true h)
+same_is Stray (Sheet w) h = absurd (false≢true h)
+same_is (Block v) (Sheet w) h = absurd (false≢true h)
+same_is d Table h = absurd (false≢true h)
+same_is d Stray h = absurd (false≢true h)
+same_is d (Block w) h = absurd (false≢true h)
+
 -- ---- behind the opening it is all one what is due
 
-due_late : (due : ℕ) (x : Piece) → 3 ≤ due → is_due due x ≡ is_due 3 x
-due_late due (Whole d lines) h = ap (λ (z : Bool). pick z (eqb d due) (of_table d)) (le-ltb due 3 h)
-due_late due (Cut d) h = ap (λ (z : Bool). pick z false (of_table d)) (le-ltb due 3 h)
-due_late due OfNone h = ap (λ (z : Bool). pick z false true) (le-ltb due 3 h)
-due_late due Missing h = le-ltb due 3 h
+due_late : (due : Due) (x : Piece) → in_opening due ≡ false → is_due due x ≡ is_due Table x
+due_late due (Whole d lines) h = ap (λ (z : Bool). pick z (same_part d due) (of_table d)) h
+due_late due (Cut d) h = ap (λ (z : Bool). pick z false (of_table d)) h
+due_late due OfNone h = ap (λ (z : Bool). pick z false true) h
+due_late due Missing h = h
 
-late : (due : ℕ) (xs : List Piece) → 3 ≤ due → in_order due xs ≡ in_order 3 xs
+behind_late : (due : Due) → in_opening due ≡ false → behind due ≡ due
+behind_late Pool h = absurd (true≢false h)
+behind_late (Sheet w) h = absurd (true≢false h)
+behind_late Table h = refl
+behind_late Stray h = refl
+behind_late (Block w) h = refl
+
+late : (due : Due) (xs : List Piece) → in_opening due ≡ false → in_order due xs ≡ in_order Table xs
 late due [] h = refl
-late due (x ∷ xs) h =
-    ap₂ both (due_late due x h) (ap (λ (z : Bool). in_order (pick z (suc due) due) xs) (le-ltb due 3 h) ∙ late due xs h)
+late due (x ∷ xs) h = ap₂ both (due_late due x h) (ap (λ (d : Due). in_order d xs) (behind_late due h) ∙ late due xs h)
 
-later : (due e : ℕ) (xs : List Piece) → 3 ≤ due → 3 ≤ e → in_order e xs ≡ true → in_order due xs ≡ true
+later : (due e : Due) (xs : List Piece) → in_opening due ≡ false → in_opening e ≡ false → in_order e xs ≡ true → in_order due xs ≡ true
 later due e xs h i o = late due xs h ∙ sym (late e xs i) ∙ o
-
-put : (due : ℕ) (x : Piece) (xs : List Piece) → is_due due x ≡ true → in_order (behind due) xs ≡ true → in_order due (x ∷ xs) ≡ true
-put due x xs a o = ap (λ (z : Bool). both z (in_order (behind due) xs)) a ∙ o
-
-put_later : (due e : ℕ) (x : Piece) (xs : List Piece) → 3 ≤ due → 3 ≤ e → is_due 3 x ≡ true → in_order e xs ≡ true → in_order due (x ∷ xs) ≡ true
-put_later due e x xs h i a o = late due (x ∷ xs) h ∙ put 3 x xs a (sym (late e xs i) ∙ o)
-
-of_table_law : (due : ℕ) → 5 ≤ due → due ≤ 6 → of_table due ≡ true
-of_table_law due h i =
-    ⊎_elim
-    (λ (a : due ≤ 5). ap (λ (z : Bool). either z (eqb due 6)) (eq-eqb due 5 (omega arith)))
-    (λ (a : 5 < due). rw (ne_eqb due 5 (λ e. omega arith), eq-eqb due 6 (omega arith)))
-    (le_or_lt due 5)
-
-pub of_table_most : (due : ℕ) → of_table due ≡ true → 5 ≤ due
-of_table_most due h = go (test (eqb due 5))
-  where
-    go : (eqb due 5 ≡ true) ⊎ (eqb due 5 ≡ false) → 5 ≤ due
-    go (inl e) = omega (arith, eqb-true due 5 e)
-    go (inr e) = omega (arith, eqb-true due 6 (sym (ap (λ (z : Bool). either z (eqb due 6)) e) ∙ h))
 
 -- ---- one line
 
-module _ (due : ℕ) (bytes : List ℕ) (small : due ≤ 6) where
+module _ (due : Due) (bytes : List ℕ) where
   -- what a line makes whole is due, and what is due then comes behind it
   abbrev Fits : Next → Type 0
-  Fits x = (x.due ≤ 6) × ((ys : List Piece) → in_order x.due ys ≡ true → in_order due (piece_of x.what due bytes ++ ys) ≡ true)
+  Fits x = (ys : List Piece) → in_order x.due ys ≡ true → in_order due (piece_of x.what due bytes ++ ys) ≡ true
 
-  kept_fits : (lines after : ℕ) → after ≤ 6 → ((ys : List Piece) → in_order after ys ≡ true → in_order due (Whole due bytes ∷ ys) ≡ true) → Fits (kept_next due lines after)
+  kept_fits : (lines : ℕ) (after : Due) → ((ys : List Piece) → in_order after ys ≡ true → in_order due (Whole due bytes ∷ ys) ≡ true) → Fits (kept_next due lines after)
   unfolding kept_next
-  kept_fits lines after h f = go (ltb lines (wanted due))
+  kept_fits lines after f = go (ltb lines (wanted due))
     where
-      go : (z : Bool) → Fits (pick z (record { due = due; keeps = true; what = 0 }) (record { due = after; keeps = false; what = 1 }))
-      go true = (small, λ ys o. o)
-      go false = (h, f)
+      go : (z : Bool) → Fits (pick z (record { due = due; keeps = true; what = None }) (record { due = after; keeps = false; what = Some made.Whole }))
+      go true = λ ys o. o
+      go false = f
 
-  opening_fits : (lines table : ℕ) → due < 3 → Fits (line_next due lines table)
-  opening_fits lines table l =
-      subst Fits (line_opening due lines table l refl)
-      (kept_fits lines (due + 1) (omega arith) (λ ys o.
-      put due (Whole due bytes) ys
-      (ap (λ (z : Bool). pick z (eqb due due) (of_table due)) (lt-ltb due 3 l) ∙ eq-eqb due due refl)
-      (ap (λ (z : Bool). in_order (pick z (suc due) due) ys) (lt-ltb due 3 l) ∙ sym (ap (λ (d : ℕ). in_order d ys) (add-one due)) ∙ o)))
-
-  block_fits : (lines : ℕ) → 5 ≤ due → Fits (kept_next due lines 3)
-  block_fits lines h = kept_fits lines 3 (omega arith) (λ ys o. put_later due 3 (Whole due bytes) ys (omega arith) (omega arith) (of_table_law due h small) o)
-
-  other_fits : (lines : ℕ) → 3 ≤ due → Fits (other_next due lines)
-  other_fits lines h =
-      ⊎_elim
-      (λ (a : 5 ≤ due). subst Fits (other_block due lines a refl) (block_fits lines a))
-      (λ (a : due < 5).
-      ⊎_elim
-      (λ (e : due ≤ 3). subst Fits (other_first due lines (omega arith)) (omega arith, λ ys o. put_later due 4 OfNone ys h (omega arith) refl o))
-      (λ (e : 3 < due). subst Fits (other_more due lines (λ z. omega arith) a) (omega arith, λ ys o. later due 4 ys h (omega arith) o))
-      (le_or_lt due 3))
-      (le_or_lt 5 due)
-
-  table_fits : (table : ℕ) → 3 ≤ due → table ≤ 2 → Fits (table_next due table)
-  table_fits table h t =
-      ⊎_elim
-      (λ (a : 5 ≤ due). subst Fits (table_cut due table a) (omega arith, λ ys o. put_later due (table + 4) (Cut due) ys h (omega arith) (of_table_law due a small) o))
-      (λ (a : due < 5). subst Fits (table_first due table a) (omega arith, λ ys o. later due (table + 4) ys h (omega arith) o))
-      (le_or_lt 5 due)
-
-  line_fits : (lines table : ℕ) → table ≤ 2 → Fits (line_next due lines table)
-  line_fits lines table t =
-      ⊎_elim
-      (λ (a : 3 ≤ due).
-      ⊎_elim
-      (λ (e : table ≤ 0). subst Fits (line_other due lines table a (omega arith) refl) (other_fits lines a))
-      (λ (e : 0 < table). subst Fits (line_table due lines table a (λ z. omega arith) refl) (table_fits table a t))
-      (le_or_lt table 0))
-      (λ (a : due < 3). opening_fits lines table a)
-      (le_or_lt 3 due)
+line_fits : (due : Due) (bytes : List ℕ) (lines : ℕ) (table : Option Which) → Fits due bytes (line_next due lines table)
+line_fits Pool bytes lines table = kept_fits Pool bytes lines (Sheet First) (λ ys o. o)
+line_fits (Sheet First) bytes lines table = kept_fits (Sheet First) bytes lines (Sheet Second) (λ ys o. o)
+line_fits (Sheet Second) bytes lines table = kept_fits (Sheet Second) bytes lines Table (λ ys o. o)
+line_fits Table bytes lines None = λ ys o. later Table Stray ys refl refl o
+line_fits Table bytes lines (Some w) = λ ys o. later Table (Block w) ys refl refl o
+line_fits Stray bytes lines None = λ ys o. o
+line_fits Stray bytes lines (Some w) = λ ys o. later Stray (Block w) ys refl refl o
+line_fits (Block v) bytes lines None = kept_fits (Block v) bytes lines Table (λ ys o. later (Block v) Table ys refl refl o)
+line_fits (Block v) bytes lines (Some w) = λ ys o. later (Block v) (Block w) ys refl refl o
 
 -- ---- byte after byte
 
-in_two : (x : Option ℕ) → table_in x ≤ 2
-in_two (Some v) = go (eqb v 1) (eqb v 2)
-  where
-    go : (a b : Bool) → pick a 1 (pick b 2 0) ≤ 2
-    go true b = omega arith
-    go false true = omega arith
-    go false false = omega arith
-in_two None = omega arith
+abbrev Leads : Due → Framed → Type 0
+Leads due r = (ys : List Piece) → in_order r.due ys ≡ true → in_order due (r.pieces ++ ys) ≡ true
 
-of_two : (line : List ℕ) → table_of line ≤ 2
-unfolding table_of
-of_two line = in_two (line_number table_key line)
-
-abbrev Leads : ℕ → Framed → Type 0
-Leads due r = (r.due ≤ 6) × ((ys : List Piece) → in_order r.due ys ≡ true → in_order due (r.pieces ++ ys) ≡ true)
-
-byte_leads : (due : ℕ) (k : Kept) (b : ℕ) → due ≤ 6 → Leads due (byte_of due k b)
+byte_leads : (due : Due) (k : Kept) (b : ℕ) → Leads due (byte_of due k b)
 unfolding byte_of
-byte_leads due k b h = go (ltb k.lines (keep_of k b).lines)
+byte_leads due k b = go (ltb k.lines (keep_of k b).lines)
   where
     go : (z : Bool) → Leads due (pick z (line_done due (keep_of k b) (last_line due (keep_of k b) (line_start k))) (still due (keep_of k b)))
-    go true = line_fits due (keep_of k b).bytes h (keep_of k b).lines (table_of (drop (line_start k) (keep_of k b).bytes)) (of_two (drop (line_start k) (keep_of k b).bytes))
-    go false = (h, λ ys o. o)
+    go true = line_fits due (keep_of k b).bytes (keep_of k b).lines (table_of (drop (line_start k) (keep_of k b).bytes))
+    go false = λ ys o. o
 
-onward_leads : (due : ℕ) (k : Kept) (bs : List ℕ) → due ≤ 6 → Leads due (onward due k bs)
-onward_leads due k [] h = (h, λ ys o. o)
-onward_leads due k (b ∷ bs) h =
+onward_leads : (due : Due) (k : Kept) (bs : List ℕ) → Leads due (onward due k bs)
+onward_leads due k [] = λ ys o. o
+onward_leads due k (b ∷ bs) =
     let x : Framed = byte_of due k b in
     let y : Framed = onward x.due x.kept bs in
-    let s : Leads due x = byte_leads due k b h in
-    let r : Leads x.due y = onward_leads x.due x.kept bs s.0 in
-    (r.0, λ ys o. subst (λ (l : List Piece). in_order due l ≡ true) (sym (append_assoc x.pieces y.pieces ys)) (s.1 (y.pieces ++ ys) (r.1 ys o)))
+    let s : Leads due x = byte_leads due k b in
+    let r : Leads x.due y = onward_leads x.due x.kept bs in
+    λ ys o. subst (λ (l : List Piece). in_order due l ≡ true) (sym (append_assoc x.pieces y.pieces ys)) (s (y.pieces ++ ys) (r ys o))
 
 -- ---- the end
 
-module _ (due count : ℕ) (h : due ≤ 6) where
-  abbrev Last : ℕ → Type 0
-  Last what = in_order due (piece_of what due []) ≡ true
+last_due : (due : Due) (count : ℕ) → in_order due (piece_of (end_what due count) due []) ≡ true
+last_due Pool count = refl
+last_due (Sheet w) count = refl
+last_due Table count = go (eqb count 0)
+  where
+    go : (z : Bool) → in_order Table (piece_of (pick z None (Some made.OfNone)) Table []) ≡ true
+    go true = refl
+    go false = refl
+last_due Stray count = refl
+last_due (Block w) count = refl
 
-  last_late : 3 ≤ due → Last (end_what due count)
-  last_late a =
-      ⊎_elim
-      (λ (e : due ≤ 3).
-      ⊎_elim
-      (λ (z : count ≤ 0). subst Last (end_none due count (omega arith) (omega arith)) refl)
-      (λ (z : 0 < count). subst Last (end_line due count (omega arith) (λ w. omega arith)) (put_later due 3 OfNone [] a (omega arith) refl refl))
-      (le_or_lt count 0))
-      (λ (e : 3 < due).
-      ⊎_elim
-      (λ (z : due ≤ 4). subst Last (end_run due count (omega arith)) refl)
-      (λ (z : 4 < due).
-      subst Last (end_block due count a (λ w. omega arith) (λ w. omega arith))
-      (put_later due 3 (Cut due) [] a (omega arith) (of_table_law due (omega arith) h) refl))
-      (le_or_lt due 4))
-      (le_or_lt due 3)
-
-  last_due : Last (end_what due count)
-  last_due =
-      ⊎_elim
-      last_late
-      (λ (a : due < 3). subst Last (end_opening due count a) (put due Missing [] (lt-ltb due 3 a) refl))
-      (le_or_lt 3 due)
-
-pub pieces_ordered : (input : List ℕ) → in_order 0 (pieces_of input) ≡ true
+pub pieces_ordered : (input : List ℕ) → in_order Pool (pieces_of input) ≡ true
 pieces_ordered input =
-    let x : Framed = onward 0 nothing input in
-    let s : Leads 0 x = onward_leads 0 nothing input (omega arith) in
-    s.1 (piece_of (end_what x.due (length x.kept.bytes)) x.due []) (last_due x.due (length x.kept.bytes) s.0)
+    let x : Framed = onward Pool nothing input in
+    onward_leads Pool nothing input (piece_of (end_what x.due (length x.kept.bytes)) x.due []) (last_due x.due (length x.kept.bytes))

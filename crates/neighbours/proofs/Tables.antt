@@ -6,7 +6,7 @@ use mathlib.Core.Path.{◌≡◌, refl, sym, ap, ap₂, subst, ◌∙◌}
 use mathlib.Core.List.{List, [], ◌∷◌, ◌++◌, map, map-append}
 use mathlib.Core.Logic.{⊎_elim}
 use lib.ListN.{length, length-set}
-use lib.Dec.{eqb, ltb}
+use lib.Dec.{eqb}
 use Rattle.std.specs.Prelude.{Option, Some, None, Result, Ok, Err}
 use Rattle.paper.specs.declared.Sheet.{Sheet}
 use Rattle.paper.specs.declared.refusal.Refusal.{Refusal}
@@ -20,7 +20,8 @@ use Rattle.table.specs.Take.{fresh_table}
 use Rattle.pool.specs.Jackpot.{opened_with}
 use Rattle.pool.specs.declared.Pool.{Pool}
 use Rattle.shared.specs.Shared.{judged_at, bytes_at}
-use Rattle.frames.specs.Frames.{table_due, Piece, Whole, Cut, OfNone, Missing}
+use Rattle.frames.specs.declared.Due.{Due}
+use Rattle.frames.specs.Frames.{is_pool, in_opening, Piece, Whole, Cut, OfNone, Missing}
 use Rattle.couple.specs.declared.Pair.{Pair}
 use Rattle.couple.specs.Couple.{is_second, table_at, with_table, Given, still, refused, pool_key, pool_done, sheet_done}
 use Rattle.pairs.specs.Pairs.{answered, cut_lines, whole_done, piece_done, piece_in, ran}
@@ -56,7 +57,7 @@ sheet_table t (Ok s) = fresh_table s
 sheet_table t (Err why) = t
 
 abbrev pub table_to : Table → Piece → Table
-table_to t (Whole due lines) = pick (ltb due table_due) (sheet_table t (sheet_of lines)) (judged_at t lines).table
+table_to t (Whole due lines) = pick (in_opening due) (sheet_table t (sheet_of lines)) (judged_at t lines).table
 table_to t (Cut due) = (judged_at t cut_lines).table
 table_to t OfNone = t
 table_to t Missing = t
@@ -66,7 +67,7 @@ table_runs t [] = t
 table_runs t (x ∷ xs) = table_runs (table_to t x) xs
 
 abbrev blank_to : Table → Piece → List (List ℕ)
-blank_to t (Whole due lines) = pick (ltb due table_due) [] (blanked (bytes_at t any_pool lines) ∷ [])
+blank_to t (Whole due lines) = pick (in_opening due) [] (blanked (bytes_at t any_pool lines) ∷ [])
 blank_to t (Cut due) = blanked (bytes_at t any_pool cut_lines) ∷ []
 blank_to t OfNone = []
 blank_to t Missing = []
@@ -105,7 +106,7 @@ module _ (p : Pair) (n : length p.tables ≡ 2) (second : Bool) where
   leads_same true = refl
   leads_same false = refl
 
-  leads_answer : (due : ℕ) (lines : List ℕ) → Leads (same_table second (is_second due)) (λ t. (judged_at t lines).table) (answered 0 p due lines)
+  leads_answer : (due : Due) (lines : List ℕ) → Leads (same_table second (is_second due)) (λ t. (judged_at t lines).table) (answered 0 p due lines)
   leads_answer due lines = (
     at_own (λ t. (judged_at t lines).table) p.tables second (is_second due) n,
     length-set p.tables (pick (is_second due) 1 0) (judged_at (table_at p.tables (is_second due)) lines).table ∙ n,
@@ -119,13 +120,13 @@ module _ (p : Pair) (n : length p.tables ≡ 2) (second : Bool) where
       go false = (refl, n)
   leads_pool f None = (refl, n)
 
-  leads_sheet : (due : ℕ) (x : Result Sheet Refusal) → Leads (same_table second (is_second due)) (λ t. sheet_table t x) (sheet_done p due x)
+  leads_sheet : (due : Due) (x : Result Sheet Refusal) → Leads (same_table second (is_second due)) (λ t. sheet_table t x) (sheet_done p due x)
   leads_sheet due (Ok s) = (at_own (λ t. fresh_table s) p.tables second (is_second due) n, length-set p.tables (pick (is_second due) 1 0) (fresh_table s) ∙ n)
   leads_sheet due (Err why) = (sym (leads_same (same_table second (is_second due))), n)
 
-  leads_whole : (due : ℕ) (lines : List ℕ) → Leads (is_of second (Whole due lines)) (λ t. table_to t (Whole due lines)) (whole_done 0 p due lines)
+  leads_whole : (due : Due) (lines : List ℕ) → Leads (is_of second (Whole due lines)) (λ t. table_to t (Whole due lines)) (whole_done 0 p due lines)
   unfolding whole_done
-  leads_whole due lines = go (eqb due 0) (ltb due 3)
+  leads_whole due lines = go (is_pool due) (in_opening due)
     where
       go : (a b : Bool) → Leads (pick a false (same_table second (is_second due))) (λ t. pick b (sheet_table t (sheet_of lines)) (judged_at t lines).table)
           (pick a (pool_done p (line_number pool_key lines)) (pick b (sheet_done p due (sheet_of lines)) (answered 0 p due lines)))
@@ -159,9 +160,9 @@ module _ (p : Pair) (second : Bool) where
       go false true = refl
       go false false = one (table_at p.tables false)
 
-  blank_whole : (due : ℕ) (lines : List ℕ) → map blanked (pick (is_of second (Whole due lines)) (answer_to p (Whole due lines)) [])
+  blank_whole : (due : Due) (lines : List ℕ) → map blanked (pick (is_of second (Whole due lines)) (answer_to p (Whole due lines)) [])
       ≡ pick (is_of second (Whole due lines)) (blank_to (table_at p.tables second) (Whole due lines)) []
-  blank_whole due lines = go (eqb due 0) (ltb due 3) (same_table second (is_second due)) (blank_own lines (is_second due))
+  blank_whole due lines = go (is_pool due) (in_opening due) (same_table second (is_second due)) (blank_own lines (is_second due))
     where
       go : (a b c : Bool) → map blanked (pick c (bytes_at (table_at p.tables (is_second due)) p.pool lines ∷ []) [])
           ≡ pick c (blanked (bytes_at (table_at p.tables second) any_pool lines) ∷ []) []

@@ -1,6 +1,6 @@
 -- Request No. 7: "Pool opening plus all drops equals jackpot payments, the parts that went to the house, and the pool." The opening of a whole input, and the hands that its
 -- blocks settle at the one table and the other, the newest first. Assumes nothing.
-use Rattle.std.specs.Prelude.{ℕ, Bool, List, [], ◌∷◌, ◌++◌, ltb}
+use Rattle.std.specs.Prelude.{ℕ, Bool, List, [], ◌∷◌, ◌++◌}
 use Rattle.laws.specs.Tests.{pick}
 use Rattle.text.specs.Line.{line_number}
 use Rattle.text.specs.TableSheet.{value_in}
@@ -11,7 +11,8 @@ use Rattle.pool.specs.Evening.{Which, table1, table2, Played}
 use Rattle.pool.specs.declared.Pool.{Pool}
 use Rattle.desk.specs.declared.Judged.{Judged}
 use Rattle.shared.specs.Shared.{judged_at}
-use Rattle.frames.specs.Frames.{table_due, Piece, Whole, Cut, OfNone, Missing, pieces_of}
+use Rattle.frames.specs.declared.Due.{Due}
+use Rattle.frames.specs.Frames.{in_opening, Piece, Whole, Cut, OfNone, Missing, pieces_of}
 use Rattle.couple.specs.declared.Pair.{Pair}
 use Rattle.couple.specs.Couple.{is_second, table_at, start_of, pool_key}
 use Rattle.pairs.specs.Pairs.{cut_lines, piece_in}
@@ -41,11 +42,11 @@ which_of second = pick second table2 table1
 abbrev pub settled_by : Bool → Table → Judged → List Played
 settled_by second t j = pick j.payout.settled (record { at = which_of second; hand = record { drop = j.payout.drop; royal = royal_now t } } ∷ []) []
 
-abbrev pub played_by : Pair → ℕ → List ℕ → List Played
+abbrev pub played_by : Pair → Due → List ℕ → List Played
 played_by p due lines = let t : Table = table_at p.tables (is_second due) in settled_by (is_second due) t (judged_at t lines)
 
 abbrev pub played_to : Pair → Piece → List Played
-played_to p (Whole due lines) = pick (ltb due table_due) [] (played_by p due lines)
+played_to p (Whole due lines) = pick (in_opening due) [] (played_by p due lines)
 played_to p (Cut due) = played_by p due cut_lines
 played_to p OfNone = []
 played_to p Missing = []

@@ -4,18 +4,17 @@ use Prim.Native.Nat.{ℕ}
 use mathlib.Core.Bool.{Bool, true, false, false≢true}
 use mathlib.Core.Path.{◌≡◌, refl, sym, ap, subst, ◌∙◌}
 use mathlib.Core.List.{List, [], ◌∷◌, ◌++◌}
-use mathlib.Core.Logic.{⊎_elim}
 use native.Mathlib.Omega.{arith}
 use lib.ListN.{length, length-set}
 use lib.Seq.{get_or-set_same, get_or-set_other}
-use lib.Dec.{ltb}
-use borrow.Author.Tests.{ne_eqb, ltb-false}
 use Rattle.laws.specs.Tests.{pick}
-use Rattle.laws.proofs.Tests.{test, both_true}
+use Rattle.laws.proofs.Tests.{both_true}
 use Rattle.paper.specs.Paper.{stand_in}
 use Rattle.table.specs.declared.table.Table.{Table}
 use Rattle.table.specs.Take.{fresh_table}
 use Rattle.shared.specs.Shared.{judged_at}
+use Rattle.frames.specs.declared.Due.{Due}
+use Rattle.frames.specs.declared.Due.TheVariants as due_as
 use Rattle.frames.specs.Frames.{Piece, Whole, Cut, OfNone, Missing}
 use Rattle.couple.specs.declared.Pair.{Pair}
 use Rattle.couple.specs.Couple.{is_second, table_at, with_table, Given}
@@ -41,7 +40,7 @@ own_run false true p t lines e = refl
 own_run false false p t lines e = ap (λ (x : Table). (judged_at x lines).table) e
 
 -- a table that answers: its table, the other's as it was, and still two
-answers : (only : ℕ) (p : Pair) (due : ℕ) (lines : List ℕ) (second : Bool) → Two p
+answers : (only : ℕ) (p : Pair) (due : Due) (lines : List ℕ) (second : Bool) → Two p
     → (table_at (answered only p due lines).pair.tables second ≡ table_run (table_at p.tables second) (pick (same_table second (is_second due)) (lines ∷ []) [])) × Two (answered only p due lines).pair
 answers only p due lines second h =
     let t : Table = table_at p.tables (is_second due) in (
@@ -49,12 +48,13 @@ answers only p due lines second h =
       (h.0, length-set p.tables (pick (is_second due) 1 0) (judged_at t lines).table ∙ h.1),
     )
 
-whole_is : (only : ℕ) (p : Pair) (due : ℕ) (lines : List ℕ) → is_block (Whole due lines) ≡ true → whole_done only p due lines ≡ answered only p due lines
+whole_is : (only : ℕ) (p : Pair) (due : Due) (lines : List ℕ) → is_block (Whole due lines) ≡ true → whole_done only p due lines ≡ answered only p due lines
 unfolding whole_done
-whole_is only p due lines b = ⊎_elim
-    (λ e. absurd (false≢true (sym (ap (λ (x : Bool). pick x false true) e) ∙ b)))
-    (λ e. rw (ne_eqb due 0 (λ z. absurd (omega (arith, ltb-false due 3 e, z))), e))
-    (test (ltb due 3))
+whole_is only p due_as.Pool lines b = absurd (false≢true b)
+whole_is only p (due_as.Sheet t) lines b = absurd (false≢true b)
+whole_is only p due_as.Table lines b = refl
+whole_is only p due_as.Stray lines b = refl
+whole_is only p (due_as.Block t) lines b = refl
 
 -- one piece
 piece_alone : (only : ℕ) (p : Pair) (x : Piece) (second : Bool) → Two p → is_block x ≡ true

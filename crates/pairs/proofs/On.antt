@@ -19,9 +19,11 @@ use Rattle.text.proofs.Parts.{part_is}
 use Rattle.writing.specs.AnswerSheet.{over}
 use Rattle.writing.proofs.Sheets.{then}
 use Rattle.lines.specs.Kept.{Kept, nothing, Gathered, gather_of, kept_in, kept_most}
+use Rattle.frames.specs.declared.Due.{Due}
+use Rattle.frames.specs.declared.Due.TheVariants.{Pool}
 use Rattle.frames.specs.declared.Frame.{Frame}
 use Rattle.frames.specs.declared.Heard.{Heard}
-use Rattle.frames.specs.Frames.{Piece, Framed, and_then, onward, piece_of, end_what, closing, parts_of, pool_due, Held, last_line, whole_heard, kept_heard, heard_as}
+use Rattle.frames.specs.Frames.{Piece, Framed, and_then, onward, piece_of, end_what, closing, parts_of, Held, last_line, whole_heard, kept_heard, heard_as}
 use Rattle.frames.proofs.Onward.{said_by, hear_onward, onward_append, pieces_parts}
 use Rattle.couple.specs.declared.Pair.{Pair}
 use Rattle.couple.specs.Couple.{start_of, last_bytes, Given, room_most, Gave, Good}
@@ -39,9 +41,6 @@ heard_due f g = go (ltb f.fill.lines g.kept.lines)
     go : (b : Bool) → (pick b (whole_heard f g (last_line f.due g.kept (f.fill.count - f.fill.width))) (kept_heard f g)).of ≡ f.due
     go true = refl
     go false = refl
-
-pub of_fits : (f : Frame) (g : Gathered) {h : Heard} → h ≡ heard_as f g → f.due ≤ 6 → h.of ≤ 6
-of_fits f g {h} e l = omega (arith, l, ap (λ (x : Heard). x.of) e, heard_due f g)
 
 module _ (f : Frame) (buf part : List ℕ) (held : Held f) (size : kept_most ≤ length buf) {h : Heard} {buf2 : List ℕ}
     (e : h ≡ heard_as f (gather_of (f.fill.lines + 1) (kept_in f.fill buf) part))
@@ -75,7 +74,7 @@ heard_on f buf part used u d buf2 e k =
     let x : Framed = heard_of f buf part used in
     ap (onward f.due (kept_in f.fill buf)) (take-add used u part)
     ∙ onward_append f.due (kept_in f.fill buf) (take used part) (take u (drop used part))
-    ∙ ap (λ (i : ℕ). and_then x (onward i x.kept (take u (drop used part)))) (sym e)
+    ∙ ap (λ (i : Due). and_then x (onward i x.kept (take u (drop used part)))) (sym e)
     ∙ ap (λ (y : Kept). and_then x (onward d.due y (take u (drop used part)))) (sym k)
 
 -- ---- the test
@@ -184,11 +183,11 @@ module _ {only : ℕ} {p : Pair} {f : Frame} {buf₀ part out₀ buf out : List 
 
 -- what the bytes of an input give, and at its end the rest: the whole output
 pub output_closed : (only : ℕ) (input : List ℕ)
-    → let x : Framed = onward pool_due nothing input in let y : Given = ran only start_of x.pieces in
+    → let x : Framed = onward Pool nothing input in let y : Given = ran only start_of x.pieces in
     y.bytes ++ close_bytes only y.pair x.due (length x.kept.bytes) ≡ output_of only input
 unfolding close_bytes
 output_closed only input =
-    let x : Framed = onward pool_due nothing input in
+    let x : Framed = onward Pool nothing input in
     let last : List Piece = piece_of (end_what x.due (length x.kept.bytes)) x.due [] in
     let y : Given = ran only start_of x.pieces in
     let z : Given = ran only y.pair last in
@@ -197,5 +196,5 @@ output_closed only input =
 
 -- and it does not depend on the cuts
 pub pair_parts : (only : ℕ) (parts : List (List ℕ))
-    → let x : Given = ran only start_of (closing (parts_of pool_due nothing parts)) in x.bytes ++ last_bytes only x.pair ≡ output_of only (whole parts)
+    → let x : Given = ran only start_of (closing (parts_of Pool nothing parts)) in x.bytes ++ last_bytes only x.pair ≡ output_of only (whole parts)
 pair_parts only parts = ap (λ (l : List Piece). (ran only start_of l).bytes ++ last_bytes only (ran only start_of l).pair) (pieces_parts parts)

@@ -1,13 +1,13 @@
 -- Piece after piece: what two lists of pieces one behind the other give, a bad opening ends it, and each call gives what its piece does. For the proofs of the
 -- functions. Assumes nothing.
-use Prim.Native.Nat.{ℕ, ◌-◌, ◌≤◌, ◌<◌}
+use Prim.Native.Nat.{ℕ, ◌-◌, ◌≤◌}
 use mathlib.Core.Bool.{Bool, true, false}
 use mathlib.Core.Path.{◌≡◌, refl, sym, ap, subst, ◌∙◌}
 use mathlib.Core.List.{List, [], ◌∷◌, ◌++◌, append_assoc, append-nil}
 use native.Mathlib.Omega.{arith}
 use lib.ListN.{length, take, drop, length-append, length-drop}
 use lib.Seq.{take-append_seam}
-use borrow.Author.Tests.{eq-eqb, ne_eqb, lt-ltb, le-ltb, le-leb}
+use borrow.Author.Tests.{le-leb}
 use Rattle.std.specs.Prelude.{Ok, Err}
 use Rattle.paper.specs.declared.refusal.Refusal.TheVariants.{NoRoom}
 use Rattle.laws.specs.Tests.{pick}
@@ -21,6 +21,12 @@ use Rattle.desk.specs.declared.Judged.{Judged}
 use Rattle.pool.specs.declared.Settled.{Settled}
 use Rattle.shared.specs.declared.SharedAnswer.{SharedAnswer}
 use Rattle.shared.specs.Shared.{judged_at, settled_at, bytes_at, said, shared_from}
+use Rattle.std.specs.Prelude.{Option, Some, None}
+use Rattle.frames.specs.declared.Which.{Which}
+use Rattle.frames.specs.declared.Due.{Due}
+use Rattle.frames.specs.declared.Due.TheVariants as due_as
+use Rattle.frames.specs.declared.Made.{Made}
+use Rattle.frames.specs.declared.Made.TheVariants as made
 use Rattle.frames.specs.Frames.{Piece, Whole, Cut, OfNone, Missing, piece_of}
 use Rattle.couple.specs.declared.Pair.{Pair}
 use Rattle.couple.specs.Couple.{is_second, table_at, with_table, house_with, shown_bytes, Given, still, stray_done, refused, pool_key, pool_done, sheet_done, Gave, Good}
@@ -65,48 +71,55 @@ shut_gave only p xs out e = subst (λ (g : Given). Gave g out out p 0) (sym (ran
 
 -- ---- one piece
 
-module _ (only : ℕ) (p : Pair) (due : ℕ) (lines : List ℕ) {out new : List ℕ} {q : Pair} {w : ℕ} (o : p.shut ≡ false) where
+module _ (only : ℕ) (p : Pair) (due : Due) (lines : List ℕ) {out new : List ℕ} {q : Pair} {w : ℕ} (o : p.shut ≡ false) where
   one_gave : (x : Piece) → Gave (piece_done only p x) out new q w → Gave (ran only p (x ∷ [])) out new q w
   one_gave x g = subst (λ (y : Given). Gave y out new q w) (sym (ran_one only p x o)) g
 
-  told : (what : ℕ) (k : ℕ) → what ≡ k → Gave (ran only p (piece_of k due lines)) out new q w → Gave (ran only p (piece_of what due lines)) out new q w
-  told what k e g = subst (λ (i : ℕ). Gave (ran only p (piece_of i due lines)) out new q w) (sym e) g
+  told : (what k : Option Made) → what ≡ k → Gave (ran only p (piece_of k due lines)) out new q w → Gave (ran only p (piece_of what due lines)) out new q w
+  told what k e g = subst (λ (i : Option Made). Gave (ran only p (piece_of i due lines)) out new q w) (sym e) g
 
-  pub whole_piece : {what : ℕ} → what ≡ 1 → Gave (whole_done only p due lines) out new q w → Gave (ran only p (piece_of what due lines)) out new q w
-  whole_piece {what} e g = told what 1 e (one_gave (Whole due lines) g)
+  pub whole_piece : {what : Option Made} → what ≡ Some made.Whole → Gave (whole_done only p due lines) out new q w → Gave (ran only p (piece_of what due lines)) out new q w
+  whole_piece {what} e g = told what (Some made.Whole) e (one_gave (Whole due lines) g)
 
-  pub cut_piece : {what : ℕ} → what ≡ 2 → Gave (answered only p due cut_lines) out new q w → Gave (ran only p (piece_of what due lines)) out new q w
-  cut_piece {what} e g = told what 2 e (one_gave (Cut due) g)
+  pub cut_piece : {what : Option Made} → what ≡ Some made.Cut → Gave (answered only p due cut_lines) out new q w → Gave (ran only p (piece_of what due lines)) out new q w
+  cut_piece {what} e g = told what (Some made.Cut) e (one_gave (Cut due) g)
 
-  pub none_piece : {what : ℕ} → what ≡ 3 → Gave (stray_done only p) out new q w → Gave (ran only p (piece_of what due lines)) out new q w
-  none_piece {what} e g = told what 3 e (one_gave OfNone g)
+  pub none_piece : {what : Option Made} → what ≡ Some made.OfNone → Gave (stray_done only p) out new q w → Gave (ran only p (piece_of what due lines)) out new q w
+  none_piece {what} e g = told what (Some made.OfNone) e (one_gave OfNone g)
 
-  pub missing_piece : {what : ℕ} → (what ≡ 0 → ⊥) → (what ≡ 1 → ⊥) → (what ≡ 2 → ⊥) → (what ≡ 3 → ⊥) → Gave (refused p) out new q w → Gave (ran only p (piece_of what due lines)) out new q w
-  missing_piece {what} a b c d g =
-      let e : piece_of what due lines ≡ Missing ∷ [] = rw (ne_eqb what 0 a, ne_eqb what 1 b, ne_eqb what 2 c, ne_eqb what 3 d) in
-      subst (λ (l : List Piece). Gave (ran only p l) out new q w) (sym e) (one_gave Missing g)
+  pub missing_piece : {what : Option Made} → what ≡ Some made.Missing → Gave (refused p) out new q w → Gave (ran only p (piece_of what due lines)) out new q w
+  missing_piece {what} e g = told what (Some made.Missing) e (one_gave Missing g)
 
-pub no_piece : (only : ℕ) (p : Pair) (due : ℕ) (lines out : List ℕ) {what : ℕ} → what ≡ 0 → Gave (ran only p (piece_of what due lines)) out out p 0
-no_piece only p due lines out {what} e = subst (λ (i : ℕ). Gave (ran only p (piece_of i due lines)) out out p 0) (sym e) (still_gave p out)
+pub no_piece : (only : ℕ) (p : Pair) (due : Due) (lines out : List ℕ) {what : Option Made} → what ≡ None → Gave (ran only p (piece_of what due lines)) out out p 0
+no_piece only p due lines out {what} e = subst (λ (i : Option Made). Gave (ran only p (piece_of i due lines)) out out p 0) (sym e) (still_gave p out)
 
-pub end_gave : (only : ℕ) (p : Pair) (due what k : ℕ) {out new : List ℕ} {q : Pair} {w : ℕ} → what ≡ k → Gave (ran only p (piece_of what due [])) out new q w
+pub end_gave : (only : ℕ) (p : Pair) (due : Due) (what k : Option Made) {out new : List ℕ} {q : Pair} {w : ℕ} → what ≡ k → Gave (ran only p (piece_of what due [])) out new q w
     → Gave (ran only p (piece_of k due [])) out new q w
-end_gave only p due what k {out} {new} {q} {w} e g = subst (λ (i : ℕ). Gave (ran only p (piece_of i due [])) out new q w) e g
+end_gave only p due what k {out} {new} {q} {w} e g = subst (λ (i : Option Made). Gave (ran only p (piece_of i due [])) out new q w) e g
 
 -- ---- a part of the opening, or a block
 
-module _ (only : ℕ) (p : Pair) (due : ℕ) (lines : List ℕ) {out new : List ℕ} {q : Pair} {w : ℕ} where
-  pub whole_pool : due ≡ 0 → Gave (pool_done p (line_number pool_key lines)) out new q w → Gave (whole_done only p due lines) out new q w
-  unfolding whole_done
-  whole_pool e g = subst (λ (x : Given). Gave x out new q w) (sym (rw (eq-eqb due 0 e))) g
+block_is : (only : ℕ) (p : Pair) (lines : List ℕ) (d : Due) → (d ≡ due_as.Pool → ⊥) → ((t : Which) → d ≡ due_as.Sheet t → ⊥) → whole_done only p d lines ≡ answered only p d lines
+unfolding whole_done
+block_is only p lines due_as.Pool n m = absurd (n refl)
+block_is only p lines (due_as.Sheet t) n m = absurd (m t refl)
+block_is only p lines due_as.Table n m = refl
+block_is only p lines due_as.Stray n m = refl
+block_is only p lines (due_as.Block t) n m = refl
 
-  pub whole_sheet : (due ≡ 0 → ⊥) → due < 3 → Gave (sheet_done p due (sheet_of lines)) out new q w → Gave (whole_done only p due lines) out new q w
+module _ (only : ℕ) (p : Pair) (due : Due) (lines : List ℕ) {out new : List ℕ} {q : Pair} {w : ℕ} where
+  pub whole_pool : due ≡ due_as.Pool → Gave (pool_done p (line_number pool_key lines)) out new q w → Gave (whole_done only p due lines) out new q w
   unfolding whole_done
-  whole_sheet n l g = subst (λ (x : Given). Gave x out new q w) (sym (rw (ne_eqb due 0 n, lt-ltb due 3 l))) g
+  whole_pool e g = subst (λ (x : Given). Gave x out new q w) (sym (ap (λ (d : Due). whole_done only p d lines) e)) g
 
-  pub whole_block : 3 ≤ due → Gave (answered only p due lines) out new q w → Gave (whole_done only p due lines) out new q w
+  pub whole_sheet : {t : Which} → due ≡ due_as.Sheet t → Gave (sheet_done p due (sheet_of lines)) out new q w → Gave (whole_done only p due lines) out new q w
   unfolding whole_done
-  whole_block l g = subst (λ (x : Given). Gave x out new q w) (sym (rw (ne_eqb due 0 (λ e. omega arith), le-ltb due 3 l))) g
+  whole_sheet {t} e g =
+      subst (λ (x : Given). Gave x out new q w) (sym (ap (λ (d : Due). whole_done only p d lines) e))
+      (subst (λ (d : Due). Gave (sheet_done p d (sheet_of lines)) out new q w) e g)
+
+  pub whole_block : (due ≡ due_as.Pool → ⊥) → ((t : Which) → due ≡ due_as.Sheet t → ⊥) → Gave (answered only p due lines) out new q w → Gave (whole_done only p due lines) out new q w
+  whole_block n m g = subst (λ (x : Given). Gave x out new q w) (sym (block_is only p lines due n m)) g
 
 -- what was written lies within the sheet
 pub within : {bs out new : List ℕ} {w : ℕ} → length new ≡ length out → Wrote bs out new w → w ≤ length out
@@ -114,7 +127,7 @@ within {bs} {out} {new} {w} e v = omega (arith, e, v.count, ap length v.sheet, l
 
 -- ---- a block at its table
 
-module _ (only : ℕ) (p : Pair) (due : ℕ) (lines sheet : List ℕ) (g : Good p) {second : Bool} {t : Table} (b : second ≡ is_second due) (e : t ≡ table_at p.tables second)
+module _ (only : ℕ) (p : Pair) (due : Due) (lines sheet : List ℕ) (g : Good p) {second : Bool} {t : Table} (b : second ≡ is_second due) (e : t ≡ table_at p.tables second)
     (room : length (bytes_at t p.pool lines) ≤ length sheet) {a : SharedAnswer} {sheet2 : List ℕ}
     (f : a ≡ shared_from t p.pool (judged_at t lines) (written_of (bytes_at t p.pool lines) sheet)) (h : sheet2 ≡ sheet_after (bytes_at t p.pool lines) sheet) where
   said_is : a ≡ said (judged_at t lines) (settled_at t p.pool (judged_at t lines)) (length (bytes_at t p.pool lines))

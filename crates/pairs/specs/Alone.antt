@@ -1,10 +1,10 @@
 -- Request No. 7: "Whatever table A does, table B's .. are the same". The lines that a table is given, out of all pieces, oldest first, and the table after them.
 -- Assumes nothing.
-use Rattle.std.specs.Prelude.{ℕ, Bool, true, false, List, [], ◌∷◌, ◌++◌, ltb}
+use Rattle.std.specs.Prelude.{ℕ, Bool, true, false, List, [], ◌∷◌, ◌++◌}
 use Rattle.laws.specs.Tests.{pick, both}
 use Rattle.table.specs.declared.table.Table.{Table}
 use Rattle.shared.specs.Shared.{judged_at}
-use Rattle.frames.specs.Frames.{table_due, Piece, Whole, Cut, OfNone, Missing}
+use Rattle.frames.specs.Frames.{in_opening, Piece, Whole, Cut, OfNone, Missing}
 use Rattle.couple.specs.Couple.{is_second}
 use Rattle.pairs.specs.Pairs.{cut_lines}
 
@@ -32,7 +32,7 @@ table_run t (l ∷ ls) = table_run (judged_at t l).table ls
 
 -- a piece behind the opening
 abbrev pub is_block : Piece → Bool
-is_block (Whole due lines) = pick (ltb due table_due) false true
+is_block (Whole due lines) = pick (in_opening due) false true
 is_block (Cut due) = true
 is_block OfNone = true
 is_block Missing = false

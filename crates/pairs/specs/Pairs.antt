@@ -1,14 +1,15 @@
 -- Request No. 7, the program `pair`: what is answered to each piece of the input, oldest first; the whole output; and the input however it is chopped. Assumes nothing.
-use Rattle.std.specs.Prelude.{ℕ, ◌-◌, ◌≤◌, ◌≡◌, Bool, List, [], ◌∷◌, ◌++◌, take, drop, eqb, ltb, leb}
+use Rattle.std.specs.Prelude.{ℕ, ◌-◌, ◌≤◌, ◌≡◌, Bool, List, [], ◌∷◌, ◌++◌, take, drop, ltb, leb}
 use Rattle.laws.specs.Tests.{pick, both}
 use Rattle.text.specs.Line.{line_number}
 use Rattle.text.specs.TableSheet.{sheet_of}
 use Rattle.table.specs.declared.table.Table.{Table}
 use Rattle.lines.specs.Kept.{kept_in}
 use Rattle.shared.specs.Shared.{judged_at, settled_at, bytes_at}
+use Rattle.frames.specs.declared.Due.{Due}
 use Rattle.frames.specs.declared.Frame.{Frame}
 use Rattle.frames.specs.declared.Heard.{Heard}
-use Rattle.frames.specs.Frames.{table_due, Piece, Whole, Cut, OfNone, Missing, piece_of, end_what, pieces_of, Framed, onward}
+use Rattle.frames.specs.Frames.{is_pool, in_opening, Piece, Whole, Cut, OfNone, Missing, piece_of, end_what, pieces_of, Framed, onward}
 use Rattle.couple.specs.declared.Pair.{Pair}
 use Rattle.couple.specs.Couple.{is_second, table_at, with_table, start_of, house_with, shown_bytes, last_bytes, Given, still, stray_done, refused, pool_key, pool_done, sheet_done, room_most, Gave}
 use Rattle.pairs.specs.declared.Fed.{Fed}
@@ -16,7 +17,7 @@ use Rattle.pairs.specs.declared.Fed.{Fed}
 -- ---- piece by piece
 
 -- the table that is due answers these lines; the pool and the house get what it drops
-abbrev pub answered : ℕ → Pair → ℕ → List ℕ → Given
+abbrev pub answered : ℕ → Pair → Due → List ℕ → Given
 answered only p due lines =
     let t : Table = table_at p.tables (is_second due) in
     let j = judged_at t lines in
@@ -30,10 +31,10 @@ answered only p due lines =
 abbrev pub cut_lines : List ℕ
 cut_lines = 10 ∷ []
 
-unfoldable pub whole_done : ℕ → Pair → ℕ → List ℕ → Given
+unfoldable pub whole_done : ℕ → Pair → Due → List ℕ → Given
 whole_done only p due lines =
-    pick (eqb due 0) (pool_done p (line_number pool_key lines))
-    (pick (ltb due table_due) (sheet_done p due (sheet_of lines)) (answered only p due lines))
+    pick (is_pool due) (pool_done p (line_number pool_key lines))
+    (pick (in_opening due) (sheet_done p due (sheet_of lines)) (answered only p due lines))
 
 abbrev pub piece_done : ℕ → Pair → Piece → Given
 piece_done only p (Whole due lines) = whole_done only p due lines
@@ -83,7 +84,7 @@ abbrev pub goes_on : ℕ → ℕ → ℕ → Bool
 goes_on used size room = both (ltb used size) (leb room_most room)
 
 -- at the end of the input, with so many bytes kept of what is due
-unfoldable pub close_bytes : ℕ → Pair → ℕ → ℕ → List ℕ
+unfoldable pub close_bytes : ℕ → Pair → Due → ℕ → List ℕ
 close_bytes only p due count =
     let x : Given = ran only p (piece_of (end_what due count) due []) in
     x.bytes ++ last_bytes only x.pair

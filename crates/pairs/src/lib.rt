@@ -3,7 +3,7 @@
 
 ghost use Rattle.std.specs.Prelude.{◌≡◌, false, [], ◌+◌, ◌≤◌, ◌<◌, length};
 ghost use Rattle.lines.specs.Kept.{kept_most};
-ghost use Rattle.frames.specs.Frames.{Held, last_due, piece_of, end_what};
+ghost use Rattle.frames.specs.Frames.{Held, piece_of, end_what};
 ghost use Rattle.couple.specs.Couple.{Good, room_most, Gave};
 ghost use Rattle.pairs.specs.Pairs.{answered, whole_done, ran, said_of, heard_of, FedOn, goes_on};
 
@@ -11,7 +11,7 @@ use couple::{
     Pair, PairAfter, ROOM, house_with, is_second, of_none, open_line, open_sheet, put_shown,
     refuse, table_at, with_table,
 };
-use frames::{CUT, Frame, Heard, NOTHING, OF_NONE, POOL, TABLE, WHOLE, at_end, hear};
+use frames::{Due, Frame, Heard, Made, at_end, hear};
 use laws::both;
 use shared::{LONGEST, answer_at};
 
@@ -19,12 +19,12 @@ use shared::{LONGEST, answer_at};
 fn answer_on(
     p: Pair,
     only: u8,
-    due: u8,
+    due: Due,
     lines: &[u8],
     sheet: &mut [u8],
     out: &mut [u8],
 ) -> PairAfter
-    requires { Good p × (due ≤ last_due) × (only ≤ 2) × (length sheet.old ≡ 560) × (room_most ≤ length out.old) }
+    requires { Good p × (only ≤ 2) × (length sheet.old ≡ 560) × (room_most ≤ length out.old) }
     ensures gave { Gave (answered only p due lines.now) out.old out.new result.pair result.written }
     ensures good { Good result.pair }
 {
@@ -48,8 +48,8 @@ fn answer_on(
 }
 
 // The table that is due answers these lines.
-fn answer_lines(p: Pair, only: u8, due: u8, lines: &[u8], out: &mut [u8]) -> PairAfter
-    requires { Good p × (due ≤ last_due) × (only ≤ 2) × (room_most ≤ length out.old) }
+fn answer_lines(p: Pair, only: u8, due: Due, lines: &[u8], out: &mut [u8]) -> PairAfter
+    requires { Good p × (only ≤ 2) × (room_most ≤ length out.old) }
     ensures gave { Gave (answered only p due lines.now) out.old out.new result.pair result.written }
     ensures good { Good result.pair }
 {
@@ -58,47 +58,53 @@ fn answer_lines(p: Pair, only: u8, due: u8, lines: &[u8], out: &mut [u8]) -> Pai
 }
 
 // A part of the opening, or a block.
-fn whole(p: Pair, only: u8, due: u8, lines: &[u8], out: &mut [u8]) -> PairAfter
-    requires { Good p × (due ≤ last_due) × (only ≤ 2) × (room_most ≤ length out.old) }
+fn whole(p: Pair, only: u8, due: Due, lines: &[u8], out: &mut [u8]) -> PairAfter
+    requires { Good p × (only ≤ 2) × (room_most ≤ length out.old) }
     ensures gave { Gave (whole_done only p due lines.now) out.old out.new result.pair result.written }
     ensures good { Good result.pair }
 {
-    if due == POOL {
-        return open_line(p, lines, out);
+    match due {
+        Due::Pool => open_line(p, lines, out),
+        Due::Sheet(_) => open_sheet(p, due, lines, out),
+        _ => answer_lines(p, only, due, lines, out),
     }
-    if due < TABLE {
-        return open_sheet(p, due, lines, out);
-    }
-    answer_lines(p, only, due, lines, out)
 }
 
 // A piece, where the opening was not bad.
-fn piece(p: Pair, only: u8, what: u8, due: u8, lines: &[u8], out: &mut [u8]) -> PairAfter
-    requires { Good p × (p.shut ≡ false) × (due ≤ last_due) × (only ≤ 2) × (room_most ≤ length out.old) }
+fn piece(
+    p: Pair,
+    only: u8,
+    what: Option<Made>,
+    due: Due,
+    lines: &[u8],
+    out: &mut [u8],
+) -> PairAfter
+    requires { Good p × (p.shut ≡ false) × (only ≤ 2) × (room_most ≤ length out.old) }
     ensures gave { Gave (ran only p (piece_of what due lines.now)) out.old out.new result.pair result.written }
     ensures good { Good result.pair }
 {
-    if what == NOTHING {
-        return PairAfter {
+    match what {
+        None => PairAfter {
             pair: p,
             written: 0,
-        };
+        },
+        Some(Made::Whole) => whole(p, only, due, lines, out),
+        Some(Made::Cut) => answer_lines(p, only, due, b"\n", out),
+        Some(Made::OfNone) => of_none(p, only, out),
+        Some(Made::Missing) => refuse(p, out),
     }
-    if what == WHOLE {
-        return whole(p, only, due, lines, out);
-    }
-    if what == CUT {
-        return answer_lines(p, only, due, b"\n", out);
-    }
-    if what == OF_NONE {
-        return of_none(p, only, out);
-    }
-    refuse(p, out)
 }
 
 // A piece of the input. Behind a bad opening nothing is answered.
-pub fn take_piece(p: Pair, only: u8, what: u8, due: u8, lines: &[u8], out: &mut [u8]) -> PairAfter
-    requires { Good p × (due ≤ last_due) × (only ≤ 2) × (room_most ≤ length out.old) }
+pub fn take_piece(
+    p: Pair,
+    only: u8,
+    what: Option<Made>,
+    due: Due,
+    lines: &[u8],
+    out: &mut [u8],
+) -> PairAfter
+    requires { Good p × (only ≤ 2) × (room_most ≤ length out.old) }
     ensures gave { Gave (ran only p (piece_of what due lines.now)) out.old out.new result.pair result.written }
     ensures good { Good result.pair × (result.written ≤ length out.old) }
 {
@@ -124,17 +130,17 @@ pub struct Fed {
 fn hear_on(f: Frame, buf: &mut [u8], part: &[u8]) -> Heard
     requires { Held f × (kept_most ≤ length buf.old) }
     ensures heard { said_of result buf.new ≡ heard_of f buf.old part.now result.used }
-    ensures held { Held result.frame × (result.used ≤ length part.now) × (0 < length part.now → 0 < result.used) × (result.count ≤ kept_most) × (result.of ≤ last_due) }
+    ensures held { Held result.frame × (result.used ≤ length part.now) × (0 < length part.now → 0 < result.used) × (result.count ≤ kept_most) }
 {
     let of = f.due;
     let mut h = Heard {
         frame: f,
         used: 0,
-        what: NOTHING,
+        what: None,
         of,
         count: 0,
     };
-    while both(h.what == NOTHING, h.used < part.len()) {
+    while both(h.what.is_none(), h.used < part.len()) {
         let from = h.used;
         let d = h.frame;
         let k = hear(d, buf, &part[from..]);

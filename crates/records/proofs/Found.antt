@@ -2,6 +2,7 @@
 use mathlib.Core.Path.{◌≡◌, refl, sym, ◌∙◌, ap, subst}
 use Prim.Native.Nat.{ℕ, zero, suc, ◌+◌, ◌-◌, ◌<◌, ◌≤◌}
 use mathlib.Core.Bool.{Bool, true, false}
+use Rattle.std.specs.Prelude.{Option, Some, None, is_some, unwrap_or}
 use mathlib.Core.Logic.{inl, inr}
 use mathlib.Core.List.{List, [], ◌∷◌}
 use lib.ListN.{length, get_or, get_or-eq_default}
@@ -15,29 +16,29 @@ use Rattle.blocks.specs.Entry.{entry_at}
 use Rattle.laws.proofs.Tests.{test}
 use Rattle.records.specs.declared.Record.{Record}
 use Rattle.records.specs.Bytes.{word_at}
-use Rattle.records.specs.Stored.{no_record, record_at}
+use Rattle.records.specs.Stored.{no_record, record_at, behind}
 use Rattle.records.specs.Reading.{later_of, last_on, last_hand}
 
 module _ (log : List ℕ) (at : ℕ) where
-  abbrev some : ℕ → Record
-  some a = record { there = true; kind = get_or log at 0; seat = get_or log (at + 1) 0; b = get_or log (at + 2) 0; a = a; next = at + 8 }
+  abbrev some : ℕ → Option Record
+  some a = Some (record { kind = get_or log at 0; seat = get_or log (at + 1) 0; b = get_or log (at + 2) 0; a = a })
 
-  pub absent : {left : ℕ} → left ≡ length log - at → left < 8 → no_record at ≡ record_at log at
+  pub absent : {left : ℕ} → left ≡ length log - at → left < 8 → None ≡ record_at log at
   unfolding record_at
-  absent {left} e l = sym (ap (λ (t : Bool). pick t (no_record at) (some (word_at log (at + 4)))) (ap (λ (m : ℕ). ltb m 8) (sym e) ∙ lt-ltb left 8 l))
+  absent {left} e l = sym (ap (λ (t : Bool). pick t None (some (word_at log (at + 4)))) (ap (λ (m : ℕ). ltb m 8) (sym e) ∙ lt-ltb left 8 l))
 
   pub present : {left a : ℕ} → left ≡ length log - at → 8 ≤ left → a ≡ word_at log (at + 4) → some a ≡ record_at log at
   unfolding record_at
   present {left} {a} e l ea =
-      ap some ea ∙ sym (ap (λ (t : Bool). pick t (no_record at) (some (word_at log (at + 4)))) (ap (λ (m : ℕ). ltb m 8) (sym e) ∙ le-ltb left 8 l))
+      ap some ea ∙ sym (ap (λ (t : Bool). pick t None (some (word_at log (at + 4)))) (ap (λ (m : ℕ). ltb m 8) (sym e) ∙ le-ltb left 8 l))
 
-  gone : length log - at < 8 → (record_at log at).there ≡ false
-  gone l = ap (λ (r : Record). r.there) (sym (absent refl l))
+  gone : length log - at < 8 → is_some (record_at log at) ≡ false
+  gone l = ap (λ (r : Option Record). is_some r) (sym (absent refl l))
 
-  here : 8 ≤ length log - at → (record_at log at).there ≡ true
-  here l = ap (λ (r : Record). r.there) (sym (present refl l refl))
+  here : 8 ≤ length log - at → is_some (record_at log at) ≡ true
+  here l = ap (λ (r : Option Record). is_some r) (sym (present refl l refl))
 
-  pub here_long : (record_at log at).there ≡ true → 8 ≤ length log - at
+  pub here_long : is_some (record_at log at) ≡ true → 8 ≤ length log - at
   here_long e = elim (test (ltb (length log - at) 8)) [
     | inl y ↦ absurd (yes-no (sym e ∙ gone (ltb-true (length log - at) 8 y)))
     | inr n ↦ ltb-false (length log - at) 8 n
@@ -46,35 +47,33 @@ module _ (log : List ℕ) (at : ℕ) where
       yes-no : true ≡ false → ⊥
       yes-no h = subst (λ (t : Bool). pick t (Unit {0}) ⊥) h tt
 
-  pub next_is : 8 ≤ length log - at → (record_at log at).next ≡ at + 8
-  next_is l = ap (λ (r : Record). r.next) (sym (present refl l refl))
+  pub next_is : 8 ≤ length log - at → behind log at ≡ at + 8
+  next_is l = ap (λ (t : Bool). pick t (at + 8) at) (here l)
+
+  pub next_stays : length log - at < 8 → behind log at ≡ at
+  next_stays l = ap (λ (t : Bool). pick t (at + 8) at) (gone l)
 
 -- ---- the place behind the last `hand` record
 
-pub later_hand : (last : ℕ) (r : Record) → r.kind ≡ 2 → r.next ≡ later_of last r
-later_hand last r e = sym (ap (λ (t : Bool). pick t r.next last) (eq-eqb r.kind 2 e))
+pub later_hand : (last next : ℕ) (r : Record) → r.kind ≡ 2 → next ≡ later_of last next r
+later_hand last next r e = sym (ap (λ (t : Bool). pick t next last) (eq-eqb r.kind 2 e))
 
-pub later_other : (last : ℕ) (r : Record) → (r.kind ≡ 2 → ⊥) → last ≡ later_of last r
-later_other last r e = sym (ap (λ (t : Bool). pick t r.next last) (ne_eqb r.kind 2 e))
+pub later_other : (last next : ℕ) (r : Record) → (r.kind ≡ 2 → ⊥) → last ≡ later_of last next r
+later_other last next r e = sym (ap (λ (t : Bool). pick t next last) (ne_eqb r.kind 2 e))
 
 module _ (log : List ℕ) where
-  -- a turn: the record is there
-  pub turn : (f at last : ℕ) → (record_at log at).there ≡ true → length log - at ≤ f
-      → last_on f log at last ≡ last_on (f - 1) log (record_at log at).next (later_of last (record_at log at))
-  turn zero at last e h = absurd (not-suc-le-zero {n = 0} (omega (arith, here_long log at e, h)))
-  turn (suc f) at last e h =
-      ap (λ (t : Bool). pick t (last_on f log (record_at log at).next (later_of last (record_at log at))) last) e
-      ∙ (let q : f ≡ suc f - 1 = omega arith in ap (λ (k : ℕ). last_on k log (record_at log at).next (later_of last (record_at log at))) q)
-
-  pub fewer : (f at : ℕ) → (record_at log at).there ≡ true → length log - at ≤ f → length log - (record_at log at).next ≤ f - 1
-  fewer f at e h =
-      let l = here_long log at e in
-      subst (λ (k : ℕ). length log - k ≤ f - 1) (sym (next_is log at l)) (omega (arith, l, h))
+  -- a turn: the record r is there
+  pub turn : (f at last : ℕ) {r : Record} → record_at log at ≡ Some r → length log - at ≤ f
+      → last_on f log at last ≡ last_on (f - 1) log (at + 8) (later_of last (at + 8) r)
+  turn zero at last e h = absurd (not-suc-le-zero {n = 0} (omega (arith, here_long log at (ap (λ (o : Option Record). is_some o) e), h)))
+  turn (suc f) at last {r} e h =
+      ap (λ (o : Option Record). pick (is_some o) (last_on f log (at + 8) (later_of last (at + 8) (unwrap_or o no_record))) last) e
+      ∙ (let q : f ≡ suc f - 1 = omega arith in ap (λ (k : ℕ). last_on k log (at + 8) (later_of last (at + 8) r)) q)
 
   -- the end
-  pub done : (f at last : ℕ) → (record_at log at).there ≡ false → last_on f log at last ≡ last
+  pub done : (f at last : ℕ) → record_at log at ≡ None → last_on f log at last ≡ last
   done zero at last e = refl
-  done (suc f) at last e = ap (λ (t : Bool). pick t (last_on f log (record_at log at).next (later_of last (record_at log at))) last) e
+  done (suc f) at last e = ap (λ (o : Option Record). pick (is_some o) (last_on f log (at + 8) (later_of last (at + 8) (unwrap_or o no_record))) last) e
 
   pub all_of : last_on (length log) log 0 0 ≡ last_hand log
   unfolding last_hand

@@ -1,7 +1,7 @@
 -- Request No. 12: "Keep the log in a lent buffer of fixed-size records .. with an index beside it: for each hand, where it starts and each stack then."
 -- A record is 8 bytes: kind (0 to 11 in 01's order), seat, b, 0, a (four bytes, low first); the entry's n is its place, counted from 1. A row is 44 bytes: the n of
 -- the `hand` entry, then ten stacks before the blinds, four bytes each, low first. Assumes nothing.
-use Rattle.std.specs.Prelude.{ℕ, ◌+◌, ◌-◌, ◌*◌, ◌%◌, true, false, List, ◌∷◌, ◌++◌, length, get_or, ltb}
+use Rattle.std.specs.Prelude.{ℕ, ◌+◌, ◌-◌, ◌*◌, ◌%◌, Option, Some, None, is_some, unwrap_or, List, ◌∷◌, ◌++◌, length, get_or, ltb}
 use Rattle.laws.specs.Tests.{pick}
 use Rattle.paper.specs.declared.Entry.{Entry}
 use Rattle.paper.specs.declared.Numbers.{Numbers}
@@ -18,19 +18,23 @@ record_size = 8
 abbrev pub record_bytes : Numbers → List ℕ
 record_bytes x = x.kind % 256 ∷ x.seat % 256 ∷ x.b % 256 ∷ 0 ∷ word_bytes x.a
 
--- no record
-abbrev pub no_record : ℕ → Record
-no_record at = record { there = false; kind = 0; seat = 0; b = 0; a = 0; next = at }
+-- what stands for a record where there is none
+abbrev pub no_record : Record
+no_record = record { kind = 0; seat = 0; b = 0; a = 0 }
 
--- the record at a place of a log; where eight bytes are not left there is none, and next stays
-unfoldable pub record_at : List ℕ → ℕ → Record
+-- the record at a place of a log; where eight bytes are not left there is none
+unfoldable pub record_at : List ℕ → ℕ → Option Record
 record_at log at =
-    pick (ltb (length log - at) record_size) (no_record at)
-    (record { there = true; kind = get_or log at 0; seat = get_or log (at + 1) 0; b = get_or log (at + 2) 0; a = word_at log (at + 4); next = at + record_size })
+    pick (ltb (length log - at) record_size) None
+    (Some (record { kind = get_or log at 0; seat = get_or log (at + 1) 0; b = get_or log (at + 2) 0; a = word_at log (at + 4) }))
+
+-- the place behind it; where there is none the place stays
+abbrev pub behind : List ℕ → ℕ → ℕ
+behind log at = pick (is_some (record_at log at)) (at + record_size) at
 
 -- the k-th record, counted from 0, and its entry
 abbrev pub record_in : List ℕ → ℕ → Record
-record_in log k = record_at log (record_size * k)
+record_in log k = unwrap_or (record_at log (record_size * k)) no_record
 
 abbrev pub entry_by : Record → Entry
 entry_by r = entry_at r.kind r.seat r.a r.b

@@ -17,17 +17,22 @@ pub const RECORD: usize = 8;
 
 pub const ROW: usize = 44;
 
-// A record as it is read at a place: whether it is there, the entry's kind and its three numbers, and the place behind it. Where there is none all numbers are
-// 0 and the place stays.
+// A record as it is read at a place: the entry's kind and its three numbers.
 #[derive(Clone, Copy)]
 pub struct Record {
-    pub there: bool,
     pub kind: u8,
     pub seat: u8,
     pub b: u8,
     pub a: u32,
-    pub next: usize,
 }
+
+// What stands for a record where there is none.
+pub const NO_RECORD: Record = Record {
+    kind: 0,
+    seat: 0,
+    b: 0,
+    a: 0,
+};
 
 // ---- bytes
 
@@ -85,38 +90,29 @@ fn left_of(log: &[u8], at: usize) -> usize
     if at < log.len() { log.len() - at } else { 0 }
 }
 
-// The record at a place.
-pub fn record_at(log: &[u8], at: usize) -> Record
+// The record at a place, where eight bytes are left.
+pub fn record_at(log: &[u8], at: usize) -> Option<Record>
     ensures { result ≡ record_at log.now at }
 {
     let left = left_of(log, at);
     if left < RECORD {
-        return Record {
-            there: false,
-            kind: 0,
-            seat: 0,
-            b: 0,
-            a: 0,
-            next: at,
-        };
+        return None;
     }
     let w = at + 4;
     let a = four(log[w], log[w + 1], log[w + 2], log[w + 3]);
-    Record {
-        there: true,
+    Some(Record {
         kind: log[at],
         seat: log[at + 1],
         b: log[at + 2],
         a,
-        next: at + RECORD,
-    }
+    })
 }
 
-// The k-th record of a log, counted from 0.
+// The k-th record of a log, counted from 0; all its numbers are 0 where there is none.
 pub fn record_in(log: &[u8], k: u32) -> Record
     ensures { result ≡ record_in log.now k }
 {
-    record_at(log, 8 * (k as usize))
+    record_at(log, 8 * (k as usize)).unwrap_or(NO_RECORD)
 }
 
 // The entry that a record has.
@@ -193,13 +189,6 @@ pub struct Reader<'a> {
     pub at: usize,
 }
 
-// A record, and the reader behind it.
-#[derive(Clone, Copy)]
-pub struct RecordRead<'a> {
-    pub got: Record,
-    pub rest: Reader<'a>,
-}
-
 impl<'a> Reader<'a> {
     // At the log's start.
     pub fn new(log: &'a [u8]) -> Reader<'a>
@@ -208,19 +197,16 @@ impl<'a> Reader<'a> {
         Reader { log, at: 0 }
     }
 
-    // The record at its place, and the reader behind it.
-    pub fn next(self) -> RecordRead<'a>
-        ensures { result ≡ after self.entry }
+    // The record at its place, behind which it then stands. Where there is none it stays.
+    pub fn next(&mut self) -> Option<Record>
+        ensures got { result ≡ record_at self.old.log.now self.old.at }
+        ensures rest { self.new ≡ after self.old }
     {
         let got = record_at(self.log, self.at);
-        let next = got.next;
-        RecordRead {
-            got,
-            rest: Reader {
-                log: self.log,
-                at: next,
-            },
+        if got.is_some() {
+            self.at += RECORD;
         }
+        got
     }
 
     // The same log at another place.
@@ -231,22 +217,21 @@ impl<'a> Reader<'a> {
     }
 }
 
-// The place behind the last `hand` record so far.
-fn later(last: usize, r: Record) -> usize
-    ensures { result ≡ later_of last r }
+// The place behind the last `hand` record so far; the record r ends at the place `next`.
+fn later(last: usize, next: usize, r: Record) -> usize
+    ensures { result ≡ later_of last next r }
 {
-    if r.kind == 2 { r.next } else { last }
+    if r.kind == 2 { next } else { last }
 }
 
 // The place behind the last `hand` record of a log, which is where its open or last hand goes on; 0 where there is none.
 pub fn last_hand(log: &[u8]) -> usize
     ensures { result ≡ last_hand log.now }
 {
-    let mut g = Reader::new(log).next();
+    let mut reader = Reader::new(log);
     let mut last = 0;
-    while g.got.there {
-        last = later(last, g.got);
-        g = g.rest.next();
+    while let Some(r) = reader.next() {
+        last = later(last, reader.at, r);
     }
     last
 }

@@ -5,4 +5,4 @@ use Rattle.frames.proofs.table_of.Goals as goal
 
 pub returns : goal.returns
 unfolding table_of
-returns c = (c.table_in.ensures.0 ∙ ap table_in c.read_key_number.ensures, c.table_in.ensures.1)
+returns c = c.table_in.ensures ∙ ap table_in c.read_key_number.ensures

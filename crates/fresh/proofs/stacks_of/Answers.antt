@@ -1,20 +1,17 @@
--- `stacks_of` meets its contract: in front of the place the stacks are written, behind it they are still to come.
-use Rattle.fresh.specs.Reading.{stack_of}
+-- `stacks_of` meets its contract: each seat's number is that of its chair.
+use Rattle.std.proofs.Common.{◌≡◌, ◌<◌, ℕ, suc, List, [], ◌∷◌, map, length, get_or, refl, ap₂, arith, rules}
+use Rattle.chairs.specs.declared.Chair.{Chair}
 use Rattle.chairs.proofs.Laws.{unread}
-use Rattle.laws.proofs.Places.{front_turn, front_done}
-use mathlib.Core.Path.{◌≡◌, refl}
-use mathlib.Core.List.{map}
-use Prim.Native.Nat.{◌-◌}
-use lib.ListN.{length, length-set}
-use native.Mathlib.Omega.{arith}
-use borrow.Author.Rules.{rules}
+use Rattle.fresh.specs.Reading.{stack_of}
 use Rattle.fresh.proofs.stacks_of.Goals as goal
 
-pub loop-i-init : goal.loop-i-init
-loop-i-init c = (omega arith, refl, refl)
-
-pub loop-i-preserved : goal.loop-i-preserved
-loop-i-preserved c = let cs = c.args.cs in let n : length cs ≡ 10 = search rules in (omega arith, simp length-set c.loop-i.invariant.1, front_turn (map stack_of) (map stack_of) unread c.loop-i.stacks (map stack_of cs) cs c.loop-i.i _ (omega arith) (omega arith) refl c.loop-i.invariant.2)
+mapped : (f : Chair → ℕ) (cs : List Chair) (ss : List ℕ) → length ss ≡ length cs → ((i : ℕ) → i < length cs → get_or ss i 0 ≡ f (get_or cs i unread)) → ss ≡ map f cs
+mapped f [] [] e h = refl
+mapped f [] (s ∷ ss) e h = absurd (omega arith)
+mapped f (c ∷ cs) [] e h = absurd (omega arith)
+mapped f (c ∷ cs) (s ∷ ss) e h = ap₂ (λ x xs. x ∷ xs) (h 0 (omega arith)) (mapped f cs ss (omega arith) (λ i l. h (suc i) (omega arith)))
 
 pub returns : goal.returns
-returns c = let cs = c.args.cs in let n : length cs ≡ 10 = search rules in front_done (map stack_of) c.loop-i.stacks (map stack_of cs) cs c.loop-i.i (omega arith) (omega arith) refl c.loop-i.invariant.2
+returns c =
+    let n : length c.args.cs ≡ 10 = search rules in
+    mapped stack_of c.args.cs c.map.result (omega arith) (λ i l. search rules)

@@ -4,12 +4,9 @@ use Rattle.records.specs.Stored.{entry_in}
 use Rattle.table.specs.Take.{Sound}
 use mathlib.Core.Path.{◌≡◌}
 use lib.ListN.{length}
-use Prim.Native.Nat.{◌-◌, ◌≤◌}
+use Prim.Native.Nat.{◌≤◌}
 use Rattle.fresh.proofs.write_rows.Given as goal
 
 abbrev pub invariant-loop-k : goal.invariant-loop-k
 invariant-loop-k l =
-    (l.p ≡ rowed_from l.initial.p (entry_in l.log) l.k) × (l.index ≡ index_from l.initial.p (entry_in l.log) l.k l.initial.index) × (l.k ≤ l.count) × Sound l.p.table × (l.p.hands ≤ l.k) × (length l.index ≡ length l.initial.index)
-
-abbrev pub decreases-loop-k : goal.decreases-loop-k
-decreases-loop-k l = l.count - l.k
+    (l.p ≡ rowed_from l.initial.p (entry_in l.log) l.k) × (l.index ≡ index_from l.initial.p (entry_in l.log) l.k l.initial.index) × Sound l.p.table × (l.p.hands ≤ l.k) × (length l.index ≡ length l.initial.index)

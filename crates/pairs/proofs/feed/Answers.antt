@@ -6,7 +6,7 @@ pub take_piece-s-requires : goal.take_piece-s-requires
 take_piece-s-requires c =
     let s = c.requires in
     let h = c.hear_on-h.ensures in
-    (s.0, h.held.4, s.2, s.4)
+    (s.0, s.2, s.4)
 
 pub returns : goal.returns
 returns c =

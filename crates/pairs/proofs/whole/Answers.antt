@@ -2,11 +2,11 @@
 use Rattle.pairs.proofs.Runs.{whole_pool, whole_sheet, whole_block}
 use Rattle.pairs.proofs.whole.Goals as goal
 
-pub returns-then-due-eq-POOL : goal.returns-then-due-eq-POOL
-returns-then-due-eq-POOL c = let w = c.open_line.ensures in record { gave = whole_pool c.args.only c.args.p c.args.due c.args.lines.now c.if-due-eq-POOL.true w.gave; good = w.good }
+pub returns-in-Pool : goal.returns-in-Pool
+returns-in-Pool c = let w = c.open_line.ensures in record { gave = whole_pool c.args.only c.args.p c.args.due c.args.lines.now c.in-Pool.is w.gave; good = w.good }
 
-pub returns-then-due-lt-TABLE : goal.returns-then-due-lt-TABLE
-returns-then-due-lt-TABLE c = let w = c.open_sheet.ensures in record { gave = whole_sheet c.args.only c.args.p c.args.due c.args.lines.now c.if-due-eq-POOL.false c.if-due-lt-TABLE.true w.gave; good = w.good }
+pub returns-in-Sheet : goal.returns-in-Sheet
+returns-in-Sheet c = let w = c.open_sheet.ensures in record { gave = whole_sheet c.args.only c.args.p c.args.due c.args.lines.now c.in-Sheet.is w.gave; good = w.good }
 
-pub returns : goal.returns
-returns c = let w = c.answer_lines.ensures in record { gave = whole_block c.args.only c.args.p c.args.due c.args.lines.now c.if-due-lt-TABLE.false w.gave; good = w.good }
+pub returns-in_default : goal.returns-in_default
+returns-in_default c = let w = c.answer_lines.ensures in record { gave = whole_block c.args.only c.args.p c.args.due c.args.lines.now c.in_default.not-Pool c.in_default.not-Sheet w.gave; good = w.good }
