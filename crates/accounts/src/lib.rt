@@ -2,7 +2,7 @@
 // paid, which is written when it leaves. An evening has at most 1,000,000 entries and a hand at most 100,000,000 chips, so no sum comes near its bound.
 #![tactic(auto)]
 
-ghost use Rattle.std.specs.Prelude.{◌≡◌, min};
+ghost use Rattle.std.specs.Prelude.{◌≡◌};
 ghost use Rattle.accounts.specs.Sums.{added_to, brings, putting, pays, without, nobody, totalled, uncharged, charged, counted};
 
 // What a sitting has brought, put into pots, and been paid.
@@ -32,123 +32,121 @@ pub struct Charges {
     pub unclaimed: u64,
 }
 
-// A sum that stays below its bound.
+// No sum of an evening comes near it.
+const BOUND: u64 = 4000000000000000000;
+
+// A sum that stays below twice the bound.
+#[tactic(auto, unfolding(crate::specs::Sums::added_to))]
 pub fn added(x: u64, by: u64) -> u64
     ensures { result ≡ added_to x by }
 {
-    if 4000000000000000000 < x {
-        return x;
-    }
-    if 4000000000000000000 < by {
+    if BOUND < x || BOUND < by {
         return x;
     }
     x + by
 }
 
-pub fn nobody() -> Account
-    ensures { result ≡ nobody }
-{
-    Account {
-        brought: 0,
-        put: 0,
-        paid: 0,
+impl Account {
+    pub fn nobody() -> Account
+        ensures { result ≡ nobody }
+    {
+        Account {
+            brought: 0,
+            put: 0,
+            paid: 0,
+        }
+    }
+
+    // A sitting that sits down with so many chips.
+    pub fn seated(chips: u32) -> Account
+        ensures { result ≡ brings chips }
+    {
+        Account {
+            brought: u64::from(chips),
+            ..Account::nobody()
+        }
+    }
+
+    // A sitting that has put so many chips into a hand.
+    pub fn with_put(self, chips: u32) -> Account
+        ensures { result ≡ putting self chips }
+    {
+        Account {
+            put: added(self.put, u64::from(chips)),
+            ..self
+        }
+    }
+
+    // A sitting that is paid so many chips.
+    pub fn with_paid(self, chips: u32) -> Account
+        ensures { result ≡ pays self chips }
+    {
+        Account {
+            paid: added(self.paid, u64::from(chips)),
+            ..self
+        }
     }
 }
 
-// A sitting that sits down with so many chips.
-pub fn seated(chips: u32) -> Account
-    ensures { result ≡ brings chips }
-{
-    Account {
-        brought: chips as u64,
-        put: 0,
-        paid: 0,
+impl Sums {
+    pub fn none() -> Sums
+        ensures { result ≡ without }
+    {
+        Sums {
+            sittings: 0,
+            brought: 0,
+            put: 0,
+            paid: 0,
+            home: 0,
+        }
+    }
+
+    // One sitting more, with the chips that it takes home or has in front of it.
+    pub fn with_account(self, a: Account, home: u32) -> Sums
+        ensures { result ≡ totalled self a home }
+    {
+        Sums {
+            sittings: added(self.sittings, 1),
+            brought: added(self.brought, a.brought),
+            put: added(self.put, a.put),
+            paid: added(self.paid, a.paid),
+            home: added(self.home, u64::from(home)),
+        }
     }
 }
 
-// A sitting that has put so many chips into a hand.
-pub fn with_put(a: Account, chips: u32) -> Account
-    ensures { result ≡ putting a chips }
-{
-    Account {
-        brought: a.brought,
-        put: added(a.put, chips as u64),
-        paid: a.paid,
+impl Charges {
+    pub fn none() -> Charges
+        ensures { result ≡ uncharged }
+    {
+        Charges {
+            hands: 0,
+            fees: 0,
+            drops: 0,
+            unclaimed: 0,
+        }
     }
-}
 
-// A sitting that is paid so many chips.
-pub fn with_paid(a: Account, chips: u32) -> Account
-    ensures { result ≡ pays a chips }
-{
-    Account {
-        brought: a.brought,
-        put: a.put,
-        paid: added(a.paid, chips as u64),
-    }
-}
-
-pub fn no_sums() -> Sums
-    ensures { result ≡ without }
-{
-    Sums {
-        sittings: 0,
-        brought: 0,
-        put: 0,
-        paid: 0,
-        home: 0,
-    }
-}
-
-// One sitting more, with the chips that it takes home or has in front of it.
-pub fn with_account(s: Sums, a: Account, home: u32) -> Sums
-    ensures { result ≡ totalled s a home }
-{
-    Sums {
-        sittings: added(s.sittings, 1),
-        brought: added(s.brought, a.brought),
-        put: added(s.put, a.put),
-        paid: added(s.paid, a.paid),
-        home: added(s.home, home as u64),
-    }
-}
-
-pub fn no_charges() -> Charges
-    ensures { result ≡ uncharged }
-{
-    Charges {
-        hands: 0,
-        fees: 0,
-        drops: 0,
-        unclaimed: 0,
-    }
-}
-
-// One settled hand more.
-pub fn with_charges(c: Charges, fee: u32, drop: u32, unclaimed: u32) -> Charges
-    ensures { result ≡ charged c fee drop unclaimed }
-{
-    Charges {
-        hands: added(c.hands, 1),
-        fees: added(c.fees, fee as u64),
-        drops: added(c.drops, drop as u64),
-        unclaimed: added(c.unclaimed, unclaimed as u64),
+    // One settled hand more.
+    pub fn with_hand(self, fee: u32, drop: u32, unclaimed: u32) -> Charges
+        ensures { result ≡ charged self fee drop unclaimed }
+    {
+        Charges {
+            hands: added(self.hands, 1),
+            fees: added(self.fees, u64::from(fee)),
+            drops: added(self.drops, u64::from(drop)),
+            unclaimed: added(self.unclaimed, u64::from(unclaimed)),
+        }
     }
 }
 
 // One block more with a code; a code that is none counts as the last.
+#[tactic(auto, unfolding(crate::specs::Sums::counted))]
 pub fn with_code(codes: [u64; 13], code: u8) -> [u64; 13]
     ensures { result ≡ counted codes code }
 {
     let mut next = codes;
-    let k = place_of(code);
-    let n = added(codes[k], 1);
-    next[k] = n;
+    let k = code.min(12) as usize;
+    next[k] = added(next[k], 1);
     next
-}
-
-fn place_of(code: u8) -> usize
-    ensures { result ≡ min code 12 }
-{
-    if code < 12 { code as usize } else { 12 }
 }

@@ -1,198 +1,150 @@
 // What is written in the picture: its opening, what stands below a column, a label for each pot and for what goes back, and what the looks mean.
 #![tactic(auto)]
 
-use columns::{height, in_mask, tallest};
-use page::pen::{Pen, fill, put, put_text_at, say};
+use std::fmt;
+use std::fmt::Write;
+
+use columns::{height, in_mask, reach, tallest};
+use page::pen::Writer;
 use spots::{
-    Chips, apart, column_x, label_y, more, number_of, pot_at, reach_of_first, right_of, wide, y_at,
+    Chips, apart, label_y, more, number_of, pot_at, reach_of_first, right_of, wide, y_at,
 };
 
-// The picture's size and its hatching, whose name has the hand's number, since a page has many pictures.
-pub fn put_opening(out: &mut [u8], p: Pen, hand: u64, columns: u32) -> Pen {
-    let wide = more(right_of(columns), 2900);
-    let b = fill(
-        out,
-        p,
-        b"<svg xmlns=\"http://www.w3.org/2000/svg\" role=\"img\" width=\"|\" height=\"460\" viewBox=\"0 0 | 4600\">\n<title>The chips of hand |</title>\n<defs><pattern id=\"hatch-|\" width=\"80\" height=\"80\" patternUnits=\"userSpaceOnUse\" patternTransform=\"rotate(45)\">",
-        &[wide / 10, wide, hand, hand],
-    );
-    put(
-        out,
-        b,
-        b"<rect width=\"80\" height=\"80\" fill=\"#fff\"/><rect width=\"26\" height=\"80\" fill=\"#555\"/></pattern></defs>\n<g font-family=\"Georgia,'DejaVu Serif',serif\" font-size=\"130\" text-anchor=\"middle\">\n",
-    )
+// A column of the picture: its place among the seats from 0, its sitting with what that put in, and its left side.
+#[derive(Clone, Copy)]
+pub struct Column {
+    pub place: usize,
+    pub seat: u64,
+    pub sitting: u32,
+    pub total: u32,
+    pub x: u64,
 }
 
-// A word below a column, where it applies.
-fn put_word(out: &mut [u8], p: Pen, test: bool, x: u64, y: u64, word: &[u8]) -> Pen {
-    if test {
-        let a = put_text_at(out, p, b"<text", x, y);
-        let b = put(out, a, word);
-        return put(out, b, b"</text>\n");
-    }
-    p
+// The picture's size and its hatching, whose name has the hand's number, since a page has many pictures.
+pub fn put_opening(w: &mut Writer<'_>, hand: u64, columns: u32) -> fmt::Result {
+    let wide = more(right_of(columns), 2900);
+    let pixels = wide / 10;
+    writeln!(
+        w,
+        r##"<svg xmlns="http://www.w3.org/2000/svg" role="img" width="{pixels}" height="460" viewBox="0 0 {wide} 4600">"##
+    )?;
+    writeln!(w, "<title>The chips of hand {hand}</title>")?;
+    write!(
+        w,
+        r##"<defs><pattern id="hatch-{hand}" width="80" height="80" patternUnits="userSpaceOnUse" patternTransform="rotate(45)">"##
+    )?;
+    w.write_str("<rect width=\"80\" height=\"80\" fill=\"#fff\"/><rect width=\"26\" height=\"80\" fill=\"#555\"/></pattern></defs>\n<g font-family=\"Georgia,'DejaVu Serif',serif\" font-size=\"130\" text-anchor=\"middle\">\n")
 }
 
 // Below a column: its seat, its sitting, what it has put in, and whether it is out of the hand or has left.
-pub fn put_foot(out: &mut [u8], p: Pen, c: Chips, i: usize, j: u32) -> Pen {
-    let totals = c.totals;
-    let sittings = c.sittings;
-    if 10 <= i {
-        return p;
-    }
-    let x = more(column_x(j), 260);
-    let total = totals[i] as u64;
-    let sitting = sittings[i] as u64;
-    let d = fill(
-        out,
-        p,
-        b"<text font-weight=\"bold\" x=\"|\" y=\"3660\">seat |</text>\n<text x=\"|\" y=\"3810\">sitting |</text>\n<text x=\"|\" y=\"3960\">| in</text>\n",
-        &[x, i as u64 + 1, x, sitting, x, total],
-    );
-    put_state(out, d, in_mask(c.live, i), in_mask(c.here, i), x)
-}
-
-// Two words at most: out of the hand; gone.
-fn put_state(out: &mut [u8], p: Pen, live: bool, here: bool, x: u64) -> Pen {
-    let a = put_word(out, p, laws::both(!live, here), x, 4110, b"out");
-    put_word(out, a, !here, x, 4110, b"out, left")
+pub fn put_foot(w: &mut Writer<'_>, c: &Chips, q: &Column) -> fmt::Result {
+    let x = more(q.x, 260);
+    let seat = q.seat;
+    let sitting = q.sitting;
+    let total = q.total;
+    writeln!(
+        w,
+        r##"<text font-weight="bold" x="{x}" y="3660">seat {seat}</text>"##
+    )?;
+    writeln!(w, r##"<text x="{x}" y="3810">sitting {sitting}</text>"##)?;
+    writeln!(w, r##"<text x="{x}" y="3960">{total} in</text>"##)?;
+    let word = if !in_mask(c.here, q.place) {
+        "out, left"
+    } else if !in_mask(c.live, q.place) {
+        "out"
+    } else {
+        return Ok(());
+    };
+    writeln!(w, r##"<text x="{x}" y="4110">{word}</text>"##)
 }
 
 // The line from a band to its label.
-fn put_leader(out: &mut [u8], p: Pen, x: u64, from: u64, to: u64) -> Pen {
-    fill(
-        out,
-        p,
-        b"<path fill=\"none\" stroke=\"#000\" stroke-width=\"8\" d=\"M| | L| |\"/>\n",
-        &[x, from, more(x, 240), to],
+fn put_leader(w: &mut Writer<'_>, x: u64, from: u64, to: u64) -> fmt::Result {
+    let end = more(x, 240);
+    writeln!(
+        w,
+        r##"<path fill="none" stroke="#000" stroke-width="8" d="M{x} {from} L{end} {to}"/>"##
     )
 }
 
-// A seat of a mask, behind a blank.
-fn put_seat(out: &mut [u8], p: Pen, who: u16, i: usize) -> Pen {
-    if in_mask(who, i) {
-        return say(out, p, b" ", i as u64 % 10 + 1, b"");
+// The seats of a mask, each behind a blank.
+pub fn put_seats(w: &mut Writer<'_>, who: u16) -> fmt::Result {
+    for i in 0..10 {
+        if in_mask(who, i) {
+            let seat = i + 1;
+            write!(w, " {seat}")?;
+        }
     }
-    p
-}
-
-// The seats of a mask.
-pub fn put_seats(out: &mut [u8], p: Pen, who: u16) -> Pen {
-    let mut pen = p;
-    let mut i: usize = 0;
-    while i < 10 {
-        pen = put_seat(out, pen, who, i);
-        i += 1;
-    }
-    pen
+    Ok(())
 }
 
 // The label of the k-th pot: its chips, its heights and its contenders.
-fn put_label(out: &mut [u8], p: Pen, c: Chips, k: usize, labels: u64) -> Pen {
-    let totals = c.totals;
-    let ps = c.pots;
-    let most = tallest(totals);
-    let q = pot_at(ps, k);
-    let low = reach_of_first(totals, ps, k);
-    let high = columns::reach(totals, q.who);
+fn put_label(w: &mut Writer<'_>, c: &Chips, k: usize, labels: u64) -> fmt::Result {
+    let most = tallest(c.totals);
+    let q = pot_at(c.pots, k);
+    let low = reach_of_first(c.totals, c.pots, k);
+    let high = reach(c.totals, q.who);
     let mid = more(height(low, most), height(high, most)) / 2;
-    let x = right_of(c.columns);
     let y = label_y(k as u64, labels);
-    let a = put_leader(out, p, x, y_at(mid), y);
-    let b = put_pot(out, a, more(x, 280), y, number_of(k), wide(q.amount));
-    put_contest(out, b, more(x, 280), more(y, 140), low, high, q.who)
-}
-
-// A pot's number and its chips.
-fn put_pot(out: &mut [u8], p: Pen, x: u64, y: u64, pot: u64, chips: u64) -> Pen {
-    fill(
-        out,
-        p,
-        b"<text text-anchor=\"start\" font-weight=\"bold\" x=\"|\" y=\"|\">pot |: |</text>\n",
-        &[x, y, pot, chips],
-    )
-}
-
-// The heights of a pot and its contenders.
-fn put_contest(out: &mut [u8], p: Pen, x: u64, y: u64, low: u32, high: u32, who: u16) -> Pen {
-    let b = fill(
-        out,
-        p,
-        b"<text text-anchor=\"start\" x=\"|\" y=\"|\">heights | to |, seats",
-        &[x, y, low as u64 + 1, high as u64],
-    );
-    let c = put_seats(out, b, who);
-    put(out, c, b"</text>\n")
+    put_leader(w, right_of(c.columns), y_at(mid), y)?;
+    let x = more(right_of(c.columns), 280);
+    let pot = number_of(k);
+    let chips = q.amount;
+    writeln!(
+        w,
+        r##"<text text-anchor="start" font-weight="bold" x="{x}" y="{y}">pot {pot}: {chips}</text>"##
+    )?;
+    let y = more(y, 140);
+    let first = wide(low) + 1;
+    write!(
+        w,
+        r##"<text text-anchor="start" x="{x}" y="{y}">heights {first} to {high}, seats"##
+    )?;
+    put_seats(w, q.who)?;
+    writeln!(w, "</text>")
 }
 
 // The label of what goes back.
-fn put_back(out: &mut [u8], p: Pen, c: Chips, k: usize, labels: u64) -> Pen {
+fn put_back(w: &mut Writer<'_>, c: &Chips, labels: u64) -> fmt::Result {
     if c.back == 0 {
-        return p;
+        return Ok(());
     }
-    let totals = c.totals;
-    let ps = c.pots;
-    let most = tallest(totals);
-    let low = reach_of_first(totals, ps, k);
+    let most = tallest(c.totals);
+    let k = c.pots.n;
+    let low = reach_of_first(c.totals, c.pots, k);
     let mid = more(height(low, most), height(most, most)) / 2;
-    let x = right_of(c.columns);
     let y = label_y(k as u64, labels);
-    let a = put_leader(out, p, x, apart(mid), y);
-    fill(
-        out,
-        a,
-        b"<text text-anchor=\"start\" font-weight=\"bold\" x=\"|\" y=\"|\">back: |</text>\n<text text-anchor=\"start\" x=\"|\" y=\"|\">above height | nobody contests</text>\n",
-        &[
-            more(x, 280),
-            y,
-            wide(c.back),
-            more(x, 280),
-            more(y, 140),
-            wide(low),
-        ],
+    put_leader(w, right_of(c.columns), apart(mid), y)?;
+    let x = more(right_of(c.columns), 280);
+    let back = c.back;
+    writeln!(
+        w,
+        r##"<text text-anchor="start" font-weight="bold" x="{x}" y="{y}">back: {back}</text>"##
+    )?;
+    let y = more(y, 140);
+    writeln!(
+        w,
+        r##"<text text-anchor="start" x="{x}" y="{y}">above height {low} nobody contests</text>"##
     )
 }
 
-// How many labels there are.
-fn labels_of(pots: usize, back: u32) -> u64 {
-    if back == 0 {
-        pots as u64
-    } else {
-        more(pots as u64, 1)
+// A label for each pot, and one where something goes back; and what the looks mean.
+pub fn put_labels(w: &mut Writer<'_>, c: &Chips) -> fmt::Result {
+    let n = c.pots.n;
+    let labels = more(n as u64, u64::from(0 < c.back));
+    for k in 0..n {
+        put_label(w, c, k, labels)?;
     }
-}
-
-pub fn put_labels(out: &mut [u8], p: Pen, c: Chips) -> Pen {
-    let ps = c.pots;
-    let n = ps.n;
-    let labels = labels_of(n, c.back);
-    let mut pen = p;
-    let mut k: usize = 0;
-    while k < n {
-        pen = put_label(out, pen, c, k, labels);
-        k += 1;
-    }
-    let a = put_back(out, pen, c, n, labels);
-    put_legend(out, a, c.hand)
+    put_back(w, c, labels)?;
+    put_legend(w, c.hand)
 }
 
 // What the looks mean, and the picture's end.
-fn put_legend(out: &mut [u8], p: Pen, hand: u64) -> Pen {
-    let a = put(
-        out,
-        p,
-        b"<rect fill=\"#456b94\" stroke=\"#000\" stroke-width=\"8\" x=\"200\" y=\"4330\" width=\"160\" height=\"130\"/>\n<text text-anchor=\"start\" x=\"420\" y=\"4440\">contends</text>\n",
-    );
-    let d = say(
-        out,
-        a,
-        b"<rect fill=\"url(#hatch-",
-        hand,
-        b")\" stroke=\"#000\" stroke-width=\"8\" x=\"1250\" y=\"4330\" width=\"160\" height=\"130\"/>\n<text text-anchor=\"start\" x=\"1470\" y=\"4440\">out of the hand: stays in the pots</text>\n<rect fill=\"#fff\" stroke=\"#000\" stroke-width=\"12\" stroke-dasharray=\"40 30\"",
-    );
-    put(
-        out,
-        d,
-        b" x=\"3900\" y=\"4330\" width=\"160\" height=\"130\"/>\n<text text-anchor=\"start\" x=\"4120\" y=\"4440\">goes back</text>\n</g>\n</svg>\n",
-    )
+fn put_legend(w: &mut Writer<'_>, hand: u64) -> fmt::Result {
+    w.write_str("<rect fill=\"#456b94\" stroke=\"#000\" stroke-width=\"8\" x=\"200\" y=\"4330\" width=\"160\" height=\"130\"/>\n<text text-anchor=\"start\" x=\"420\" y=\"4440\">contends</text>\n")?;
+    writeln!(
+        w,
+        r##"<rect fill="url(#hatch-{hand})" stroke="#000" stroke-width="8" x="1250" y="4330" width="160" height="130"/>"##
+    )?;
+    w.write_str("<text text-anchor=\"start\" x=\"1470\" y=\"4440\">out of the hand: stays in the pots</text>\n<rect fill=\"#fff\" stroke=\"#000\" stroke-width=\"12\" stroke-dasharray=\"40 30\" x=\"3900\" y=\"4330\" width=\"160\" height=\"130\"/>\n<text text-anchor=\"start\" x=\"4120\" y=\"4440\">goes back</text>\n</g>\n</svg>\n")
 }

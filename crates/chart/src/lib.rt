@@ -2,253 +2,153 @@
 // those of crate `columns`; lengths are in tenths of a pixel. It needs nothing of the page around it, so that it can stand alone.
 #![tactic(auto)]
 
+use std::fmt;
+use std::fmt::Write;
+
+use captions::Column;
 use columns::{height, in_mask, reach, slab, tallest};
-use page::pen::{Pen, fill, put, put_box, put_one_of, put_text_at, say};
-use spots::{BAND, Chips, column_x, number_of, pot_at, reach_of_first, right_of, wide, y_at};
+use page::pen::Writer;
+use spots::{
+    BAND, Chips, apart, column_x, less, more, number_of, pot_at, reach_of_first, right_of, sum,
+    y_at,
+};
 
 // The band of the k-th pot, from 0.
-fn put_band(out: &mut [u8], p: Pen, c: Chips, k: usize) -> Pen {
-    let totals = c.totals;
-    let ps = c.pots;
-    let q = pot_at(ps, k);
-    let most = tallest(totals);
-    let low = height(reach_of_first(totals, ps, k), most);
-    let high = height(reach(totals, q.who), most);
-    let width = spots::less(right_of(c.columns), BAND);
-    let a = put_one_of(
-        out,
-        p,
-        b"<rect class=\"band\" fill=\"#f4f4f4\" stroke=\"#666\" stroke-width=\"6\"|<rect class=\"band\" fill=\"#dedede\" stroke=\"#666\" stroke-width=\"6\"",
-        k % 2,
-    );
-    put_band_on(
-        out,
-        a,
-        y_at(high),
-        width,
-        spots::less(high, low),
-        number_of(k),
-        wide(q.amount),
-    )
+fn put_band(w: &mut Writer<'_>, c: &Chips, k: usize) -> fmt::Result {
+    let q = pot_at(c.pots, k);
+    let most = tallest(c.totals);
+    let low = height(reach_of_first(c.totals, c.pots, k), most);
+    let high = height(reach(c.totals, q.who), most);
+    let fill = if k % 2 == 0 { "#f4f4f4" } else { "#dedede" };
+    let y = y_at(high);
+    let width = less(right_of(c.columns), BAND);
+    let tall = less(high, low);
+    let pot = number_of(k);
+    let chips = q.amount;
+    write!(
+        w,
+        r##"<rect class="band" fill="{fill}" stroke="#666" stroke-width="6" x="{BAND}" y="{y}" width="{width}" height="{tall}""##
+    )?;
+    writeln!(w, r##" data-pot="{pot}" data-chips="{chips}"/>"##)
 }
 
-fn put_band_on(out: &mut [u8], p: Pen, y: u64, width: u64, high: u64, pot: u64, chips: u64) -> Pen {
-    fill(
-        out,
-        p,
-        b" x=\"|\" y=\"|\" width=\"|\" height=\"|\" data-pot=\"|\" data-chips=\"|\"/>\n",
-        &[BAND, y, width, high, pot, chips],
-    )
-}
-
-fn put_bands(out: &mut [u8], p: Pen, c: Chips) -> Pen {
-    let n = c.pots.n;
-    let mut pen = p;
-    let mut k: usize = 0;
-    while k < n {
-        pen = put_band(out, pen, c, k);
-        k += 1;
-    }
-    pen
-}
-
-// How a piece of a column looks: a contender's is solid, one of a sitting that does not contend is hatched.
-fn put_look(out: &mut [u8], p: Pen, solid: bool, hand: u64) -> Pen {
-    if solid {
-        return put(
-            out,
-            p,
-            b"<rect class=\"chips\" fill=\"#456b94\" stroke=\"#000\" stroke-width=\"8\"",
-        );
-    }
-    say(
-        out,
-        p,
-        b"<rect class=\"chips\" fill=\"url(#hatch-",
-        hand,
-        b")\" stroke=\"#000\" stroke-width=\"8\"",
-    )
-}
-
-// The number of chips in a piece, where the piece is high enough for it.
-fn put_inside(out: &mut [u8], p: Pen, x: u64, top: u64, high: u64, chips: u32) -> Pen {
-    if high < 130 {
-        return p;
-    }
-    let a = put_text_at(
-        out,
-        p,
-        b"<text stroke=\"#fff\" stroke-width=\"36\" paint-order=\"stroke\"",
-        spots::more(x, 260),
-        spots::more(top, high / 2 + 45),
-    );
-    say(out, a, b"", chips as u64, b"</text>\n")
-}
-
-// What a piece is: whose it is, and how many chips lie in it.
-fn put_data(out: &mut [u8], p: Pen, seat: u64, sitting: u32, chips: u32) -> Pen {
-    fill(
-        out,
-        p,
-        b" data-seat=\"|\" data-sitting=\"|\" data-chips=\"|\"/>\n",
-        &[seat, sitting as u64, chips as u64],
-    )
-}
-
-// The piece of the sitting at place i that lies in the k-th pot; its column is the j-th.
-fn put_piece(out: &mut [u8], p: Pen, c: Chips, i: usize, j: u32, k: usize) -> Pen {
-    let totals = c.totals;
-    let sittings = c.sittings;
-    if 10 <= i {
-        return p;
-    }
-    let total = totals[i];
-    let ps = c.pots;
-    let q = pot_at(ps, k);
-    let low = reach_of_first(totals, ps, k);
-    let chips = slab(total, low, reach(totals, q.who));
-    if chips == 0 {
-        return p;
-    }
-    put_piece_of(
-        out,
-        p,
-        Piece {
-            hand: c.hand,
-            most: tallest(totals),
-            low,
-            chips,
-            seat: i as u64 + 1,
-            sitting: sittings[i],
-            pot: number_of(k),
-            solid: in_mask(q.who, i),
-            x: column_x(j),
-        },
-    )
-}
-
-// A piece of a column: above which height it lies, how many chips it has, whose and which pot's it is, whether its sitting contends, and where its column stands.
+// Chips of a column as they are drawn: from above, how high, and how many.
 #[derive(Clone, Copy)]
 struct Piece {
-    hand: u64,
-    most: u32,
-    low: u32,
+    top: u64,
+    tall: u64,
     chips: u32,
-    seat: u64,
-    sitting: u32,
-    pot: u64,
-    solid: bool,
-    x: u64,
 }
 
-fn put_piece_data(out: &mut [u8], p: Pen, d: Piece) -> Pen {
-    let a = say(out, p, b" data-pot=\"", d.pot, b"\"");
-    put_data(out, a, d.seat, d.sitting, d.chips)
+// The place and size of a piece.
+fn put_box(w: &mut Writer<'_>, x: u64, d: Piece) -> fmt::Result {
+    let y = d.top;
+    let tall = d.tall;
+    write!(w, r##" x="{x}" y="{y}" width="520" height="{tall}""##)
 }
 
-fn put_piece_of(out: &mut [u8], p: Pen, d: Piece) -> Pen {
-    let low = height(d.low, d.most);
-    let high = height(spots::sum(d.low, d.chips), d.most);
-    let tall = spots::less(high, low);
-    let a = put_look(out, p, d.solid, d.hand);
-    let b = put_box(out, a, b"", d.x, y_at(high), 520, tall);
-    let e = put_piece_data(out, b, d);
-    put_inside(out, e, d.x, y_at(high), tall, d.chips)
-}
-
-// What goes back to the sitting at place i: apart, above the pots.
-fn put_returned(out: &mut [u8], p: Pen, c: Chips, i: usize, j: u32) -> Pen {
-    let totals = c.totals;
-    let sittings = c.sittings;
-    if 10 <= i {
-        return p;
+// Whose a piece is, and how many chips lie in it; the number is written inside where the piece is high enough for it.
+fn put_data(w: &mut Writer<'_>, q: &Column, d: Piece) -> fmt::Result {
+    let seat = q.seat;
+    let sitting = q.sitting;
+    let chips = d.chips;
+    writeln!(
+        w,
+        r##" data-seat="{seat}" data-sitting="{sitting}" data-chips="{chips}"/>"##
+    )?;
+    if d.tall < 130 {
+        return Ok(());
     }
-    let total = totals[i];
-    let ps = c.pots;
-    let low = reach_of_first(totals, ps, ps.n);
-    let chips = laws::short_of(total, low);
+    let x = more(q.x, 260);
+    let y = more(d.top, d.tall / 2 + 45);
+    writeln!(
+        w,
+        r##"<text stroke="#fff" stroke-width="36" paint-order="stroke" x="{x}" y="{y}">{chips}</text>"##
+    )
+}
+
+// The piece of a column that lies in the k-th pot: a contender's is solid, one of a sitting that does not contend is hatched.
+fn put_piece(w: &mut Writer<'_>, c: &Chips, q: &Column, k: usize) -> fmt::Result {
+    let pot = pot_at(c.pots, k);
+    let low = reach_of_first(c.totals, c.pots, k);
+    let chips = slab(q.total, low, reach(c.totals, pot.who));
     if chips == 0 {
-        return p;
+        return Ok(());
     }
-    let most = tallest(totals);
-    let high = height(total, most);
-    let tall = spots::less(high, height(low, most));
-    let top = spots::apart(high);
-    let x = column_x(j);
-    let a = put_box(
-        out,
-        p,
-        b"<rect class=\"back\" fill=\"#fff\" stroke=\"#000\" stroke-width=\"12\" stroke-dasharray=\"40 30\"",
-        x,
-        top,
-        520,
-        tall,
-    );
-    let b = put_data(out, a, i as u64 + 1, sittings[i], chips);
-    put_inside(out, b, x, top, tall, chips)
+    let most = tallest(c.totals);
+    let high = height(sum(low, chips), most);
+    let d = Piece {
+        top: y_at(high),
+        tall: less(high, height(low, most)),
+        chips,
+    };
+    let hand = c.hand;
+    w.write_str("<rect class=\"chips\" fill=\"")?;
+    if in_mask(pot.who, q.place) {
+        w.write_str("#456b94")?;
+    } else {
+        write!(w, "url(#hatch-{hand})")?;
+    }
+    w.write_str("\" stroke=\"#000\" stroke-width=\"8\"")?;
+    put_box(w, q.x, d)?;
+    let pot = number_of(k);
+    write!(w, r##" data-pot="{pot}""##)?;
+    put_data(w, q, d)
 }
 
-// The column of the sitting at place i, from the lowest pot up.
-fn put_column(out: &mut [u8], p: Pen, c: Chips, i: usize, j: u32) -> Pen {
-    let n = c.pots.n;
-    let mut pen = p;
-    let mut k: usize = 0;
-    while k < n {
-        pen = put_piece(out, pen, c, i, j, k);
-        k += 1;
+// What goes back to a column's sitting: apart, above the pots.
+fn put_returned(w: &mut Writer<'_>, c: &Chips, q: &Column) -> fmt::Result {
+    let low = reach_of_first(c.totals, c.pots, c.pots.n);
+    let chips = q.total.saturating_sub(low);
+    if chips == 0 {
+        return Ok(());
     }
-    pen
+    let most = tallest(c.totals);
+    let high = height(q.total, most);
+    let d = Piece {
+        top: apart(high),
+        tall: less(high, height(low, most)),
+        chips,
+    };
+    w.write_str("<rect class=\"back\" fill=\"#fff\" stroke=\"#000\" stroke-width=\"12\" stroke-dasharray=\"40 30\"")?;
+    put_box(w, q.x, d)?;
+    put_data(w, q, d)
 }
 
-// A column with what goes back and what stands below it, where somebody was dealt in there.
-fn put_sitting(out: &mut [u8], p: Pen, c: Chips, i: usize, j: u32) -> Pen {
-    let a = put_column(out, p, c, i, j);
-    let b = put_returned(out, a, c, i, j);
-    captions::put_foot(out, b, c, i, j)
+// A column from the lowest pot up, with what goes back and what stands below it.
+fn put_column(w: &mut Writer<'_>, c: &Chips, q: &Column) -> fmt::Result {
+    for k in 0..c.pots.n {
+        put_piece(w, c, q, k)?;
+    }
+    put_returned(w, c, q)?;
+    captions::put_foot(w, c, q)
 }
 
-// The pen, and how many columns stand.
-#[derive(Clone, Copy)]
-struct Stood {
-    pen: Pen,
-    columns: u32,
-}
-
-fn put_next(out: &mut [u8], s: Stood, c: Chips, i: usize) -> Stood {
-    let sittings = c.sittings;
-    let p = s.pen;
-    if 10 <= i {
-        return s;
+// A column for each place where somebody was dealt in.
+fn put_columns(w: &mut Writer<'_>, c: &Chips) -> fmt::Result {
+    let mut columns = 0;
+    for (place, (sitting, total)) in c.sittings.iter().zip(&c.totals).enumerate() {
+        if *sitting != 0 {
+            let q = Column {
+                place,
+                seat: place as u64 + 1,
+                sitting: *sitting,
+                total: *total,
+                x: column_x(columns),
+            };
+            put_column(w, c, &q)?;
+            columns = spots::next(columns);
+        }
     }
-    if sittings[i] == 0 {
-        return s;
-    }
-    let pen = put_sitting(out, p, c, i, s.columns);
-    Stood {
-        pen,
-        columns: spots::next(s.columns),
-    }
-}
-
-fn put_columns(out: &mut [u8], p: Pen, c: Chips) -> Pen {
-    let mut s = Stood { pen: p, columns: 0 };
-    let mut i: usize = 0;
-    while i < 10 {
-        s = put_next(out, s, c, i);
-        i += 1;
-    }
-    s.pen
+    Ok(())
 }
 
 // The picture.
-pub fn put_chart(out: &mut [u8], p: Pen, c: Chips) -> Pen {
-    let a = captions::put_opening(out, p, c.hand, c.columns);
-    let b = put_bands(out, a, c);
-    put_chips(out, b, c)
-}
-
-// The columns, and what is written beside them.
-fn put_chips(out: &mut [u8], p: Pen, c: Chips) -> Pen {
-    let a = put_columns(out, p, c);
-    captions::put_labels(out, a, c)
+pub fn put_chart(w: &mut Writer<'_>, c: &Chips) -> fmt::Result {
+    captions::put_opening(w, c.hand, c.columns)?;
+    for k in 0..c.pots.n {
+        put_band(w, c, k)?;
+    }
+    put_columns(w, c)?;
+    captions::put_labels(w, c)
 }

@@ -1,9 +1,10 @@
 -- Laws of the accounts of the sittings, chair by chair, and of loops over the chairs that read or settle them. Assumes nothing.
 use Prim.Native.Nat.{ℕ, zero, suc, ◌+◌, ◌≤◌, ◌<◌}
 use mathlib.Core.Bool.{Bool, true, false}
-use mathlib.Core.Path.{◌≡◌, refl, sym, ap, ◌∙◌}
-use mathlib.Core.List.{List, [], ◌∷◌, ◌++◌, append-nil}
+use mathlib.Core.Path.{◌≡◌, refl, sym, ap, ap₂, ◌∙◌}
+use mathlib.Core.List.{List, [], ◌∷◌, ◌++◌, append-nil, map}
 use native.Mathlib.Numerals.{add-one}
+use native.Mathlib.Omega.{arith}
 use lib.ListN.{length, get_or, take, drop, set, drop_of_length-le}
 use lib.Seq.{drop-cons, take_all}
 use borrow.Author.Tests.{ne_eqb}
@@ -15,7 +16,7 @@ use Rattle.accounts.specs.Sums.{nobody, putting, pays, totalled}
 use Rattle.accounts.specs.declared.Account.{Account}
 use Rattle.accounts.specs.declared.Sums.{Sums}
 use Rattle.notes.specs.declared.Notes.{Notes}
-use Rattle.notes.specs.Notes.{account_at, settled_of, settle_all, account_now, sums_with, sums_from, lies_in}
+use Rattle.notes.specs.Notes.{account_at, settled_of, settle_all, account_now, sums_with, sums_from}
 
 -- a settled hand at a chair whose sitting is there, and at one whose sitting is not
 pub settled_yes : {h : Bool} {b r : Account} (a : Account) (ch : Chair) (p : ℕ) → h ≡ is_here ch → h ≡ true → b ≡ putting a ch.dealt.total → r ≡ pays b p → r ≡ settled_of a ch p
@@ -79,6 +80,11 @@ sums_turn m cs s all i l q e =
 pub sums_done : {all : Sums} (m : Notes) (cs : List Chair) (s : Sums) (i : ℕ) → length cs ≤ i → sums_from s m i (drop i cs) ≡ all → s ≡ all
 sums_done m cs s i l e = sym (ap (λ (k : List Chair). sums_from s m i k) (drop_of_length-le cs l)) ∙ e
 
--- what lies in the open hand, chair by chair
-pub lies_step : (cs : List Chair) (i : ℕ) (d : Chair) → i < length cs → lies_in (drop i cs) ≡ (get_or cs i d).dealt.total + lies_in (drop (i + 1) cs)
-lies_step cs i d h = rw (add-one, drop-cons cs i d)
+-- a list that has f of each element of another is the other mapped
+pub mapped : {A B : Type 0} (f : A → B) (xs : List A) (ys : List B) → length ys ≡ length xs → ((i : ℕ) (d : A) (e : B) → i < length ys → get_or ys i e ≡ f (get_or xs i d)) → ys ≡ map f xs
+mapped f [] [] l h = refl
+mapped f [] (y ∷ ys) l h = absurd (omega arith)
+mapped f (x ∷ xs) [] l h = absurd (omega arith)
+mapped f (x ∷ xs) (y ∷ ys) l h =
+    let e : y ≡ f x = h 0 x y (omega arith) in
+    ap₂ (λ a b. a ∷ b) e (mapped f xs ys (omega arith) (λ i d z k. h (suc i) d z (omega arith)))

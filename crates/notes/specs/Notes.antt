@@ -1,6 +1,6 @@
 -- What the supervisor's page keeps between two blocks, and what each block does to it: for each sitting what it has brought, put in and been paid, what it takes home;
 -- what each seat put in by round and how its hand ended; the blocks by code; hands, fees, drops and what nobody claimed. Assumes nothing.
-use Rattle.std.specs.Prelude.{ℕ, suc, ◌+◌, ◌-◌, Bool, true, false, List, [], ◌∷◌, map, ltb, eqb, get_or, set, replicate}
+use Rattle.std.specs.Prelude.{ℕ, suc, ◌-◌, Bool, true, false, List, [], ◌∷◌, Option, Some, None, map, sum_by, ltb, eqb, get_or, set, replicate}
 use Rattle.laws.specs.Tests.{pick}
 use Rattle.paper.specs.declared.Entry.{Entry}
 use Rattle.paper.specs.declared.Entry.TheVariants.{Sit, Leave, Hand, Hole, Fold, Check, Call, Wager, Board, Dead, Settle, Void}
@@ -12,6 +12,8 @@ use Rattle.accounts.specs.Sums.{added_to, nobody, brings, putting, pays, without
 use Rattle.accounts.specs.declared.Account.{Account}
 use Rattle.accounts.specs.declared.Sums.{Sums}
 use Rattle.accounts.specs.declared.Charges.{Charges}
+use Rattle.notes.specs.declared.Ending.{Ending}
+use Rattle.notes.specs.declared.Ending.TheVariants.{Folded, Dead as GivenUp}
 use Rattle.notes.specs.declared.Rounds.{Rounds}
 use Rattle.notes.specs.declared.Notes.{Notes}
 
@@ -22,27 +24,27 @@ rounds first flop turn river = record { first = first; flop = flop; turn = turn;
 abbrev pub no_rounds : Rounds
 no_rounds = rounds (replicate 10 0) (replicate 10 0) (replicate 10 0) (replicate 10 0)
 
-abbrev notes : ℕ → Bool → List ℕ → Rounds → List ℕ → List ℕ → Charges → Sums → List Account → Notes
-notes h f b r w k c g a = record { hands = h; refusing = f; before = b; rounds = r; how = w; codes = k; charges = c; gone = g; accounts = a }
+abbrev notes : ℕ → Bool → List ℕ → Rounds → List (Option Ending) → List ℕ → Charges → Sums → List Account → Notes
+notes h f b r w k c g a = record { hands = h; refusing = f; before = b; rounds = r; ended = w; codes = k; charges = c; gone = g; accounts = a }
 
 -- nobody has sat down and no block has come
 abbrev pub no_notes : Notes
-no_notes = notes 0 false (replicate 10 0) no_rounds (replicate 10 0) (replicate 13 0) uncharged without (replicate 10 nobody)
+no_notes = notes 0 false (replicate 10 0) no_rounds (replicate 10 None) (replicate 13 0) uncharged without (replicate 10 nobody)
 
 abbrev pub with_accounts : Notes → List Account → Notes
-with_accounts m a = notes m.hands m.refusing m.before m.rounds m.how m.codes m.charges m.gone a
+with_accounts m a = notes m.hands m.refusing m.before m.rounds m.ended m.codes m.charges m.gone a
 
 abbrev pub with_gone : Notes → Sums → Notes
-with_gone m g = notes m.hands m.refusing m.before m.rounds m.how m.codes m.charges g m.accounts
+with_gone m g = notes m.hands m.refusing m.before m.rounds m.ended m.codes m.charges g m.accounts
 
 abbrev pub with_charges : Notes → Charges → Notes
-with_charges m c = notes m.hands m.refusing m.before m.rounds m.how m.codes c m.gone m.accounts
+with_charges m c = notes m.hands m.refusing m.before m.rounds m.ended m.codes c m.gone m.accounts
 
-abbrev pub with_how : Notes → List ℕ → Notes
-with_how m w = notes m.hands m.refusing m.before m.rounds w m.codes m.charges m.gone m.accounts
+abbrev pub with_ended : Notes → List (Option Ending) → Notes
+with_ended m w = notes m.hands m.refusing m.before m.rounds w m.codes m.charges m.gone m.accounts
 
 abbrev pub with_rounds : Notes → Rounds → Notes
-with_rounds m r = notes m.hands m.refusing m.before r m.how m.codes m.charges m.gone m.accounts
+with_rounds m r = notes m.hands m.refusing m.before r m.ended m.codes m.charges m.gone m.accounts
 
 -- the place of a seat among ten places, which are counted from 0; a seat that is not there has none of them
 unfoldable pub place_of : ℕ → ℕ
@@ -55,9 +57,9 @@ account_at m i = get_or m.accounts i nobody
 abbrev pub with_account : Notes → ℕ → Account → Notes
 with_account m i a = with_accounts m (set m.accounts i a)
 
--- how the hand of a place ended: 1 folded, 2 dead, 0 neither
-abbrev pub with_end : Notes → ℕ → ℕ → Notes
-with_end m i how = with_how m (set m.how i how)
+-- how the hand of a place ended
+abbrev pub with_end : Notes → ℕ → Ending → Notes
+with_end m i how = with_ended m (set m.ended i (Some how))
 
 abbrev pub stack_of : Chair → ℕ
 stack_of c = c.stack
@@ -104,8 +106,7 @@ sums_now m cs = sums_from m.gone m 0 cs
 
 -- what lies in the open hand
 abbrev pub lies_in : List Chair → ℕ
-lies_in [] = 0
-lies_in (c ∷ cs) = c.dealt.total + lies_in cs
+lies_in cs = sum_by (λ (c : Chair). c.dealt.total) cs
 
 -- sit: the sitting has brought its chips, and that is its account
 abbrev pub sat_notes : Notes → ℕ → ℕ → Notes
@@ -117,7 +118,7 @@ left_notes m t s = with_gone m (totalled m.gone (account_now m (chair_at t.chair
 
 -- hand: one more; the stacks before it; nothing is put in and no hand has ended
 unfoldable pub opened_notes : Notes → Table → Notes
-opened_notes m t = notes (added_to m.hands 1) m.refusing (map stack_of t.chairs) no_rounds (replicate 10 0) m.codes m.charges m.gone m.accounts
+opened_notes m t = notes (added_to m.hands 1) m.refusing (map stack_of t.chairs) no_rounds (replicate 10 None) m.codes m.charges m.gone m.accounts
 
 -- settle: the last round, fee, drop and what nobody claimed, and the accounts of those who are still there
 unfoldable pub settled_notes : Notes → Table → Payout → Notes
@@ -129,18 +130,18 @@ noted_by m t (Sit s a) p = sat_notes m s a
 noted_by m t (Leave s) p = left_notes m t s
 noted_by m t (Hand s) p = opened_notes m t
 noted_by m t (Hole s a b) p = m
-noted_by m t (Fold s) p = with_end m (place_of s) 1
+noted_by m t (Fold s) p = with_end m (place_of s) Folded
 noted_by m t (Check s) p = m
 noted_by m t (Call s) p = m
 noted_by m t (Wager s a) p = m
 noted_by m t (Board k) p = rounds_noted m t
-noted_by m t (Dead s) p = with_end m (place_of s) 2
+noted_by m t (Dead s) p = with_end m (place_of s) GivenUp
 noted_by m t Settle p = settled_notes m t p
 noted_by m t Void p = m
 
 -- one block more with a code; whether the blocks that come now are refused ones
 abbrev pub code_noted : Notes → ℕ → Bool → Notes
-code_noted m code f = notes m.hands f m.before m.rounds m.how (counted m.codes code) m.charges m.gone m.accounts
+code_noted m code f = notes m.hands f m.before m.rounds m.ended (counted m.codes code) m.charges m.gone m.accounts
 
 -- after an entry that is taken at table t, which pays p
 unfoldable pub taken_notes : Notes → Table → Entry → Payout → Notes

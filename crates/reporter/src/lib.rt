@@ -8,9 +8,12 @@ ghost use Rattle.reporter.specs.Telling.{notes_read, notes_parsed, notes_after, 
 
 use blocks::Block;
 use chairs::seats::chair_at;
+use desk::Judged;
 use notes::{Notes, place_of};
-use page::pen::Pen;
+use page::pen::{Pen, Writer};
 use paper::{Entry, Refusal, TAKEN};
+use std::fmt;
+use std::fmt::Write;
 use story::Event;
 use table::table::{Payout, Table};
 
@@ -42,34 +45,27 @@ fn raw_of(b: Block) -> Raw {
             a,
             b,
         } => Raw {
-            n: n,
-            kind: kind,
-            seat: seat,
-            a: a,
-            b: b,
+            n,
+            kind,
+            seat,
+            a,
+            b,
         },
-        Block::Malformed => unknown(),
-        Block::Nothing => unknown(),
+        Block::Malformed | Block::Nothing => Raw {
+            n: 0,
+            kind: 12,
+            seat: 0,
+            a: 0,
+            b: 0,
+        },
     }
 }
 
-fn unknown() -> Raw {
-    Raw {
-        n: 0,
-        kind: 12,
-        seat: 0,
-        a: 0,
-        b: 0,
-    }
-}
-
-// An entry, and its seat at the tables before and after it.
-fn event_of(b: Block, t: Table, u: Table) -> Event {
+// A block, and its seat at the tables before and after it.
+fn event_of(b: Block, t: &Table, u: &Table) -> Event {
     let r = raw_of(b);
-    let cs = t.chairs;
-    let ds = u.chairs;
-    let c = chair_at(cs, r.seat);
-    let d = chair_at(ds, r.seat);
+    let c = chair_at(t.chairs, r.seat);
+    let d = chair_at(u.chairs, r.seat);
     Event {
         n: r.n,
         kind: r.kind,
@@ -79,106 +75,114 @@ fn event_of(b: Block, t: Table, u: Table) -> Event {
         sitting: c.sitting,
         stack: c.stack,
         put: c.dealt.total,
-        inside: laws::both(0 < c.dealt.sitting, c.dealt.sitting == c.sitting),
+        inside: 0 < c.dealt.sitting && c.dealt.sitting == c.sitting,
         after: d.sitting,
         left: d.stack,
     }
 }
 
-// A sitting leaves: its row.
-fn leave(out: &mut [u8], p: Pen, m: Notes, t: Table, e: Event) -> Pen {
-    let cs = t.chairs;
-    let c = chair_at(cs, e.seat);
-    let a = notes::account_now(m, c, place_of(e.seat));
-    let q = story::put_event(out, p, e);
-    let b = closing::put_row(out, q, e.sitting, e.seat, a, e.stack);
-    page::pen::put(out, b, b"<span>left</span></div>\n")
+// A sitting leaves: its line, and its row.
+fn put_leave(w: &mut Writer<'_>, m: &Notes, t: &Table, e: &Event) -> fmt::Result {
+    let c = chair_at(t.chairs, e.seat);
+    let a = m.account_now(c, place_of(e.seat));
+    e.put_left(w)?;
+    closing::put_row(w, e.sitting, e.seat, a, e.stack)?;
+    w.write_str("<span>left</span></div>\n")
 }
 
 // A hand opens.
-fn open_hand(out: &mut [u8], p: Pen, m: Notes, t: Table, u: Table, e: Event) -> Pen {
+fn put_hand(w: &mut Writer<'_>, m: &Notes, t: &Table, u: &Table, e: &Event) -> fmt::Result {
     let hands = accounts::added(m.hands, 1);
-    let a = dealings::put_opening(out, p, hands, e.n, e.seat);
-    dealings::put_all_dealt(out, a, t, u)
+    dealings::put_opening(w, hands, e.n, e.seat)?;
+    dealings::put_all_dealt(w, t, u)
 }
 
 // A hand is settled: the end of its section.
-fn settle(out: &mut [u8], p: Pen, m: Notes, t: Table, paid: Payout) -> Pen
-    requires { Sound t }
+fn put_settle(w: &mut Writer<'_>, m: &Notes, t: &Table, paid: Payout) -> fmt::Result
+    requires { Sound t.now }
 {
-    let a = notes::rounds_noted(m, t);
-    dealings::put_settled(out, p, a, t, paid)
+    dealings::put_settled(w, &m.rounds_noted(t), t, paid)
 }
 
 // A taken entry: the line of it.
-fn take(out: &mut [u8], p: Pen, m: Notes, t: Table, u: Table, e: Event, paid: Payout) -> Pen
-    requires { Sound t }
+fn put_taken(
+    w: &mut Writer<'_>,
+    m: &Notes,
+    t: &Table,
+    j: &Judged,
+    e: &Event,
+    entry: Entry,
+) -> fmt::Result
+    requires { Sound t.now }
 {
-    let a = story::put_folded(out, p, m.refusing);
-    let kind = e.kind;
-    match kind {
-        1 => leave(out, a, m, t, e),
-        2 => open_hand(out, a, m, t, u, e),
-        10 => settle(out, a, m, t, paid),
-        _ => story::put_event(out, a, e),
+    story::close_folded(w, m.refusing)?;
+    match entry {
+        Entry::Leave(_) => put_leave(w, m, t, e),
+        Entry::Hand(_) => put_hand(w, m, t, &j.table, e),
+        Entry::Settle => put_settle(w, m, t, j.payout),
+        _ => e.put_taken(w, entry),
     }
 }
 
-// A block that was judged: its line.
-fn put_block(
-    out: &mut [u8],
-    p: Pen,
-    m: Notes,
-    t: Table,
-    u: Table,
-    e: Event,
-    code: u8,
-    paid: Payout,
-) -> Pen
-    requires { Sound t }
-{
-    if code == TAKEN {
-        return take(out, p, m, t, u, e, paid);
-    }
-    story::put_refused(out, p, e, code, !m.refusing)
-}
-
-// The notes after an entry with its code.
-fn notes_read(m: Notes, t: Table, e: Entry, code: u8, paid: Payout) -> Notes
-    ensures { result ≡ notes_read m t e code paid }
-{
-    if code == TAKEN {
-        return notes::entries::taken(m, t, e, paid);
-    }
-    notes::entries::refused(m, code)
-}
-
-fn notes_parsed(m: Notes, t: Table, p: Result<Entry, Refusal>, code: u8, paid: Payout) -> Notes
-    ensures { result ≡ notes_parsed m t p code paid }
-{
-    match p {
-        Ok(e) => notes_read(m, t, e, code, paid),
-        Err(_) => notes::entries::refused(m, code),
-    }
-}
-
-// The notes after a block with its code, and what it paid.
-fn notes_after(m: Notes, t: Table, b: Block, code: u8, paid: Payout) -> Notes
-    ensures { result ≡ notes_after m t b code paid }
-{
+// The entry of a block, where it was taken.
+fn taken_of(b: Block, code: u8) -> Option<Entry> {
     match b {
         Block::Raw {
-            n,
             kind,
             seat,
             a,
             b,
-        } => {
-            let p = blocks::entry_of(kind, seat, a, b);
-            notes_parsed(m, t, p, code, paid)
-        }
-        Block::Malformed => notes::entries::refused(m, code),
-        Block::Nothing => notes::entries::refused(m, code),
+            ..
+        } if code == TAKEN => blocks::entry_of(kind, seat, a, b).ok(),
+        _ => None,
+    }
+}
+
+// A block that was judged: its line.
+fn put_block(w: &mut Writer<'_>, m: &Notes, t: &Table, b: Block, j: &Judged) -> fmt::Result
+    requires { Sound t.now }
+{
+    let e = event_of(b, t, &j.table);
+    match taken_of(b, j.code) {
+        Some(entry) => put_taken(w, m, t, j, &e, entry),
+        None => e.put_refused(w, j.code, !m.refusing),
+    }
+}
+
+// The notes after an entry with its code.
+#[tactic(auto, unfolding(crate::specs::Telling::notes_read))]
+fn notes_read(m: Notes, t: &Table, e: Entry, code: u8, paid: &Payout) -> Notes
+    ensures { result ≡ notes_read m t.now e code paid.now }
+{
+    if code == TAKEN {
+        return m.taken(t, e, paid);
+    }
+    m.refused(code)
+}
+
+fn notes_parsed(m: Notes, t: &Table, p: Result<Entry, Refusal>, code: u8, paid: &Payout) -> Notes
+    ensures { result ≡ notes_parsed m t.now p code paid.now }
+{
+    match p {
+        Ok(e) => notes_read(m, t, e, code, paid),
+        Err(_) => m.refused(code),
+    }
+}
+
+// The notes after a block with its code, and what it paid.
+fn notes_after(m: Notes, t: &Table, b: Block, code: u8, paid: &Payout) -> Notes
+    ensures { result ≡ notes_after m t.now b code paid.now }
+{
+    match b {
+        Block::Raw {
+            n: _,
+            kind,
+            seat,
+            a,
+            b,
+        } => notes_parsed(m, t, blocks::entry_of(kind, seat, a, b), code, paid),
+        Block::Malformed => m.refused(code),
+        Block::Nothing => m.refused(code),
     }
 }
 
@@ -189,14 +193,14 @@ pub fn tell(out: &mut [u8], p: Pen, m: Notes, t: Table, block: &[u8]) -> Reporte
 {
     let b = blocks::read_block(block);
     let j = desk::judge(t, block);
+    let mut w = Writer::over(out, p);
+    // the pen keeps whether a write has failed
+    let _ = put_block(&mut w, &m, &t, b, &j);
     let u = j.table;
-    let paid = j.payout;
-    let e = event_of(b, t, u);
-    let pen = put_block(out, p, m, t, u, e, j.code, paid);
-    let notes = notes_after(m, t, b, j.code, paid);
+    let notes = notes_after(m, &t, b, j.code, &j.payout);
     Reported {
         table: u,
         notes,
-        pen,
+        pen: w.pen,
     }
 }

@@ -1,374 +1,264 @@
 // A hand's section: its heading and who is dealt in, and when it is settled, or the log ends, the picture of its chips, its tables and what it paid and why.
 #![tactic(auto)]
 
+use std::fmt;
+use std::fmt::Write;
+
 use captions::put_seats;
 use chart::put_chart;
-use columns::{in_mask, wins};
-use page::pen::{Pen, fill, put, put_one_of, say};
-use page::words::{put_card, put_hand};
-use spots::Chips;
+use columns::{in_mask, reach, wins};
+use notes::Ending;
+use page::pen::Writer;
+use page::words::{Card, put_hand};
+use spots::{Chips, pot_at, reach_of_first};
 
-// A sitting in a hand: its number, its stack before, what it put in by round and goes back to it, how its hand ended (0 live, 1 folded, 2 dead), whether it is still
-// there and who sits there now; its cards; where it is looked at, its best hand and the number of that; what it is paid.
+// The best hand of a sitting: its class, its ranks, and the number that hands are compared by.
+#[derive(Clone, Copy)]
+pub struct Best {
+    pub class: u8,
+    pub ranks: [u8; 5],
+    pub score: u32,
+}
+
+// A sitting in a hand: its number, its stack before, what it put in by round and goes back to it, how its hand ended, where it did before the settle, whether it is still
+// there and who sits there now; its cards; its best hand, where it is looked at; what it is paid.
 #[derive(Clone, Copy)]
 pub struct Part {
     pub sitting: u32,
     pub before: u32,
     pub rounds: [u32; 4],
     pub back: u32,
-    pub how: u8,
+    pub ended: Option<Ending>,
     pub here: bool,
     pub now: u32,
     pub held: u8,
     pub cards: [u8; 4],
-    pub shown: bool,
-    pub class: u8,
-    pub ranks: [u8; 5],
-    pub score: u32,
+    pub best: Option<Best>,
     pub paid: u32,
 }
 
-// A hand: its chips, its sittings by seat, their scores; and, where it is settled, fee, drop and what nobody claims.
+// What a settled hand was charged: its commission, the drop, and what nobody claims.
 #[derive(Clone, Copy)]
-pub struct Hand {
-    pub chips: Chips,
-    pub parts: [Part; 10],
-    pub scores: [u32; 10],
-    pub settled: bool,
+pub struct Charged {
     pub fee: u32,
     pub drop: u32,
     pub unclaimed: u32,
 }
 
+// A hand: its chips, its sittings by seat, their scores; and what it was charged, where it is settled.
+#[derive(Clone, Copy)]
+pub struct Hand {
+    pub chips: Chips,
+    pub parts: [Part; 10],
+    pub scores: [u32; 10],
+    pub charged: Option<Charged>,
+}
+
 // Who is dealt in, with the stack before, and what was posted.
-pub fn put_dealt(out: &mut [u8], p: Pen, seat: u64, sitting: u32, before: u32, posted: u32) -> Pen {
-    if posted == 0 {
-        return fill(
-            out,
-            p,
-            b"<p class=\"dealt\"><b></b> seat |: sitting | with |</p>\n",
-            &[seat, sitting as u64, before as u64],
-        );
-    }
-    fill(
-        out,
-        p,
-        b"<p class=\"dealt\"><b></b> seat |: sitting | with |, posts |</p>\n",
-        &[seat, sitting as u64, before as u64, posted as u64],
-    )
-}
-
-// How a sitting's hand stands.
-fn put_state(out: &mut [u8], p: Pen, how: u8, here: bool, now: u32) -> Pen {
-    let a = put_one_of(out, p, b"<td>live|<td>folded|<td>dead", how as usize);
-    put_gone(out, a, here, now)
-}
-
-// Whether it has left, and who sits there now.
-fn put_gone(out: &mut [u8], p: Pen, here: bool, now: u32) -> Pen {
-    if here {
-        return put(out, p, b"</td><td>");
-    }
-    if now == 0 {
-        return put(out, p, b", left</td><td>");
-    }
-    say(out, p, b", left; now sitting ", now as u64, b"</td><td>")
-}
-
-// A card that was entered, behind a blank.
-fn put_held(out: &mut [u8], p: Pen, held: u8, place: u8, card: u8) -> Pen {
-    if place < held {
-        let a = put(out, p, b" ");
-        return put_card(out, a, card);
-    }
-    p
-}
-
-fn put_cards(out: &mut [u8], p: Pen, held: u8, k: [u8; 4]) -> Pen {
-    let a = put_held(out, p, held, 0, k[0]);
-    let b = put_held(out, a, held, 1, k[1]);
-    put_more_cards(out, b, held, k[2], k[3])
-}
-
-fn put_more_cards(out: &mut [u8], p: Pen, held: u8, third: u8, fourth: u8) -> Pen {
-    let a = put_held(out, p, held, 2, third);
-    put_held(out, a, held, 3, fourth)
-}
-
-// Its best five, where its hand is looked at.
-fn put_best(out: &mut [u8], p: Pen, q: Part) -> Pen {
-    let ranks = q.ranks;
-    let a = put(out, p, b"</td><td>");
-    if q.shown {
-        return put_hand(out, a, q.class, ranks);
-    }
-    a
-}
-
-// Why a seat has of a pot: nobody else contends for it, or no contender has a better hand.
-fn put_reason(out: &mut [u8], p: Pen, h: Hand, i: usize, k: usize, score: u32) -> Pen {
-    let ps = h.chips.pots;
-    let list = ps.list;
-    let scores = h.scores;
-    if 9 <= k {
-        return p;
-    }
-    let q = list[k];
-    let alone = pots::hand::sole(q.who);
-    let sole = laws::both(alone, in_mask(q.who, i));
-    let best = laws::both(!alone, wins(scores, q.who, i, score));
-    put_whys(out, p, sole, best, k as u64 + 1)
-}
-
-fn put_whys(out: &mut [u8], p: Pen, sole: bool, best: bool, pot: u64) -> Pen {
-    let a = put_why(out, p, sole, pot, b"pot |: sole contender. ");
-    put_why(out, a, best, pot, b"pot |: best hand. ")
-}
-
-fn put_why(out: &mut [u8], p: Pen, test: bool, pot: u64, text: &[u8]) -> Pen {
-    if test {
-        return fill(out, p, text, &[pot]);
-    }
-    p
-}
-
-fn put_reasons(out: &mut [u8], p: Pen, h: Hand, i: usize, score: u32) -> Pen {
-    let ps = h.chips.pots;
-    let n = ps.n;
-    let mut pen = p;
-    let mut k: usize = 0;
-    while k < n {
-        pen = put_reason(out, pen, h, i, k, score);
-        k += 1;
-    }
-    pen
-}
-
-// What goes back, to whom: to the sitting, or to nobody where it has left.
-fn put_back(out: &mut [u8], p: Pen, back: u32, here: bool) -> Pen {
-    if back == 0 {
-        return put(out, p, b"</td></tr>\n");
-    }
-    if here {
-        return say(out, p, b"", back as u64, b" go back</td></tr>\n");
-    }
-    say(
-        out,
-        p,
-        b"",
-        back as u64,
-        b" go back and are unclaimed</td></tr>\n",
-    )
-}
-
-fn put_pay(out: &mut [u8], p: Pen, back: u32, paid: u32) -> Pen {
-    fill(
-        out,
-        p,
-        b"</td><td>|</td><td class=\"paid\">|</td><td class=\"why\">",
-        &[back as u64, paid as u64],
-    )
-}
-
-// What a sitting is paid, and why.
-fn put_paid(out: &mut [u8], p: Pen, h: Hand, i: usize, q: Part) -> Pen {
-    if !h.settled {
-        return say(
-            out,
-            p,
-            b"</td><td>",
-            q.back as u64,
-            b"</td><td></td><td></td></tr>\n",
-        );
-    }
-    let a = put_pay(out, p, q.back, q.paid);
-    let b = put_reasons(out, a, h, i, q.score);
-    put_back(out, b, q.back, q.here)
-}
-
-// The row of a sitting.
-fn put_part(out: &mut [u8], p: Pen, h: Hand, i: usize, q: Part) -> Pen {
-    let totals = h.chips.totals;
-    if 10 <= i {
-        return p;
-    }
-    let rounds = q.rounds;
-    let a = put_numbers(out, p, i as u64 + 1, q.sitting, q.before, rounds, totals[i]);
-    let b = put_state(out, a, q.how, q.here, q.now);
-    put_part_end(out, b, h, i, q)
-}
-
-// Who it is, its stack before, and what it put in, by round and together.
-fn put_numbers(
-    out: &mut [u8],
-    p: Pen,
+pub fn put_dealt(
+    w: &mut Writer<'_>,
     seat: u64,
     sitting: u32,
     before: u32,
-    rounds: [u32; 4],
+    posted: u32,
+) -> fmt::Result {
+    write!(
+        w,
+        r#"<p class="dealt"><b></b> seat {seat}: sitting {sitting} with {before}"#
+    )?;
+    if posted != 0 {
+        write!(w, ", posts {posted}")?;
+    }
+    w.write_str("</p>\n")
+}
+
+// A sitting's row: the places of its seat among the seats, from 0 and from 1, what it put in together and its score.
+#[derive(Clone, Copy)]
+struct Row {
+    place: usize,
+    seat: u64,
     total: u32,
-) -> Pen {
-    fill(
-        out,
-        p,
-        b"<tr class=\"part\"><td>|</td><td>|</td><td>|</td><td>|</td><td>|</td><td>|</td><td>|</td><td>|</td>",
-        &[
-            seat,
-            sitting as u64,
-            before as u64,
-            rounds[0] as u64,
-            rounds[1] as u64,
-            rounds[2] as u64,
-            rounds[3] as u64,
-            total as u64,
-        ],
-    )
+    score: u32,
 }
 
-fn put_part_end(out: &mut [u8], p: Pen, h: Hand, i: usize, q: Part) -> Pen {
-    let cards = q.cards;
-    let a = put_cards(out, p, q.held, cards);
-    let b = put_best(out, a, q);
-    put_paid(out, b, h, i, q)
-}
-
-// The row of a seat, where somebody was dealt in there.
-fn put_seat(out: &mut [u8], p: Pen, h: Hand, i: usize) -> Pen {
-    let parts = h.parts;
-    if 10 <= i {
-        return p;
+impl Part {
+    // Who it is, its stack before, and what it put in, by round and together.
+    fn put_numbers(&self, w: &mut Writer<'_>, r: Row) -> fmt::Result {
+        let seat = r.seat;
+        let sitting = self.sitting;
+        let before = self.before;
+        write!(
+            w,
+            r#"<tr class="part"><td>{seat}</td><td>{sitting}</td><td>{before}</td>"#
+        )?;
+        for chips in &self.rounds {
+            write!(w, "<td>{chips}</td>")?;
+        }
+        let total = r.total;
+        write!(w, "<td>{total}</td>")
     }
-    let q = parts[i];
-    if q.sitting == 0 {
-        return p;
+
+    // How its hand stands, whether it has left, and who sits there now.
+    fn put_state(&self, w: &mut Writer<'_>) -> fmt::Result {
+        let word = match self.ended {
+            None => "live",
+            Some(Ending::Folded) => "folded",
+            Some(Ending::Dead) => "dead",
+        };
+        write!(w, "<td>{word}")?;
+        if !self.here {
+            w.write_str(", left")?;
+            if self.now != 0 {
+                let now = self.now;
+                write!(w, "; now sitting {now}")?;
+            }
+        }
+        w.write_str("</td><td>")
     }
-    put_part(out, p, h, i, q)
-}
 
-fn put_parts(out: &mut [u8], p: Pen, h: Hand) -> Pen {
-    let mut pen = put_parts_head(out, p);
-    let mut i: usize = 0;
-    while i < 10 {
-        pen = put_seat(out, pen, h, i);
-        i += 1;
+    // Its cards that were entered, and its best five, where its hand is looked at.
+    fn put_cards(&self, w: &mut Writer<'_>) -> fmt::Result {
+        for k in self.cards.iter().take(self.held as usize) {
+            let card = Card(*k);
+            write!(w, " {card}")?;
+        }
+        w.write_str("</td><td>")?;
+        if let Some(b) = self.best {
+            put_hand(w, b.class, &b.ranks)?;
+        }
+        Ok(())
     }
-    pen
-}
 
-// The row of a pot: up to which height it reaches, its chips and its contenders.
-fn put_pot(out: &mut [u8], p: Pen, c: Chips, k: usize) -> Pen {
-    let ps = c.pots;
-    let list = ps.list;
-    let totals = c.totals;
-    if 9 <= k {
-        return p;
+    // What goes back, to whom: to the sitting, or to nobody where it has left.
+    fn put_back(&self, w: &mut Writer<'_>) -> fmt::Result {
+        if self.back != 0 {
+            let back = self.back;
+            write!(w, "{back} go back")?;
+            if !self.here {
+                w.write_str(" and are unclaimed")?;
+            }
+        }
+        w.write_str("</td></tr>\n")
     }
-    let q = list[k];
-    let low = spots::reach_of_first(totals, ps, k);
-    let high = columns::reach(totals, q.who);
-    put_pot_row(out, p, k as u64 + 1, low, high, q.amount, q.who)
-}
 
-fn put_pot_row(
-    out: &mut [u8],
-    p: Pen,
-    pot: u64,
-    low: u32,
-    high: u32,
-    amount: u32,
-    who: u16,
-) -> Pen {
-    let a = fill(
-        out,
-        p,
-        b"<tr class=\"pot\"><td>|</td><td>| to |</td><td>|</td><td>seats",
-        &[pot, low as u64 + 1, high as u64, amount as u64],
-    );
-    let b = put_seats(out, a, who);
-    put(out, b, b"</td></tr>\n")
-}
-
-fn put_pots(out: &mut [u8], p: Pen, c: Chips) -> Pen {
-    let ps = c.pots;
-    let n = ps.n;
-    let mut pen = p;
-    let mut k: usize = 0;
-    while k < n {
-        pen = put_pot(out, pen, c, k);
-        k += 1;
+    // What it is paid, and why.
+    fn put_paid(&self, w: &mut Writer<'_>, h: &Hand, r: Row) -> fmt::Result {
+        let back = self.back;
+        write!(w, "</td><td>{back}</td><td")?;
+        if h.charged.is_none() {
+            return w.write_str("></td><td></td></tr>\n");
+        }
+        let paid = self.paid;
+        write!(w, r#" class="paid">{paid}</td><td class="why">"#)?;
+        put_reasons(w, h, r)?;
+        self.put_back(w)
     }
-    pen
-}
 
-// The table of the pots, with what goes back.
-fn put_pots_table(out: &mut [u8], p: Pen, c: Chips) -> Pen {
-    let a = put(
-        out,
-        p,
-        b"</figure>\n<table class=\"pots\">\n<caption>Pots</caption>\n<tr><th>pot</th><th>heights</th><th>chips</th><th>contended by</th></tr>\n",
-    );
-    let b = put_pots(out, a, c);
-    say(
-        out,
-        b,
-        b"<tr><td colspan=\"2\">back</td><td class=\"back\">",
-        c.back as u64,
-        b"</td><td></td></tr>\n</table>\n",
-    )
-}
-
-// Fee, drop and what nobody claims.
-fn put_charges(out: &mut [u8], p: Pen, settled: bool, fee: u32, unclaimed: u32, drop: u32) -> Pen {
-    if !settled {
-        return put(
-            out,
-            p,
-            b"</table>\n<p class=\"open\"><strong>The log ends inside this hand: nothing of it is paid.</strong></p>\n</section>\n",
-        );
+    fn put_row(&self, w: &mut Writer<'_>, h: &Hand, r: Row) -> fmt::Result {
+        self.put_numbers(w, r)?;
+        self.put_state(w)?;
+        self.put_cards(w)?;
+        self.put_paid(w, h, r)
     }
-    let a = fill(
-        out,
-        p,
-        b"</table>\n<p class=\"charges\">fee <span class=\"fee\">|</span>, unclaimed <span class=\"unclaimed\">|</span>",
-        &[fee as u64, unclaimed as u64],
-    );
-    if drop == 0 {
-        return put(out, a, b"</p>\n</section>\n");
-    }
-    say(
-        out,
-        a,
-        b", drop <span class=\"drop\">",
-        drop as u64,
-        b"</span></p>\n</section>\n",
-    )
 }
 
-// The end of a section: the picture and the tables.
-pub fn put_end(out: &mut [u8], p: Pen, h: Hand) -> Pen {
-    let c = h.chips;
-    let a = put(out, p, b"<figure>\n");
-    let b = put_chart(out, a, c);
-    put_end_on(out, b, h)
+// Why a seat has of the pots: nobody else contends for one, or no contender has a better hand.
+fn put_reasons(w: &mut Writer<'_>, h: &Hand, r: Row) -> fmt::Result {
+    for k in 0..h.chips.pots.n {
+        let who = pot_at(h.chips.pots, k).who;
+        let pot = spots::number_of(k);
+        if pots::hand::sole(who) {
+            if in_mask(who, r.place) {
+                write!(w, "pot {pot}: sole contender. ")?;
+            }
+        } else if wins(h.scores, who, r.place, r.score) {
+            write!(w, "pot {pot}: best hand. ")?;
+        }
+    }
+    Ok(())
 }
 
 // The head of the sittings' table.
-fn put_parts_head(out: &mut [u8], p: Pen) -> Pen {
-    let a = put(
-        out,
-        p,
-        b"<table class=\"parts\">\n<caption>Who was dealt in</caption>\n<tr><th>seat</th><th>sitting</th><th>stack before</th><th>before the flop</th><th>flop</th><th>turn</th><th>river</th><th>put in</th>",
-    );
-    put(
-        out,
-        a,
-        b"<th>hand</th><th>cards</th><th>best five</th><th>goes back</th><th>paid</th><th class=\"why\">why</th></tr>\n",
-    )
+fn put_parts_head(w: &mut Writer<'_>) -> fmt::Result {
+    w.write_str("<table class=\"parts\">\n<caption>Who was dealt in</caption>\n<tr><th>seat</th><th>sitting</th><th>stack before</th><th>before the flop</th><th>flop</th><th>turn</th><th>river</th><th>put in</th>")?;
+    w.write_str("<th>hand</th><th>cards</th><th>best five</th><th>goes back</th><th>paid</th><th class=\"why\">why</th></tr>\n")
 }
 
-fn put_end_on(out: &mut [u8], p: Pen, h: Hand) -> Pen {
-    let c = h.chips;
-    let a = put_pots_table(out, p, c);
-    let b = put_parts(out, a, h);
-    put_charges(out, b, h.settled, h.fee, h.unclaimed, h.drop)
+// A row for each seat where somebody was dealt in.
+fn put_parts(w: &mut Writer<'_>, h: &Hand) -> fmt::Result {
+    put_parts_head(w)?;
+    let seats = h.parts.iter().zip(&h.chips.totals).zip(&h.scores);
+    for (place, ((q, total), score)) in seats.enumerate() {
+        if q.sitting != 0 {
+            let r = Row {
+                place,
+                seat: place as u64 + 1,
+                total: *total,
+                score: *score,
+            };
+            q.put_row(w, h, r)?;
+        }
+    }
+    Ok(())
+}
+
+// The row of a pot: up to which height it reaches, its chips and its contenders.
+fn put_pot(w: &mut Writer<'_>, c: &Chips, k: usize) -> fmt::Result {
+    let q = pot_at(c.pots, k);
+    let pot = spots::number_of(k);
+    let low = u64::from(reach_of_first(c.totals, c.pots, k)) + 1;
+    let high = reach(c.totals, q.who);
+    let chips = q.amount;
+    write!(
+        w,
+        r#"<tr class="pot"><td>{pot}</td><td>{low} to {high}</td><td>{chips}</td><td>seats"#
+    )?;
+    put_seats(w, q.who)?;
+    w.write_str("</td></tr>\n")
+}
+
+// The table of the pots, with what goes back.
+fn put_pots(w: &mut Writer<'_>, c: &Chips) -> fmt::Result {
+    w.write_str("<table class=\"pots\">\n<caption>Pots</caption>\n<tr><th>pot</th><th>heights</th><th>chips</th><th>contended by</th></tr>\n")?;
+    for k in 0..c.pots.n {
+        put_pot(w, c, k)?;
+    }
+    let back = c.back;
+    writeln!(
+        w,
+        r#"<tr><td colspan="2">back</td><td class="back">{back}</td><td></td></tr>"#
+    )?;
+    w.write_str("</table>\n")
+}
+
+// Fee, drop and what nobody claims.
+fn put_charged(w: &mut Writer<'_>, charged: Option<Charged>) -> fmt::Result {
+    let Some(Charged {
+        fee,
+        drop,
+        unclaimed,
+    }) = charged
+    else {
+        return w.write_str("<p class=\"open\"><strong>The log ends inside this hand: nothing of it is paid.</strong></p>\n");
+    };
+    write!(
+        w,
+        r#"<p class="charges">fee <span class="fee">{fee}</span>, unclaimed <span class="unclaimed">{unclaimed}</span>"#
+    )?;
+    if drop != 0 {
+        write!(w, r#", drop <span class="drop">{drop}</span>"#)?;
+    }
+    w.write_str("</p>\n")
+}
+
+// The end of a section: the picture and the tables.
+pub fn put_end(w: &mut Writer<'_>, h: &Hand) -> fmt::Result {
+    w.write_str("<figure>\n")?;
+    put_chart(w, &h.chips)?;
+    w.write_str("</figure>\n")?;
+    put_pots(w, &h.chips)?;
+    put_parts(w, h)?;
+    w.write_str("</table>\n")?;
+    put_charged(w, h.charged)?;
+    w.write_str("</section>\n")
 }

@@ -1,31 +1,11 @@
--- `stacks_of` meets its contract: in front of the place the stacks are written, behind it they are still to come.
+-- `stacks_of` meets its contract: place by place. Assumes nothing.
+use Rattle.std.proofs.Common.{◌≡◌, length, arith, rules}
 use Rattle.notes.specs.Notes.{stack_of}
-use Rattle.chairs.proofs.Laws.{unread}
-use Rattle.laws.proofs.Places.{front_turn, front_done}
-use mathlib.Core.Path.{◌≡◌, refl}
-use mathlib.Core.List.{map}
-use Prim.Native.Nat.{◌-◌}
-use lib.ListN.{length, length-set}
-use native.Mathlib.Omega.{arith}
-use borrow.Author.Rules.{rules}
+use Rattle.notes.proofs.Laws.{mapped}
 use Rattle.notes.proofs.stacks_of.Goals as goal
-
-pub loop-i-init : goal.loop-i-init
-loop-i-init c = (omega arith, refl, refl)
-
-pub loop-i-preserved : goal.loop-i-preserved
-loop-i-preserved c =
-    let cs = c.args.cs in
-    let l = c.loop-i in
-    let n : length cs ≡ 10 = search rules in (
-      omega arith,
-      simp length-set l.invariant.1,
-      front_turn (map stack_of) (map stack_of) unread l.a (map stack_of cs) cs l.i _ (omega arith) (omega arith) refl l.invariant.2,
-    )
 
 pub returns : goal.returns
 returns c =
-    let cs = c.args.cs in
-    let l = c.loop-i in
-    let n : length cs ≡ 10 = search rules in
-    front_done (map stack_of) l.a (map stack_of cs) cs l.i (omega arith) (omega arith) refl l.invariant.2
+    let n : length c.args.cs ≡ 10 = search rules in
+    let m : length c.map.result ≡ 10 = search rules in
+    mapped stack_of c.args.cs c.map.result (omega arith) (λ i d e k. search (rules, c.map.ensures.items.at i d e (omega arith)))
