@@ -1,126 +1,47 @@
 // Crown Hold'em: rounds on standard input, a block of sixteen lines each, and what comes back of every wager on standard output.
 #![tactic(auto)]
 
-ghost use Rattle.std.specs.Prelude.{◌≡◌, ◌≤◌, ◌<◌, length};
+ghost use Rattle.std.specs.Prelude.{◌≡◌, ◌≤◌, ⊤, length};
 ghost use Rattle.rounds.specs.RoundParts.{Held};
 
-use output::{STDOUT_FILENO, ahead, flush, read_part};
+use output::{Failed, Listener, STDOUT_FILENO, flush, read_all, write_out};
 use rounds::{Fill, close, empty, feed};
+use std::ops::ControlFlow;
 
 // Answers are written out where less than an answer's room, 216 bytes, is left behind them.
 const ENOUGH: usize = 65000;
 
-#[derive(Clone, Copy)]
-struct ServedTo {
+// What is kept of the unfinished block, and the answers that are still to be written.
+#[derive(Drop)]
+struct House {
     fill: Fill,
-    from: usize,
+    buf: [u8; 544],
+    out: [u8; 65536],
     at: usize,
-    ok: bool,
 }
 
-// The bytes of a part up to the end of a block, or what is left of the part.
-fn serve_one(
-    m: Fill,
-    buf: &mut [u8],
-    part: &[u8],
-    from: usize,
-    out: &mut [u8],
-    at: usize,
-) -> ServedTo
-    requires { Held m × (544 ≤ length buf.old) × (from < length part.now) × (at ≤ length out.old) × (length out.old ≡ 65536) }
-    ensures { Held result.fill × (from < result.from) × (result.from ≤ length part.now) × (result.at ≤ length out.old) }
-{
-    let w = flush(STDOUT_FILENO, &out[0..at], ENOUGH);
-    let k = w.at;
-    let f = feed(m, buf, &part[from..], &mut out[k..]);
-    let next = ahead(from, f.used, part);
-    let end = ahead(k, f.written, out);
-    let d = f.fill;
-    ServedTo {
-        fill: d,
-        from: next,
-        at: end,
-        ok: w.ok,
-    }
-}
+impl Listener for House {
+    ghost Held = { λ h. Held h.fill × (544 ≤ length h.buf) × (length h.out ≡ 65536) × (h.at ≤ 65536) };
 
-// What is kept after some input, whether a write failed, and whether to go on.
-#[derive(Clone, Copy)]
-struct Lap {
-    fill: Fill,
-    failed: bool,
-    more: bool,
-}
+    ghost Heard = { λ _ _ _ _. ⊤ };
 
-// Answers every block that ends in this part of the input, in one write where the answers fit.
-fn serve(m: Fill, buf: &mut [u8], part: &[u8]) -> Lap
-    requires { Held m × (544 ≤ length buf.old) }
-    ensures { Held result.fill }
-{
-    let mut out = io::large_buffer();
-    let mut fill = m;
-    let mut from: usize = 0;
-    let mut at: usize = 0;
-    while from < part.len() {
-        let s = serve_one(fill, buf, part, from, &mut out, at);
-        let d = s.fill;
-        fill = d;
-        if !s.ok {
-            return Lap {
-                fill,
-                failed: true,
-                more: false,
-            };
-        }
-        from = s.from;
-        at = s.at;
-    }
-    let ok = io::write_all(STDOUT_FILENO, &out[0..at]);
-    Lap {
-        fill,
-        failed: !ok,
-        more: ok,
-    }
-}
+    ghost none = { λ _ _. tt };
 
-// One read, and the answers to it.
-fn read_some(rt: &HostRuntime, m: Fill, buf: &mut [u8]) -> Lap
-    requires { Held m × (544 ≤ length buf.old) }
-    ensures { Held result.fill }
-{
-    let mut input = io::large_buffer();
-    let got = read_part(rt, &mut input);
-    if got.count == 0 {
-        return Lap {
-            fill: m,
-            failed: false,
-            more: false,
-        };
-    }
-    let n = got.count;
-    serve(m, buf, &input[..n])
-}
+    ghost on = { λ _ _ _ _ _ _ _ _. tt };
 
-// Reads to the end of the input. A proved loop has to end, so it counts its turns down from a number that no run uses up.
-fn read_all(rt: &HostRuntime, buf: &mut [u8]) -> Lap
-    requires { 544 ≤ length buf.old }
-    ensures { Held result.fill }
-{
-    let mut fill = empty();
-    let mut turns = u64::MAX;
-    while turns > 0 {
-        let t = read_some(rt, fill, buf);
-        let d = t.fill;
-        fill = d;
-        if !t.more {
-            return t;
-        }
-        turns -= 1;
+    // The bytes of a part up to the end of a block, or all of it.
+    fn hear(&mut self, part: &[u8]) -> Result<usize, Failed> {
+        let at = flush(STDOUT_FILENO, &self.out[..self.at], ENOUGH)?;
+        let f = feed(self.fill, &mut self.buf, part, &mut self.out[at..]);
+        self.fill = f.fill;
+        self.at = at + f.written;
+        Ok(f.used)
     }
-    Lap {
-        fill,
-        failed: false,
-        more: false,
+
+    fn pause(&mut self) -> Result<ControlFlow<()>, Failed> {
+        write_out(STDOUT_FILENO, &self.out[..self.at])?;
+        self.at = 0;
+        Ok(ControlFlow::Continue(()))
     }
 }
 
@@ -130,14 +51,19 @@ fn end(m: Fill, buf: &[u8])
 {
     let mut out = [0u8; 216];
     let n = close(m, buf, &mut out);
-    io::write_all(STDOUT_FILENO, &out[0..n]);
+    io::write_all(STDOUT_FILENO, &out[..n]);
 }
 
+// A read that fails is taken for the end of the input.
 fn main(rt: HostRuntime) {
-    let mut buf = [0u8; 544];
-    let t = read_all(&rt, &mut buf);
-    if !t.failed {
-        let m = t.fill;
-        end(m, &buf);
+    let mut house = House {
+        fill: empty(),
+        buf: [0; 544],
+        out: io::large_buffer(),
+        at: 0,
+    };
+    if let Err(Failed::Writing) = read_all(&rt, &mut house, &mut io::large_buffer()) {
+        return;
     }
+    end(house.fill, &house.buf);
 }

@@ -8,7 +8,7 @@ use lib.Dec.{eqb, ltb}
 use lib.ListN.{length, get_or, take, drop, set}
 use lib.Seq.{set_out}
 use borrow.Author.Tests.{ne_eqb, eqb-true, lt-ltb, le-ltb}
-use Rattle.std.specs.Prelude.{Ok, Err}
+use Rattle.std.specs.Prelude.{Ok, Err, Some, None}
 use Rattle.laws.specs.Tests.{both, pick}
 use Rattle.laws.proofs.Tests.{both_true}
 use Rattle.laws.specs.Often.{tally}
@@ -24,34 +24,32 @@ use Rattle.ladder.proofs.Laid.{ladder_length}
 use Rattle.counts.specs.HandOrder.{counted_reading}
 use Rattle.counts.proofs.Agree.{readers_agree}
 use Rattle.hands.specs.Answers.{WroteAt, number_bytes, hand_bytes, place_bytes, known_bytes, reading_bytes}
-use Rattle.hands.specs.Lines.{line_of, ended_to, cards_to, five_of, read_by, answer_of}
+use Rattle.hands.specs.Lines.{line_of, behind, with_word, ended_to, cards_to, five_of, read_by, answer_of}
 use Rattle.hands.specs.declared.Line.{Line}
 use Rattle.hands.proofs.Written.{next}
 
 module _ (l : Line) (cs : List ℕ) where
-  abbrev more : Line
-  more = line_of (pick (ltb l.have (length cs)) (l.have + 1) l.have)
-
   -- no number had begun
-  pub ended_none : l.begun ≡ false → (l ≡ ended_to l (length cs)) × (cs ≡ cards_to l cs)
+  pub ended_none : l.word ≡ None → (l ≡ ended_to l (length cs)) × (cs ≡ cards_to l cs)
   unfolding ended_to cards_to
-  ended_none e = (sym (ap (λ (b : Bool). pick b more l) e), sym (ap (λ (b : Bool). pick b (set cs l.have l.word) cs) e))
+  ended_none e = (sym (ap (behind l (length cs)) e), sym (ap (with_word cs l.have) e))
 
-  -- one had, and there is room for it
-  pub ended_kept : l.begun ≡ true → l.have < length cs → (line_of (l.have + 1) ≡ ended_to l (length cs)) × (set cs l.have l.word ≡ cards_to l cs)
-  unfolding ended_to cards_to
-  ended_kept e h = (
-    ap (λ (b : Bool). line_of (pick b (l.have + 1) l.have)) (sym (lt-ltb l.have (length cs) h)) ∙ sym (ap (λ (b : Bool). pick b more l) e),
-    sym (ap (λ (b : Bool). pick b (set cs l.have l.word) cs) e),
-  )
+  module _ (w : ℕ) (e : l.word ≡ Some w) where
+    -- one had, and there is room for it
+    pub ended_kept : l.have < length cs → (line_of (l.have + 1) ≡ ended_to l (length cs)) × (set cs l.have w ≡ cards_to l cs)
+    unfolding ended_to cards_to
+    ended_kept h = (
+      ap (λ (b : Bool). line_of (pick b (l.have + 1) l.have)) (sym (lt-ltb l.have (length cs) h)) ∙ sym (ap (behind l (length cs)) e),
+      sym (ap (with_word cs l.have) e),
+    )
 
-  -- one had, and there is none
-  pub ended_full : l.begun ≡ true → length cs ≤ l.have → (line_of l.have ≡ ended_to l (length cs)) × (cs ≡ cards_to l cs)
-  unfolding ended_to cards_to
-  ended_full e h = (
-    ap (λ (b : Bool). line_of (pick b (l.have + 1) l.have)) (sym (le-ltb l.have (length cs) h)) ∙ sym (ap (λ (b : Bool). pick b more l) e),
-    sym (set_out cs l.have l.word h) ∙ sym (ap (λ (b : Bool). pick b (set cs l.have l.word) cs) e),
-  )
+    -- one had, and there is none
+    pub ended_full : length cs ≤ l.have → (line_of l.have ≡ ended_to l (length cs)) × (cs ≡ cards_to l cs)
+    unfolding ended_to cards_to
+    ended_full h = (
+      ap (λ (b : Bool). line_of (pick b (l.have + 1) l.have)) (sym (le-ltb l.have (length cs) h)) ∙ sym (ap (behind l (length cs)) e),
+      sym (set_out cs l.have w h) ∙ sym (ap (with_word cs l.have) e),
+    )
 
 -- ---- the answer
 module _ {at s : ℕ} {o m : List ℕ} (place : Bool) (h : Hand) where

@@ -1,5 +1,5 @@
 -- No section of the paper: how the program `hands` reads a line, numbers with blanks between them. Assumes nothing.
-use Rattle.std.specs.Prelude.{Bool, true, false, not, List, [], ◌∷◌, ◌++◌, ℕ, ◌+◌, ◌-◌, ◌*◌, min, ltb, leb, eqb, length, take, set, Ok, Err}
+use Rattle.std.specs.Prelude.{Bool, not, List, [], ◌∷◌, ◌++◌, ℕ, ◌+◌, ◌-◌, ◌*◌, min, ltb, leb, eqb, length, take, set, Ok, Err, Option, Some, None, unwrap_or}
 use Rattle.laws.specs.Tests.{both, pick}
 use Rattle.cards.specs.Order.{ranking_of, best_of}
 use Rattle.cards.specs.Reading.{Reading, any_above, any_twice, reading_of}
@@ -9,7 +9,7 @@ use Rattle.hands.specs.declared.Line.{Line}
 
 -- a line of which nothing has been read
 abbrev pub no_line : Line
-no_line = record { have = 0; word = 0; begun = false }
+no_line = record { have = 0; word = None }
 
 -- a number with one digit more; 255, which is no card, where it would be higher or the byte is no digit
 unfoldable pub grown_of : ℕ → ℕ → ℕ
@@ -17,19 +17,27 @@ grown_of w b = pick (both (leb 48 b) (leb b 57)) (min (w * 10 + (b - 48)) 255) 2
 
 -- a line of so many numbers
 abbrev pub line_of : ℕ → Line
-line_of n = record { have = n; word = 0; begun = false }
+line_of n = record { have = n; word = None }
 
 -- the line after the number that has begun, if any; there is room for so many
+abbrev pub behind : Line → ℕ → Option ℕ → Line
+behind l room (Some w) = line_of (pick (ltb l.have room) (l.have + 1) l.have)
+behind l room None = l
+
 unfoldable pub ended_to : Line → ℕ → Line
-ended_to l room = pick l.begun (line_of (pick (ltb l.have room) (l.have + 1) l.have)) l
+ended_to l room = behind l room l.word
 
 -- and the cards: past the end none is kept
-unfoldable pub cards_to : Line → List ℕ → List ℕ
-cards_to l cards = pick l.begun (set cards l.have l.word) cards
+abbrev pub with_word : List ℕ → ℕ → Option ℕ → List ℕ
+with_word cards at (Some w) = set cards at w
+with_word cards at None = cards
 
--- the line after a byte: a blank ends a number, any other belongs to one
+unfoldable pub cards_to : Line → List ℕ → List ℕ
+cards_to l cards = with_word cards l.have l.word
+
+-- the line after a byte: a blank ends a number, any other belongs to one, which begins at 0
 unfoldable pub taken_to : Line → ℕ → ℕ → Line
-taken_to l room b = pick (eqb b 32) (ended_to l room) (record { have = l.have; word = grown_of l.word b; begun = true })
+taken_to l room b = pick (eqb b 32) (ended_to l room) (record { have = l.have; word = Some (grown_of (unwrap_or l.word 0) b) })
 
 unfoldable pub cards_with : Line → List ℕ → ℕ → List ℕ
 cards_with l cards b = pick (eqb b 32) (cards_to l cards) cards

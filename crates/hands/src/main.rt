@@ -4,7 +4,7 @@
 // a line has five cards. With --short the cards are those of the 32-card deck, which has none of these.
 #![tactic(auto)]
 
-ghost use Rattle.std.specs.Prelude.{◌≡◌, [], ◌∷◌, ◌+◌, ◌-◌, ◌≤◌, ◌<◌, length};
+ghost use Rattle.std.specs.Prelude.{◌≡◌, [], ◌∷◌, ◌+◌, ◌-◌, ◌≤◌, ◌<◌, ⊤, length};
 ghost use Rattle.cards.specs.Reading.{reading_of};
 ghost use Rattle.hands.specs.Lines.{no_line, grown_of, ended_to, cards_to, taken_to, cards_with, five_of, read_by, answer_of};
 ghost use Rattle.hands.specs.Answers.{WroteAt, number_bytes, rank_bytes, hand_bytes, four_bytes, key_bytes, place_bytes, known_bytes, reading_bytes};
@@ -12,7 +12,8 @@ ghost use Rattle.hands.specs.Answers.{WroteAt, number_bytes, rank_bytes, hand_by
 use argument::is_argument;
 use cards::{Hand, NoHand, any_above, any_twice, best_hand};
 use laws::{both, either};
-use output::{STDOUT_FILENO, flush, read_part};
+use output::{Failed, Listener, STDOUT_FILENO, flush, read_all};
+use std::ops::ControlFlow;
 
 // Answers are written out where less than an answer's room, 18 bytes, is left behind them.
 const ENOUGH: usize = 65500;
@@ -26,12 +27,11 @@ struct Wish {
     place: bool,
 }
 
-// A line that is being read: how many numbers stand in it so far, and the one that has begun.
+// A line that is being read: how many numbers stand in it so far, and the one that has begun, if any.
 #[derive(Clone, Copy)]
 struct Line {
     have: usize,
-    word: u8,
-    begun: bool,
+    word: Option<u8>,
 }
 
 fn fresh() -> Line
@@ -39,8 +39,7 @@ fn fresh() -> Line
 {
     Line {
         have: 0,
-        word: 0,
-        begun: false,
+        word: None,
     }
 }
 
@@ -63,24 +62,20 @@ fn end_word(l: Line, cards: &mut [u8]) -> Line
     ensures is { (result ≡ ended_to l (length cards.old)) × (cards.new ≡ cards_to l cards.old) }
     ensures held { l.have ≤ length cards.old → result.have ≤ length cards.old }
 {
-    let at = l.have;
-    let begun = l.begun;
-    if begun {
-        if at < cards.len() {
-            cards[at] = l.word;
-            return Line {
-                have: at + 1,
-                word: 0,
-                begun: false,
-            };
-        }
+    let Some(word) = l.word else {
+        return l;
+    };
+    if l.have < cards.len() {
+        cards[l.have] = word;
         return Line {
-            have: at,
-            word: 0,
-            begun: false,
+            have: l.have + 1,
+            word: None,
         };
     }
-    l
+    Line {
+        have: l.have,
+        word: None,
+    }
 }
 
 // A byte of a line: a blank ends a number, any other belongs to one.
@@ -93,8 +88,7 @@ fn take_byte(l: Line, cards: &mut [u8], b: u8) -> Line
     }
     Line {
         have: l.have,
-        word: grown(l.word, b),
-        begun: true,
+        word: Some(grown(l.word.unwrap_or(0), b)),
     }
 }
 
@@ -268,92 +262,60 @@ fn answer(w: Wish, l: Line, cards: &mut [u8], out: &mut [u8], at: usize) -> usiz
     put(out, end, 10)
 }
 
-#[derive(Clone, Copy)]
-struct ServedTo {
+// What is asked for, the line that is being read and its numbers, and the answers still to be written.
+#[derive(Drop)]
+struct Desk {
+    wish: Wish,
     line: Line,
+    cards: [u8; 8],
+    out: [u8; 65536],
     at: usize,
 }
 
-// A byte of the input: an LF ends a line, which is answered.
-fn serve_byte(w: Wish, l: Line, cards: &mut [u8], b: u8, out: &mut [u8], at: usize) -> ServedTo
-    requires { (l.have ≤ length cards.old) × (at ≤ length out.old) × (length out.old ≡ 65536) }
-    ensures { (result.line.have ≤ length cards.old) × (result.at ≤ length out.old) }
-{
-    if b != 10 {
-        let line = take_byte(l, cards, b);
-        return ServedTo { line, at };
-    }
-    let f = flush(STDOUT_FILENO, &out[0..at], ENOUGH);
-    let end = answer(w, l, cards, out, f.at);
-    let line = fresh();
-    ServedTo { line, at: end }
-}
-
-// Answers every line that ends in this part of the input, in one write where the answers fit.
-fn serve(w: Wish, l: Line, cards: &mut [u8], part: &[u8]) -> Line
-    requires { l.have ≤ length cards.old }
-    ensures { result.have ≤ length cards.old }
-{
-    let mut out = io::large_buffer();
-    let mut line = l;
-    let mut at: usize = 0;
-    let mut i: usize = 0;
-    while i < part.len() {
-        let s = serve_byte(w, line, cards, part[i], &mut out, at);
-        let d = s.line;
-        line = d;
-        at = s.at;
-        i += 1;
-    }
-    io::write_all(STDOUT_FILENO, &out[0..at]);
-    line
-}
-
-#[derive(Clone, Copy)]
-struct Lap {
-    line: Line,
-    more: bool,
-}
-
-// One read, and the answers to it.
-fn read_some(rt: &HostRuntime, w: Wish, l: Line, cards: &mut [u8]) -> Lap
-    requires { l.have ≤ length cards.old }
-    ensures { result.line.have ≤ length cards.old }
-{
-    let mut input = io::large_buffer();
-    let got = read_part(rt, &mut input);
-    if got.count == 0 {
-        return Lap {
-            line: l,
-            more: false,
-        };
-    }
-    let n = got.count;
-    let line = serve(w, l, cards, &input[..n]);
-    Lap { line, more: true }
-}
-
-// Reads to the end of the input. A proved loop has to end, so it counts its turns down from a number that no run uses up.
-fn read_all(rt: &HostRuntime, w: Wish, cards: &mut [u8]) -> Line
-    ensures { result.have ≤ length cards.old }
-{
-    let mut line = fresh();
-    let mut turns = u64::MAX;
-    while turns > 0 {
-        let t = read_some(rt, w, line, cards);
-        let d = t.line;
-        line = d;
-        if !t.more {
-            return line;
+impl Desk {
+    // A byte of the input: an LF ends a line, which is answered. That what is written out fails is not told.
+    fn serve_byte(&mut self, b: u8)
+        requires { (self.old.line.have ≤ length self.old.cards) × (length self.old.out ≡ 65536) × (self.old.at ≤ 65536) }
+        ensures { (self.new.line.have ≤ length self.new.cards) × (length self.new.out ≡ 65536) × (self.new.at ≤ 65536) }
+    {
+        if b != 10 {
+            self.line = take_byte(self.line, &mut self.cards, b);
+            return;
         }
-        turns -= 1;
+        let from = flush(STDOUT_FILENO, &self.out[..self.at], ENOUGH).unwrap_or(0);
+        self.at = answer(
+            self.wish,
+            self.line,
+            &mut self.cards,
+            &mut self.out,
+            from,
+        );
+        self.line = fresh();
     }
-    line
 }
 
-// Whether something stands in the line.
-fn is_begun(l: Line) -> bool {
-    if l.begun { true } else { 0 < l.have }
+impl Listener for Desk {
+    ghost Held = { λ d. (d.line.have ≤ length d.cards) × (length d.out ≡ 65536) × (d.at ≤ 65536) };
+
+    ghost Heard = { λ _ _ _ _. ⊤ };
+
+    ghost none = { λ _ _. tt };
+
+    ghost on = { λ _ _ _ _ _ _ _ _. tt };
+
+    // Answers every line that ends in this part of the input.
+    fn hear(&mut self, part: &[u8]) -> Result<usize, Failed> {
+        for b in part {
+            self.serve_byte(*b);
+        }
+        Ok(part.len())
+    }
+
+    fn pause(&mut self) -> Result<ControlFlow<()>, Failed> {
+        io::write_all(STDOUT_FILENO, &self.out[..self.at]);
+        self.at = 0;
+        Ok(ControlFlow::Continue(()))
+    }
 }
 
 // Whether one of the three arguments is this word.
@@ -375,14 +337,19 @@ fn wished(rt: &HostRuntime) -> Wish {
     }
 }
 
-// The last line may lack its LF.
+// The last line may lack its LF. A read that fails is taken for the end of the input.
 fn main(rt: HostRuntime) {
-    let mut cards = [0u8; 8];
-    let mut out = [0u8; 18];
-    let w = wished(&rt);
-    let line = read_all(&rt, w, &mut cards);
-    if is_begun(line) {
-        let n = answer(w, line, &mut cards, &mut out, 0);
-        io::write_all(STDOUT_FILENO, &out[0..n]);
+    let mut d = Desk {
+        wish: wished(&rt),
+        line: fresh(),
+        cards: [0; 8],
+        out: io::large_buffer(),
+        at: 0,
+    };
+    let _ = read_all(&rt, &mut d, &mut io::large_buffer());
+    if d.line.word.is_some() || 0 < d.line.have {
+        let mut out = [0u8; 18];
+        let n = answer(d.wish, d.line, &mut d.cards, &mut out, 0);
+        io::write_all(STDOUT_FILENO, &out[..n]);
     }
 }

@@ -2,139 +2,61 @@
 // are written, for its screen.
 #![tactic(auto)]
 
-ghost use Rattle.std.specs.Prelude.{◌≡◌, false, ◌≤◌, ◌<◌, length};
+ghost use Rattle.std.specs.Prelude.{◌≡◌, ◌≤◌, length};
 ghost use Rattle.lines.specs.Kept.{kept_most};
 ghost use Rattle.frames.specs.Frames.{Held};
 ghost use Rattle.couple.specs.Couple.{Good, room_most};
 ghost use Rattle.pairs.specs.Pairs.{HeardTo};
+ghost use Rattle.pair.specs.Hearing.{hears_none, hears_on};
 
 use argument::is_argument;
 use couple::{Pair, last_lines};
 use frames::Frame;
-use output::{STDOUT_FILENO, ahead, read_part};
+use output::{Failed, Listener, STDOUT_FILENO, read_all, write_out};
 use pairs::{close, feed_on};
+use std::ops::ControlFlow;
 
-#[derive(Clone, Copy)]
-struct ServedTo {
+// The pair, what is due, the table whose screen is written (0 for both), the unfinished lines and a sheet for the answers.
+#[derive(Drop)]
+struct Tables {
     pair: Pair,
     frame: Frame,
-    from: usize,
-    ok: bool,
-}
-
-// What is left of a part, as far as its answers have room in one sheet: they are written out, and the part goes on behind the bytes that were used up.
-fn serve_one(
-    p: Pair,
-    f: Frame,
     only: u8,
-    buf: &mut [u8],
-    part: &[u8],
-    from: usize,
-    out: &mut [u8],
-) -> ServedTo
-    requires { Good p × Held f × (only ≤ 2) × (kept_most ≤ length buf.old) × (from < length part.now) × (room_most ≤ length out.old) }
-    ensures heard { HeardTo only p f buf.old part.now from result.pair result.frame buf.new result.from }
-    ensures held { Good result.pair × Held result.frame × (from < result.from) × (result.from ≤ length part.now) }
-{
-    let d = feed_on(p, f, only, buf, &part[from..], out);
-    let next = ahead(from, d.used, part);
-    let n = d.written;
-    let q = d.pair;
-    let g = d.frame;
-    ServedTo {
-        pair: q,
-        frame: g,
-        from: next,
-        ok: io::write_all(STDOUT_FILENO, &out[0..n]),
-    }
+    buf: [u8; text::sheet::ROOM],
+    out: [u8; 65536],
 }
 
-// The pair and what is due after some input, whether reading or writing failed, and whether to go on.
-#[derive(Clone, Copy)]
-struct Lap {
-    pair: Pair,
-    frame: Frame,
-    failed: bool,
-    more: bool,
-}
+impl Listener for Tables {
+    ghost Held = { λ t. Good t.pair × Held t.frame × (t.only ≤ 2) × (kept_most ≤ length t.buf) × (room_most ≤ length t.out) };
 
-// Answers everything that this part of the input makes whole, in one write where the answers fit. Unless a write failed, the pair has heard every byte of it.
-fn serve(p: Pair, f: Frame, only: u8, buf: &mut [u8], part: &[u8]) -> Lap
-    requires { Good p × Held f × (only ≤ 2) × (kept_most ≤ length buf.old) }
-    ensures heard { result.failed ≡ false → HeardTo only p f buf.old part.now 0 result.pair result.frame buf.new (length part.now) }
-    ensures held { Good result.pair × Held result.frame }
-{
-    let mut out = io::large_buffer();
-    let mut pair = p;
-    let mut frame = f;
-    let mut from: usize = 0;
-    while from < part.len() {
-        let s = serve_one(pair, frame, only, buf, part, from, &mut out);
-        let q = s.pair;
-        pair = q;
-        let g = s.frame;
-        frame = g;
-        if !s.ok {
-            return Lap {
-                pair,
-                frame,
-                failed: true,
-                more: false,
-            };
-        }
-        from = s.from;
-    }
-    Lap {
-        pair,
-        frame,
-        failed: false,
-        more: !pair.shut,
-    }
-}
+    ghost Heard = { λ t part n u. (u.only ≡ t.only) × HeardTo t.only t.pair t.frame t.buf part 0 u.pair u.frame u.buf n };
 
-// One read, and the answers to it. A read that fails is no end of the input: then nothing more is said.
-fn read_some(rt: &HostRuntime, p: Pair, f: Frame, only: u8, buf: &mut [u8]) -> Lap
-    requires { Good p × Held f × (only ≤ 2) × (kept_most ≤ length buf.old) }
-    ensures { Good result.pair × Held result.frame }
-{
-    let mut input = io::large_buffer();
-    let got = read_part(rt, &mut input);
-    if got.count == 0 {
-        return Lap {
-            pair: p,
-            frame: f,
-            failed: got.failed,
-            more: false,
-        };
-    }
-    let n = got.count;
-    serve(p, f, only, buf, &input[..n])
-}
+    ghost none = { λ t part. hears_none t.only t.pair t.frame t.buf part };
 
-// Reads to the end of the input. A proved loop has to end, so it counts its turns down from a number that no run uses up.
-fn read_all(rt: &HostRuntime, only: u8, buf: &mut [u8]) -> Lap
-    requires { (only ≤ 2) × (kept_most ≤ length buf.old) }
-    ensures { Good result.pair × Held result.frame }
-{
-    let mut pair = couple::start();
-    let mut frame = frames::start();
-    let mut turns = u64::MAX;
-    while turns > 0 {
-        let t = read_some(rt, pair, frame, only, buf);
-        let q = t.pair;
-        pair = q;
-        let g = t.frame;
-        frame = g;
-        if !t.more {
-            return t;
-        }
-        turns -= 1;
+    ghost on = { λ t u v part n k. hears_on t.only t.pair t.frame t.buf part n u.only u.pair u.frame u.buf v.only v.pair v.frame v.buf k };
+
+    // Bytes at the front of a part, as far as their answers have room in one sheet: they are written out.
+    fn hear(&mut self, part: &[u8]) -> Result<usize, Failed> {
+        let d = feed_on(
+            self.pair,
+            self.frame,
+            self.only,
+            &mut self.buf,
+            part,
+            &mut self.out,
+        );
+        self.pair = d.pair;
+        self.frame = d.frame;
+        write_out(STDOUT_FILENO, &self.out[..d.written])?;
+        Ok(d.used)
     }
-    Lap {
-        pair,
-        frame,
-        failed: false,
-        more: false,
+
+    fn pause(&mut self) -> Result<ControlFlow<()>, Failed> {
+        Ok(if self.pair.shut {
+            ControlFlow::Break(())
+        } else {
+            ControlFlow::Continue(())
+        })
     }
 }
 
@@ -174,12 +96,15 @@ fn end(p: Pair, f: Frame, only: u8)
 }
 
 fn main(rt: HostRuntime) {
-    let mut buf = [0u8; text::sheet::ROOM];
     let only = only_table(&rt);
-    let t = read_all(&rt, only, &mut buf);
-    if !t.failed {
-        let p = t.pair;
-        let f = t.frame;
-        end(p, f, only);
+    let mut tables = Tables {
+        pair: couple::start(),
+        frame: frames::start(),
+        only,
+        buf: [0; text::sheet::ROOM],
+        out: io::large_buffer(),
+    };
+    if read_all(&rt, &mut tables, &mut io::large_buffer()).is_ok() {
+        end(tables.pair, tables.frame, only);
     }
 }

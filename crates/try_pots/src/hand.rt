@@ -41,10 +41,8 @@ fn column(nums: &[u32], from: usize, seats: usize) -> [u32; 10]
     ensures { result ≡ column_of nums.now from seats }
 {
     let mut a = [0u32; 10];
-    let mut i: usize = 0;
-    while i < 10 {
+    for i in 0..10 {
         a[i] = number_for(nums, from, seats, i);
-        i += 1;
     }
     a
 }
@@ -96,9 +94,7 @@ fn sum(xs: [u32; 10]) -> u64
     ensures { result ≡ sum_of xs }
 {
     let mut s: u64 = 0;
-    let mut i: usize = 10;
-    while 0 < i {
-        i -= 1;
+    for i in (0..10).rev() {
         s = wide(xs[i]) + s;
     }
     s

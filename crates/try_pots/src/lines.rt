@@ -24,10 +24,8 @@ fn put(out: &mut [u8], at: usize, bytes: &[u8]) -> usize
     ensures { result ≤ length out.old }
 {
     let mut k = at;
-    let mut i: usize = 0;
-    while i < bytes.len() {
-        k = put_byte(out, k, bytes[i]);
-        i += 1;
+    for b in bytes {
+        k = put_byte(out, k, *b);
     }
     k
 }
@@ -48,10 +46,8 @@ fn put_seats(out: &mut [u8], at: usize, xs: [u32; 10], seats: usize) -> usize
     ensures { result ≤ length out.old }
 {
     let mut k = at;
-    let mut i: usize = 0;
-    while i < seats {
-        k = put_number(out, k, xs[i]);
-        i += 1;
+    for x in &xs[..seats] {
+        k = put_number(out, k, *x);
     }
     k
 }
@@ -60,14 +56,9 @@ fn put_pots(out: &mut [u8], at: usize, p: Pots) -> usize
     requires { (at ≤ length out.old) × (p.n ≤ 9) }
     ensures { result ≤ length out.old }
 {
-    let list = p.list;
-    let n = p.n;
     let mut k = at;
-    let mut i: usize = 0;
-    while i < n {
-        let q = list[i];
+    for q in &p.list[..p.n] {
         k = put_number(out, k, q.amount);
-        i += 1;
     }
     k
 }

@@ -6,102 +6,81 @@ mod hand;
 mod line;
 mod lines;
 
-ghost use Rattle.std.specs.Prelude.{◌≤◌, length};
+ghost use Rattle.std.specs.Prelude.{◌≡◌, ◌≤◌, ⊤, length};
 
 use crate::line::Scan;
-use output::{STDOUT_FILENO, flush, read_part};
+use output::{Failed, Listener, STDOUT_FILENO, flush, read_all};
+use std::ops::ControlFlow;
 
 // The room for an answer line, and how much may stand in the large buffer before it is written out, so that a line has room behind it.
 const LINE: usize = 600;
 
 const ENOUGH: usize = 64000;
 
-#[derive(Clone, Copy)]
-struct ServedTo {
+// The line so far, its numbers, and the answers still to be written.
+#[derive(Drop)]
+struct Desk {
     scan: Scan,
+    nums: [u32; 47],
+    out: [u8; 65536],
     at: usize,
 }
 
-// One byte: of a line, or the LF at which the line is answered.
-fn serve_byte(nums: &mut [u32], s: Scan, b: u8, out: &mut [u8], at: usize) -> ServedTo
-    requires { at ≤ length out.old }
-    ensures { result.at ≤ length out.old }
-{
-    if b != 10 {
-        return ServedTo {
-            scan: line::with_byte(nums, s, b),
-            at,
-        };
-    }
-    let end = line::with_number(nums, s);
-    let w = flush(STDOUT_FILENO, &out[0..at], ENOUGH);
-    ServedTo {
-        scan: line::fresh(),
-        at: lines::answer(nums, end, out, w.at),
-    }
-}
-
-// Answers every line that ends in this part of the input.
-fn serve(s: Scan, nums: &mut [u32], part: &[u8]) -> Scan {
-    let mut out = io::large_buffer();
-    let mut scan = s;
-    let mut at: usize = 0;
-    let mut i: usize = 0;
-    while i < part.len() {
-        let next = serve_byte(nums, scan, part[i], &mut out, at);
-        scan = next.scan;
-        at = next.at;
-        i += 1;
-    }
-    io::write_all(STDOUT_FILENO, &out[0..at]);
-    scan
-}
-
-#[derive(Clone, Copy)]
-struct Lap {
-    scan: Scan,
-    more: bool,
-}
-
-// One read, and the answers to it.
-fn read_some(rt: &HostRuntime, s: Scan, nums: &mut [u32]) -> Lap {
-    let mut input = io::large_buffer();
-    let got = read_part(rt, &mut input);
-    if got.count == 0 {
-        return Lap {
-            scan: s,
-            more: false,
-        };
-    }
-    let n = got.count;
-    Lap {
-        scan: serve(s, nums, &input[..n]),
-        more: true,
-    }
-}
-
-// Reads to the end of the input. A proved loop has to end, so it counts its turns down from a number that no run uses up.
-fn read_all(rt: &HostRuntime, nums: &mut [u32]) -> Scan {
-    let mut scan = line::fresh();
-    let mut turns = u64::MAX;
-    while turns > 0 {
-        let t = read_some(rt, scan, nums);
-        scan = t.scan;
-        if !t.more {
-            return scan;
+impl Desk {
+    // One byte: of a line, or the LF at which the line is answered. That what is written out fails is not told.
+    fn serve_byte(&mut self, b: u8)
+        requires { (length self.old.out ≡ 65536) × (self.old.at ≤ 65536) }
+        ensures { (length self.new.out ≡ 65536) × (self.new.at ≤ 65536) }
+    {
+        if b != 10 {
+            self.scan = line::with_byte(&mut self.nums, self.scan, b);
+            return;
         }
-        turns -= 1;
+        let end = line::with_number(&mut self.nums, self.scan);
+        let from = flush(STDOUT_FILENO, &self.out[..self.at], ENOUGH).unwrap_or(0);
+        self.at = lines::answer(&self.nums, end, &mut self.out, from);
+        self.scan = line::fresh();
     }
-    scan
 }
 
+impl Listener for Desk {
+    ghost Held = { λ d. (length d.out ≡ 65536) × (d.at ≤ 65536) };
+
+    ghost Heard = { λ _ _ _ _. ⊤ };
+
+    ghost none = { λ _ _. tt };
+
+    ghost on = { λ _ _ _ _ _ _ _ _. tt };
+
+    // Answers every line that ends in this part of the input.
+    fn hear(&mut self, part: &[u8]) -> Result<usize, Failed> {
+        for b in part {
+            self.serve_byte(*b);
+        }
+        Ok(part.len())
+    }
+
+    fn pause(&mut self) -> Result<ControlFlow<()>, Failed> {
+        io::write_all(STDOUT_FILENO, &self.out[..self.at]);
+        self.at = 0;
+        Ok(ControlFlow::Continue(()))
+    }
+}
+
+// The last line may lack its LF. A read that fails is taken for the end of the input.
 fn main(rt: HostRuntime) {
-    let mut nums = [0u32; 47];
-    let scan = read_all(&rt, &mut nums);
+    let mut d = Desk {
+        scan: line::fresh(),
+        nums: [0; 47],
+        out: io::large_buffer(),
+        at: 0,
+    };
+    let _ = read_all(&rt, &mut d, &mut io::large_buffer());
+    let scan = d.scan;
     if line::begun(scan) {
         let mut out = [0u8; LINE];
-        let end = line::with_number(&mut nums, scan);
-        let n = lines::answer(&nums, end, &mut out, 0);
-        io::write_all(STDOUT_FILENO, &out[0..n]);
+        let end = line::with_number(&mut d.nums, scan);
+        let n = lines::answer(&d.nums, end, &mut out, 0);
+        io::write_all(STDOUT_FILENO, &out[..n]);
     }
 }

@@ -3,6 +3,7 @@
 // Reads a log of at most 65,536 bytes on standard input, and says how many blocks it has, how many rooms were tried and how many went wrong.
 #![tactic(auto)]
 
+ghost use Rattle.std.specs.Prelude.{◌≤◌, length};
 ghost use Rattle.table.specs.Take.{Sound};
 
 use answers::LONGEST;
@@ -25,15 +26,10 @@ struct Tally {
 }
 
 // Whether the bytes of a sheet from a place on are blank.
-fn blank_from(sheet: &[u8; LONGEST], from: usize) -> bool {
-    let mut i = from;
-    while i < LONGEST {
-        if sheet[i] != BLANK {
-            return false;
-        }
-        i += 1;
-    }
-    true
+fn blank_from(sheet: &[u8; LONGEST], from: usize) -> bool
+    requires { from ≤ length sheet.now }
+{
+    sheet[from..].iter().all(|b| *b == BLANK)
 }
 
 // Whether the answer to the first block, with a room of `room` bytes, is 12 with every byte kept and nothing taken.
@@ -69,12 +65,10 @@ fn short_rooms(t: Table, log: &[u8], need: usize) -> u64
     requires { Sound t }
 {
     let mut wrong: u64 = 0;
-    let mut room: usize = 0;
-    while room < need {
+    for room in 0..need {
         if !kept(t, log, room) {
             wrong = more(wrong, 1);
         }
-        room += 1;
     }
     wrong
 }
@@ -88,10 +82,6 @@ fn more(x: u64, by: u64) -> u64 {
         return x;
     }
     x + by
-}
-
-fn no(b: bool) -> u64 {
-    if b { 0 } else { 1 }
 }
 
 #[derive(Clone, Copy)]
@@ -109,18 +99,15 @@ fn try_block(t: Table, log: &[u8], k: Tally) -> Tried
     let mut sheet = [BLANK; LONGEST];
     let a = answer(t, log, &mut sheet);
     let u = a.table;
-    let said = no(a.written == need);
+    let said = u64::from(a.written != need);
     let wrong = short_rooms(t, log, need);
-    let exact = no(fits(t, log, need));
+    let exact = u64::from(!fits(t, log, need));
     let tally = Tally {
         blocks: more(k.blocks, 1),
         rooms: more(k.rooms, need as u64),
         wrong: more(more(k.wrong, wrong), more(said, exact)),
     };
-    Tried {
-        table: u,
-        tally: tally,
-    }
+    Tried { table: u, tally }
 }
 
 fn try_log(t: Table, log: &[u8]) -> Tally

@@ -2,14 +2,15 @@
 // drawn again in its place, its lamp amber and a refusal red; with --plain before it, without colours.
 #![tactic(auto)]
 
-ghost use Rattle.std.specs.Prelude.{◌≤◌, ◌<◌, length};
+ghost use Rattle.std.specs.Prelude.{◌≡◌, ◌≤◌, ⊤, length};
 ghost use Rattle.lines.specs.Kept.{kept_most};
 ghost use Rattle.seen.specs.Seen.{Held};
 
 use argument::is_argument;
 use drawn::{MOST, draw};
-use output::{STDOUT_FILENO, ahead, read_part};
+use output::{Failed, Listener, STDOUT_FILENO, read_all, write_out};
 use seen::feed::{Seen, close, ends_open, feed, start};
+use std::ops::ControlFlow;
 use text::sheet::ROOM;
 
 // How the pictures are drawn.
@@ -19,126 +20,63 @@ struct Form {
     colour: bool,
 }
 
-// What is seen after some input, whether reading or writing failed, and whether to go on.
-#[derive(Clone, Copy)]
-struct Lap {
+// How it is drawn, what is seen, the unfinished block and a sheet for the picture.
+#[derive(Drop)]
+struct View {
+    form: Form,
     seen: Seen,
-    failed: bool,
-    more: bool,
+    buf: [u8; ROOM],
+    out: [u8; MOST],
 }
 
-// What is seen after some bytes of a part, how far they go, and whether it is worth a picture.
-#[derive(Clone, Copy)]
-struct Heard {
-    seen: Seen,
-    from: usize,
-    fresh: bool,
-}
-
-// What is left of a part up to the end of a block.
-fn hear(s: Seen, buf: &mut [u8], part: &[u8], from: usize) -> Heard
-    requires { Held s × (kept_most ≤ length buf.old) × (from < length part.now) }
-    ensures { Held result.seen × (from < result.from) × (result.from ≤ length part.now) }
-{
-    let f = feed(s, buf, &part[from..]);
-    let next = ahead(from, f.used, part);
-    let after = f.seen;
-    Heard {
-        seen: after,
-        from: next,
-        fresh: f.fresh,
+impl View {
+    // The picture, written out.
+    fn show(&mut self, ended: bool) -> Result<(), Failed>
+        requires { Held self.old.seen × (2300 ≤ length self.old.out) }
+        ensures { (self.new ≡ record self.old { out = self.new.out }) × (length self.new.out ≡ length self.old.out) }
+    {
+        let n = draw(
+            &mut self.out,
+            self.seen,
+            ended,
+            self.form.standing,
+            self.form.colour,
+        );
+        write_out(STDOUT_FILENO, &self.out[..n])
     }
-}
 
-// The picture of something new, written out; whether that went well.
-fn tell(form: Form, s: Seen, fresh: bool, out: &mut [u8]) -> bool
-    requires { Held s × (2300 ≤ length out.old) }
-{
-    if fresh {
-        let n = draw(out, s, false, form.standing, form.colour);
-        return io::write_all(STDOUT_FILENO, &out[0..n]);
-    }
-    true
-}
-
-// A part of the input: a picture for each block that ends in it.
-fn show(form: Form, s: Seen, buf: &mut [u8], part: &[u8]) -> Lap
-    requires { Held s × (kept_most ≤ length buf.old) }
-    ensures { Held result.seen }
-{
-    let mut out = [0u8; MOST];
-    let mut seen = s;
-    let mut from: usize = 0;
-    while from < part.len() {
-        let d = hear(seen, buf, part, from);
-        let next = d.seen;
-        seen = next;
-        if !tell(form, next, d.fresh, &mut out) {
-            return Lap {
-                seen,
-                failed: true,
-                more: false,
-            };
+    // The input has ended: where that is inside a hand, a block or the sheet, the picture says so.
+    fn end(&mut self)
+        requires { Held self.old.seen × (kept_most ≤ length self.old.buf) × (2300 ≤ length self.old.out) }
+    {
+        if ends_open(self.seen) {
+            self.seen = close(self.seen, &self.buf);
+            let _ = self.show(true);
         }
-        from = d.from;
-    }
-    Lap {
-        seen,
-        failed: false,
-        more: true,
     }
 }
 
-// One read, and its pictures. A read that fails is no end of the input: then nothing more is drawn.
-fn read_some(rt: &HostRuntime, form: Form, s: Seen, buf: &mut [u8]) -> Lap
-    requires { Held s × (kept_most ≤ length buf.old) }
-    ensures { Held result.seen }
-{
-    let mut input = io::large_buffer();
-    let got = read_part(rt, &mut input);
-    if got.count == 0 {
-        return Lap {
-            seen: s,
-            failed: got.failed,
-            more: false,
-        };
-    }
-    let n = got.count;
-    show(form, s, buf, &input[..n])
-}
+impl Listener for View {
+    ghost Held = { λ v. Held v.seen × (kept_most ≤ length v.buf) × (2300 ≤ length v.out) };
 
-// Reads to the end of the input. A proved loop has to end, so it counts its turns down from a number that no run uses up.
-fn read_all(rt: &HostRuntime, form: Form, buf: &mut [u8]) -> Lap
-    requires { kept_most ≤ length buf.old }
-    ensures { Held result.seen }
-{
-    let mut seen = start();
-    let mut turns = u64::MAX;
-    while turns > 0 {
-        let t = read_some(rt, form, seen, buf);
-        let next = t.seen;
-        seen = next;
-        if !t.more {
-            return t;
+    ghost Heard = { λ _ _ _ _. ⊤ };
+
+    ghost none = { λ _ _. tt };
+
+    ghost on = { λ _ _ _ _ _ _ _ _. tt };
+
+    // Bytes of a part up to the end of a block: a picture of what is new.
+    fn hear(&mut self, part: &[u8]) -> Result<usize, Failed> {
+        let f = feed(self.seen, &mut self.buf, part);
+        self.seen = f.seen;
+        if f.fresh {
+            self.show(false)?;
         }
-        turns -= 1;
+        Ok(f.used)
     }
-    Lap {
-        seen,
-        failed: false,
-        more: false,
-    }
-}
 
-// The input has ended: where that is inside a hand, a block or the sheet, the picture says so.
-fn end(form: Form, s: Seen, buf: &[u8])
-    requires { Held s × (kept_most ≤ length buf.now) }
-{
-    if ends_open(s) {
-        let mut sheet = [0u8; MOST];
-        let last = close(s, buf);
-        let n = draw(&mut sheet, last, true, form.standing, form.colour);
-        io::write_all(STDOUT_FILENO, &sheet[0..n]);
+    fn pause(&mut self) -> Result<ControlFlow<()>, Failed> {
+        Ok(ControlFlow::Continue(()))
     }
 }
 
@@ -152,10 +90,13 @@ fn main(rt: HostRuntime) {
         standing: has_word(&rt, b"--standing"),
         colour: !has_word(&rt, b"--plain"),
     };
-    let mut buf = [0u8; ROOM];
-    let t = read_all(&rt, form, &mut buf);
-    if !t.failed {
-        let s = t.seen;
-        end(form, s, &buf);
+    let mut view = View {
+        form,
+        seen: start(),
+        buf: [0; ROOM],
+        out: [0; MOST],
+    };
+    if read_all(&rt, &mut view, &mut io::large_buffer()).is_ok() {
+        view.end();
     }
 }

@@ -9,10 +9,10 @@ use Rattle.try_pots.proofs.hand.column.Goals as goal
 
 pub loop-i-init : goal.loop-i-init
 unfolding column_of
-loop-i-init c = (omega arith, refl, refl)
+loop-i-init c = (refl, refl)
 
 pub loop-i-preserved : goal.loop-i-preserved
-loop-i-preserved c = (omega arith, simp length-set c.loop-i.invariant.1, listed_turn _ 10 c.loop-i.i _ c.loop-i.a _ (omega arith) (omega arith) c.number_for.ensures c.loop-i.invariant.2)
+loop-i-preserved c = (simp length-set c.loop-i.invariant.0, listed_turn _ 10 c.loop-i.i _ c.loop-i.a _ (omega arith) (omega arith) c.number_for.ensures c.loop-i.invariant.1)
 
 pub returns : goal.returns
-returns c = listed_done _ 10 c.loop-i.i c.loop-i.a _ (omega arith) (omega arith) c.loop-i.invariant.2
+returns c = listed_done _ 10 c.loop-i.i c.loop-i.a _ (omega arith) (omega arith) c.loop-i.invariant.1

@@ -9,7 +9,7 @@ use Rattle.try_pots.proofs.hand.sum.Goals as goal
 
 pub loop-i-init : goal.loop-i-init
 unfolding sum_of
-loop-i-init c = (search rules, sym (last_start sum_of c.args.xs 10 (search rules)), omega arith)
+loop-i-init c = (sym (last_start sum_of c.args.xs 10 (search rules)), omega arith)
 
 pub loop-i-preserved : goal.loop-i-preserved
 unfolding sum_of
@@ -17,7 +17,7 @@ loop-i-preserved c =
     let xs = c.args.xs in
     let i = c.loop-i.i in
     let t = last_turn sum_of xs i (search rules) (search rules) in
-    (search rules, omega (arith, t, c.loop-i.invariant.1, c.wide-s.ensures.0), omega (arith, c.loop-i.invariant.2, c.wide-s.ensures.1))
+    (omega (arith, t, c.loop-i.invariant.0, c.wide-s.ensures.0), omega (arith, c.loop-i.invariant.1, c.wide-s.ensures.1))
 
 pub returns : goal.returns
-returns c = c.loop-i.invariant.1 ∙ last_done sum_of c.args.xs c.loop-i.i (search rules)
+returns c = c.loop-i.invariant.0 ∙ last_done sum_of c.args.xs c.loop-i.i (search rules)

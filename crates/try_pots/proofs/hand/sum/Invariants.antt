@@ -7,7 +7,4 @@ use Rattle.laws.specs.Lists.{sum_of}
 use Rattle.try_pots.proofs.hand.sum.Given as goal
 
 abbrev pub invariant-loop-i : goal.invariant-loop-i
-invariant-loop-i l = (l.i ≤ 10) × (l.s ≡ sum_of (drop l.i l.xs)) × (l.s + 4294967295 * l.i ≤ 42949672950)
-
-abbrev pub decreases-loop-i : goal.decreases-loop-i
-decreases-loop-i l = l.i
+invariant-loop-i l = (l.s ≡ sum_of (drop l.i l.xs)) × (l.s + 4294967295 * l.i ≤ 42949672950)

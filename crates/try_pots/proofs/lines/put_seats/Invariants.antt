@@ -1,12 +1,6 @@
--- `put_seats` meets its contract. The invariant: what is written lies within its room.
--- Assumes nothing.
-use Prim.Native.Nat.{◌≤◌, ◌-◌}
-use mathlib.Core.Path.{◌≡◌}
-use lib.ListN.{length}
+-- `put_seats` meets its contract: what is written lies within its room. Assumes nothing.
+use Rattle.std.proofs.Common.{length, ◌≤◌}
 use Rattle.try_pots.proofs.lines.put_seats.Given as goal
 
-abbrev pub invariant-loop-i : goal.invariant-loop-i
-invariant-loop-i l = (length l.out ≡ length l.initial.out) × (l.k ≤ length l.initial.out) × (l.i ≤ 10)
-
-abbrev pub decreases-loop-i : goal.decreases-loop-i
-decreases-loop-i l = l.seats - l.i
+abbrev pub invariant-loop-x : goal.invariant-loop-x
+invariant-loop-x l = l.k ≤ length l.initial.out

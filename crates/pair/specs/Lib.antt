@@ -1,0 +1,2 @@
+-- What the two tables hear of a part.
+pub mod Hearing
