@@ -20,6 +20,22 @@ pub enum Fate {
     Times(u32),
 }
 
+impl Fate {
+    // What comes back of a wager, stake and win together.
+    pub fn back_of(self, stake: u32) -> u32
+        requires { Fair self × (stake ≤ 200000) }
+        ensures is { result ≡ back_of self stake }
+        ensures small { result ≤ 1001 * stake }
+    {
+        match self {
+            Fate::Lost => 0,
+            Fate::Returned => stake,
+            Fate::Odds(n) => stake + n * stake,
+            Fate::Times(n) => n * stake,
+        }
+    }
+}
+
 // An ante whose hand is the higher wins with a flush or higher; else nothing is said to win or lose it.
 fn won_or_returned(b: bool) -> Fate
     ensures { (result ≡ pick b (Odds 1) Returned) × Fair result }
@@ -81,18 +97,4 @@ pub fn extra_fate(folded: bool, flop: Hand) -> Fate
         return Fate::Lost;
     }
     Fate::Odds(n)
-}
-
-// What comes back of a wager, stake and win together.
-pub fn back_of(f: Fate, stake: u32) -> u32
-    requires { Fair f × (stake ≤ 200000) }
-    ensures is { result ≡ back_of f stake }
-    ensures small { result ≤ 1001 * stake }
-{
-    match f {
-        Fate::Lost => 0,
-        Fate::Returned => stake,
-        Fate::Odds(n) => stake + n * stake,
-        Fate::Times(n) => n * stake,
-    }
 }

@@ -6,41 +6,42 @@ use crate::Deal;
 use cards::{Hand, any_above, any_twice, beats, best_hand, five_worth};
 use std::cmp::Ordering;
 
-// The best five of two hole cards and the communal cards.
-pub fn hand_of(x: u8, y: u8, d: Deal) -> Hand
-    ensures { result ≡ hand_of x y d }
-{
-    let seven = [x, y, d.b1, d.b2, d.b3, d.b4, d.b5];
-    best_hand(52, &seven)
-}
+impl Deal {
+    // The best five of two hole cards and the communal cards.
+    pub fn hand_of(self, x: u8, y: u8) -> Hand
+        ensures { result ≡ hand_of x y self }
+    {
+        best_hand(52, &[x, y, self.b1, self.b2, self.b3, self.b4, self.b5])
+    }
 
-// Two hole cards and the flop cards.
-pub fn flop_hand_of(x: u8, y: u8, d: Deal) -> Hand
-    ensures { result ≡ flop_hand_of x y d }
-{
-    five_worth([x, y, d.b1, d.b2, d.b3])
-}
+    // Two hole cards and the flop cards.
+    pub fn flop_hand_of(self, x: u8, y: u8) -> Hand
+        ensures { result ≡ flop_hand_of x y self }
+    {
+        five_worth([x, y, self.b1, self.b2, self.b3])
+    }
 
-fn all_cards(d: Deal) -> [u8; 9]
-    ensures { result ≡ all_cards d }
-{
-    [d.p1, d.p2, d.d1, d.d2, d.b1, d.b2, d.b3, d.b4, d.b5]
-}
+    fn all_cards(self) -> [u8; 9]
+        ensures { result ≡ all_cards self }
+    {
+        [
+            self.p1, self.p2, self.d1, self.d2, self.b1, self.b2, self.b3, self.b4, self.b5,
+        ]
+    }
 
-// Whether a card is above 51.
-pub fn high_card(d: Deal) -> bool
-    ensures { result ≡ high_card d }
-{
-    let cards = all_cards(d);
-    any_above(&cards)
-}
+    // Whether a card is above 51.
+    pub fn high_card(self) -> bool
+        ensures { result ≡ high_card self }
+    {
+        any_above(&self.all_cards())
+    }
 
-// Whether a card comes twice.
-pub fn card_twice(d: Deal) -> bool
-    ensures { result ≡ card_twice d }
-{
-    let cards = all_cards(d);
-    any_twice(&cards)
+    // Whether a card comes twice.
+    pub fn card_twice(self) -> bool
+        ensures { result ≡ card_twice self }
+    {
+        any_twice(&self.all_cards())
+    }
 }
 
 // How the player's hand stands to the dealer's.

@@ -2,8 +2,8 @@
 ghost use Rattle.std.specs.Prelude.{◌≡◌, true, ◌≤◌};
 ghost use Rattle.banked.specs.Rounds.{is_fold, stakes_of, backs_of, total_of, settled_of, wrong_number, round_code, outcome_of, code_of_outcome, Most, SmallSettled, SmallOutcome, Bounded};
 
-use crate::fates::{ante_fate, back_of, extra_fate, jackpot_fate, play_fate};
-use crate::hands::{card_twice, flop_hand_of, hand_of, high_card, standing_of};
+use crate::fates::{ante_fate, extra_fate, jackpot_fate, play_fate};
+use crate::hands::standing_of;
 use crate::{Choice, Deal, Round};
 use laws::{chosen, either, short_of};
 use paper::Refusal;
@@ -20,6 +20,16 @@ pub struct Seven {
     pub dealer: u32,
 }
 
+impl Seven {
+    fn total(self) -> u32
+        requires { Most 100100000 self }
+        ensures { (result ≡ total_of self) × (result ≤ 800800000) }
+    {
+        let side = self.jackpot + (self.extra + self.dealer);
+        self.ante + (self.flop + (self.turn + (self.river + side)))
+    }
+}
+
 // What comes back to the player of each wager, stake and win together; what he staked and what comes back in all; and his gain, won or lost.
 #[derive(Clone, Copy)]
 pub struct Settled {
@@ -30,10 +40,12 @@ pub struct Settled {
     pub lost: u32,
 }
 
-fn is_fold(c: Choice) -> bool
-    ensures { result ≡ is_fold c }
-{
-    matches!(c, Choice::Fold)
+impl Choice {
+    fn is_fold(self) -> bool
+        ensures { result ≡ is_fold self }
+    {
+        matches!(self, Choice::Fold)
+    }
 }
 
 // How much each wager is: the flop wager is twice the ante.
@@ -41,9 +53,8 @@ fn stakes_of(r: Round) -> Seven
     requires { Bounded r }
     ensures { (result ≡ stakes_of r) × Most 100000 result }
 {
-    let c = r.choice;
     let ante = r.ante;
-    match c {
+    match r.choice {
         Choice::Fold => Seven {
             ante,
             flop: 0,
@@ -70,19 +81,19 @@ fn backs_of(s: Seven, folded: bool, d: Deal) -> Seven
     requires { Most 100000 s }
     ensures { (result ≡ backs_of s folded d) × Most 100100000 result }
 {
-    let player = hand_of(d.p1, d.p2, d);
-    let standing = standing_of(player, hand_of(d.d1, d.d2, d));
+    let player = d.hand_of(d.p1, d.p2);
+    let standing = standing_of(player, d.hand_of(d.d1, d.d2));
     let play = play_fate(standing);
-    let flop_hand = flop_hand_of(d.p1, d.p2, d);
-    let dealers = flop_hand_of(d.d1, d.d2, d);
+    let flop_hand = d.flop_hand_of(d.p1, d.p2);
+    let dealers = d.flop_hand_of(d.d1, d.d2);
     Seven {
-        ante: back_of(ante_fate(folded, standing, player), s.ante),
-        flop: back_of(play, s.flop),
-        turn: back_of(play, s.turn),
-        river: back_of(play, s.river),
-        jackpot: back_of(jackpot_fate(folded, flop_hand), s.jackpot),
-        extra: back_of(extra_fate(folded, flop_hand), s.extra),
-        dealer: back_of(extra_fate(false, dealers), s.dealer),
+        ante: ante_fate(folded, standing, player).back_of(s.ante),
+        flop: play.back_of(s.flop),
+        turn: play.back_of(s.turn),
+        river: play.back_of(s.river),
+        jackpot: jackpot_fate(folded, flop_hand).back_of(s.jackpot),
+        extra: extra_fate(folded, flop_hand).back_of(s.extra),
+        dealer: extra_fate(false, dealers).back_of(s.dealer),
     }
 }
 
@@ -92,7 +103,7 @@ fn folded_backs(s: Seven, d: Deal) -> Seven
     requires { Most 100000 s × (s.flop ≡ 0) × (s.turn ≡ 0) × (s.river ≡ 0) }
     ensures { (result ≡ backs_of s true d) × Most 100100000 result }
 {
-    let flop = flop_hand_of(d.d1, d.d2, d);
+    let flop = d.flop_hand_of(d.d1, d.d2);
     Seven {
         ante: 0,
         flop: 0,
@@ -100,7 +111,7 @@ fn folded_backs(s: Seven, d: Deal) -> Seven
         river: 0,
         jackpot: 0,
         extra: 0,
-        dealer: back_of(extra_fate(false, flop), s.dealer),
+        dealer: extra_fate(false, flop).back_of(s.dealer),
     }
 }
 
@@ -109,29 +120,19 @@ fn round_backs(r: Round, s: Seven) -> Seven
     requires { (s ≡ stakes_of r) × Most 100000 s }
     ensures { (result ≡ backs_of (stakes_of r) (is_fold r.choice) r.deal) × Most 100100000 result }
 {
-    let d = r.deal;
-    let c = r.choice;
-    if is_fold(c) {
-        return folded_backs(s, d);
+    if r.choice.is_fold() {
+        return folded_backs(s, r.deal);
     }
-    backs_of(s, false, d)
-}
-
-fn total(s: Seven) -> u32
-    requires { Most 100100000 s }
-    ensures { (result ≡ total_of s) × (result ≤ 800800000) }
-{
-    s.ante + (s.flop + (s.turn + (s.river + (s.jackpot + (s.extra + s.dealer)))))
+    backs_of(s, false, r.deal)
 }
 
 // No ante, a wager above 100,000, or a card above 51.
 fn wrong_number(r: Round) -> bool
     ensures { result ≡ wrong_number r }
 {
-    let d = r.deal;
     let side = either(
         100000 < r.jackpot,
-        either(100000 < r.extra, either(100000 < r.dealer, high_card(d))),
+        either(100000 < r.extra, either(100000 < r.dealer, r.deal.high_card())),
     );
     either(r.ante == 0, either(100000 < r.ante, side))
 }
@@ -143,8 +144,8 @@ fn settled_of(r: Round) -> Settled
 {
     let stakes = stakes_of(r);
     let backs = round_backs(r, stakes);
-    let staked = total(stakes);
-    let back = total(backs);
+    let staked = stakes.total();
+    let back = backs.total();
     Settled {
         backs,
         staked,
@@ -162,8 +163,7 @@ pub fn settle(r: Round) -> Result<Settled, Refusal>
     if wrong_number(r) {
         return Err(Refusal::OutOfRange);
     }
-    let d = r.deal;
-    if card_twice(d) {
+    if r.deal.card_twice() {
         return Err(Refusal::CardTwice);
     }
     Ok(settled_of(r))

@@ -5,7 +5,7 @@ use mathlib.Core.Bool.{Bool, true, false, true≢false}
 use mathlib.Core.Logic.{⊎_elim}
 use mathlib.Core.List.Memᴰ
 use mathlib.Core.List.{Memᴰ}
-use Prim.Native.Nat.{ℕ, zero, suc, ◌<◌}
+use Prim.Native.Nat.{ℕ, suc, ◌≤◌}
 use native.Mathlib.Omega.{arith}
 use native.Mathlib.Decide.{dec_lt}
 use lib.ListN.{get_or}
@@ -71,21 +71,5 @@ pub place_is : (k : ℕ) (h : Hand) (r : ℕ) → h.class ≡ k → r ≡ reckon
 place_is k h r e q = q ∙ ap (λ (j : ℕ). reckoned_as j h) (sym e) ∙ reckons h
 
 -- a class that is none of the nine
-abbrev Not : ℕ → ℕ → Type 0
-Not k j = k ≡ j → ⊥
-
-pub no_place : (h : Hand) → Not h.class 0 → Not h.class 1 → Not h.class 2 → Not h.class 3 → Not h.class 4 → Not h.class 5 → Not h.class 6
-    → Not h.class 7 → Not h.class 8 → 0 ≡ place_of h
-no_place h a b c d e f g i j = sym (no_class h.class h past) ∙ reckons h
-  where
-    past : (k : ℕ) → k < 9 → Not h.class k
-    past zero l = a
-    past (suc zero) l = b
-    past (suc (suc zero)) l = c
-    past (suc (suc (suc zero))) l = d
-    past (suc (suc (suc (suc zero)))) l = e
-    past (suc (suc (suc (suc (suc zero))))) l = f
-    past (suc (suc (suc (suc (suc (suc zero)))))) l = g
-    past (suc (suc (suc (suc (suc (suc (suc zero))))))) l = i
-    past (suc (suc (suc (suc (suc (suc (suc (suc zero)))))))) l = j
-    past (suc (suc (suc (suc (suc (suc (suc (suc (suc k))))))))) l = absurd (omega arith)
+pub no_place : (h : Hand) → 9 ≤ h.class → 0 ≡ place_of h
+no_place h most = sym (no_class h.class h (λ k l e. omega arith)) ∙ reckons h

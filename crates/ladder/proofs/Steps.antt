@@ -1,7 +1,8 @@
 -- The table of choices holds binomials, none above 792, and the code's quotients of products are its numbers. Assumes nothing.
-use mathlib.Core.Path.{◌≡◌, refl, ap₂, ◌∙◌}
-use mathlib.Core.Bool.{true}
+use mathlib.Core.Path.{◌≡◌, refl, sym, ap₂, ◌∙◌}
+use mathlib.Core.Bool.{Bool, true}
 use Prim.Native.Nat.{ℕ, ◌+◌, ◌-◌, ◌*◌, ◌/◌, ◌%◌, ◌<◌, ◌≤◌}
+use native.Mathlib.Nat.{mul-le-mul}
 use native.Mathlib.Omega.{arith}
 use lib.Dec.{eqb, leb}
 use lib.ListN.{get_or}
@@ -38,46 +39,27 @@ choose_binomial n k h g =
     (eqb-true (get_or pascal i 0) (binomial (i % 13) (i / 13)) (below_all 78 (λ j. eqb (get_or pascal j 0) (binomial (j % 13) (j / 13))) all_binomials i (omega arith))
     ∙ ap₂ binomial m d)
 
--- ---- the code's products and quotients, computed for each n below 13
-module _ (f : ℕ → ℕ) where
-  -- f is at most b
-  pub most_in : (b : ℕ) → all_below 13 (λ n. leb (f n) b) ≡ true → (n : ℕ) → n < 13 → f n ≤ b
-  most_in b t n h = leb-true (f n) b (below_all 13 (λ m. leb (f m) b) t n h)
+-- ---- the code's products and quotients, computed for each n below 13: one more of the n - k that are left, among k + 1
+step_right : ℕ → ℕ → Bool
+step_right n k = eqb (chosen_of n k * (n - k) / (k + 1)) (chosen_of n (k + 1))
 
-  -- f is how many choices of k there are
-  pub is_in : (k : ℕ) → k ≤ 5 → all_below 13 (λ n. eqb (f n) (get_or pascal (13 * k + n) 0)) ≡ true → (n : ℕ) → n < 13 → (f n ≡ chosen_of n k) × (f n ≤ 792)
-  is_in k g t n h =
-      let e = eqb-true (f n) (get_or pascal (13 * k + n) 0) (below_all 13 (λ m. eqb (f m) (get_or pascal (13 * k + m) 0)) t n h) in
-      (e ∙ (choose_in n k h g).0, omega (arith, e, (choose_in n k h g).1))
+steps_right : all_below 13 (λ n. all_below 5 (step_right n)) ≡ true
+unfolding step_right chosen_of
+steps_right = refl
 
-module _ (n : ℕ) (h : n < 13) where
-  pub one_in : (n ≡ chosen_of n 1) × (n ≤ 792)
-  one_in = is_in (λ m. m) 1 (omega arith) refl n h
+pub choose_step : (n k : ℕ) → n < 13 → k < 5 → chosen_of n k * (n - k) / (k + 1) ≡ chosen_of n (k + 1)
+unfolding step_right
+choose_step n k h g =
+    eqb-true (chosen_of n k * (n - k) / (k + 1)) (chosen_of n (k + 1))
+    (below_all 5 (step_right n) (below_all 13 (λ m. all_below 5 (step_right m)) steps_right n h) k g)
 
-  module _ {a : ℕ} (ea : a ≡ n - 1) where
-    pub one-fits : n * a ≤ 95040
-    one-fits = rw ea (most_in (λ m. m * (m - 1)) 95040 refl n h)
+pub choose_none : (n : ℕ) → n < 13 → 1 ≡ chosen_of n 0
+unfolding chosen_of
+choose_none n h = sym (eqb-true (chosen_of n 0) 1 (below_all 13 (λ m. eqb (chosen_of m 0) 1) refl n h))
 
-    pub two_in : (n * a / 2 ≡ chosen_of n 2) × (n * a / 2 ≤ 792)
-    two_in = rw ea (is_in (λ m. m * (m - 1) / 2) 2 (omega arith) refl n h)
+pub choose_small : (n k : ℕ) → n < 13 → k ≤ 5 → chosen_of n k ≤ 792
+choose_small n k h g = omega (arith, (choose_in n k h g).0, (choose_in n k h g).1)
 
-    module _ {b : ℕ} (eb : b ≡ n - 2) where
-      pub two_fits : n * a * b ≤ 95040
-      two_fits = rw (ea, eb) (most_in (λ m. m * (m - 1) * (m - 2)) 95040 refl n h)
-
-      pub three-in : (n * a * b / 6 ≡ chosen_of n 3) × (n * a * b / 6 ≤ 792)
-      three-in = rw (ea, eb) (is_in (λ m. m * (m - 1) * (m - 2) / 6) 3 (omega arith) refl n h)
-
-      module _ {d : ℕ} (ed : d ≡ n - 3) where
-        pub three-fits : n * a * b * d ≤ 95040
-        three-fits = rw (ea, eb, ed) (most_in (λ m. m * (m - 1) * (m - 2) * (m - 3)) 95040 refl n h)
-
-        pub four-in : (n * a * b * d / 24 ≡ chosen_of n 4) × (n * a * b * d / 24 ≤ 792)
-        four-in = rw (ea, eb, ed) (is_in (λ m. m * (m - 1) * (m - 2) * (m - 3) / 24) 4 (omega arith) refl n h)
-
-        module _ {e : ℕ} (ee : e ≡ n - 4) where
-          pub four-fits : n * a * b * d * e ≤ 95040
-          four-fits = rw (ea, eb, ed, ee) (most_in (λ m. m * (m - 1) * (m - 2) * (m - 3) * (m - 4)) 95040 refl n h)
-
-          pub five-in : (n * a * b * d * e / 120 ≡ chosen_of n 5) × (n * a * b * d * e / 120 ≤ 792)
-          five-in = rw (ea, eb, ed, ee) (is_in (λ m. m * (m - 1) * (m - 2) * (m - 3) * (m - 4) / 120) 5 (omega arith) refl n h)
+-- a product is of twelve numbers at most
+pub choose_fits : (n k : ℕ) → n < 13 → k ≤ 5 → chosen_of n k * (n - k) ≤ 792 * 12
+choose_fits n k h g = let few : n - k ≤ 12 = omega arith in mul-le-mul (choose_small n k h g) few

@@ -3,7 +3,7 @@
 use Rattle.std.specs.Prelude.{Bool, false, not, ◌≡◌, List, [], ◌∷◌, ◌++◌, map, ℕ, suc, ◌-◌, eqb, length}
 use Rattle.laws.specs.Tests.{either, pick}
 use Rattle.laws.specs.Often.{tally, count}
-use Rattle.laws.specs.Some.{some}
+use Rattle.std.specs.List.{list_any}
 use Rattle.cards.specs.Cards.{same_list, in_row}
 use Rattle.cards.specs.Hands.{hand, value_of}
 use Rattle.cards.specs.Order.{ranking52, ranking_of, beats_by, choices, Tie, strength_by}
@@ -87,7 +87,7 @@ listed h = h.class ∷ ranks_in h
 
 -- a hand stands on the ladder
 unfoldable pub is_on : Hand → Bool
-is_on h = some (λ g l. same_list (listed h) (listed g)) ladder
+is_on h = list_any (λ g. same_list (listed h) (listed g)) ladder
 
 -- of 52 cards, one hand beats another
 abbrev pub beats52 : Hand → Hand → Bool

@@ -10,56 +10,20 @@ ghost use Rattle.ladder.specs.Reckoned.{chosen_of, up, less, two_below, three_be
 use cards::Hand;
 use laws::{both, chosen, either, one, short_of};
 
-// How many choices of one, two, three, four and five there are of n; 0 where n is above 12. By products: a table of them would be laid on the stack at each
-// reading.
-fn choose_one(n: u32) -> u32
-    ensures is { result ≡ chosen_of n 1 }
+// How many choices of K there are of n; 0 where n is above 12. By products: a table of them would be laid on the stack at each reading.
+fn choose<const K: u32>(n: u32) -> u32
+    requires { K ≤ 5 }
+    ensures is { result ≡ chosen_of n K }
     ensures small { result ≤ 792 }
 {
-    if n < 13 {
-        return n;
+    if 12 < n {
+        return 0;
     }
-    0
-}
-
-fn choose_two(n: u32) -> u32
-    ensures is { result ≡ chosen_of n 2 }
-    ensures small { result ≤ 792 }
-{
-    if n < 13 {
-        return n * short_of(n, 1) / 2;
+    let mut choices = 1;
+    for k in 0..K {
+        choices = choices * short_of(n, k) / (k + 1);
     }
-    0
-}
-
-fn choose_three(n: u32) -> u32
-    ensures is { result ≡ chosen_of n 3 }
-    ensures small { result ≤ 792 }
-{
-    if n < 13 {
-        return n * short_of(n, 1) * short_of(n, 2) / 6;
-    }
-    0
-}
-
-fn choose_four(n: u32) -> u32
-    ensures is { result ≡ chosen_of n 4 }
-    ensures small { result ≤ 792 }
-{
-    if n < 13 {
-        return n * short_of(n, 1) * short_of(n, 2) * short_of(n, 3) / 24;
-    }
-    0
-}
-
-fn choose_five(n: u32) -> u32
-    ensures is { result ≡ chosen_of n 5 }
-    ensures small { result ≤ 792 }
-{
-    if n < 13 {
-        return n * short_of(n, 1) * short_of(n, 2) * short_of(n, 3) * short_of(n, 4) / 120;
-    }
-    0
+    choices
 }
 
 // A rank, counted from 0 for the two.
@@ -83,21 +47,21 @@ fn two_below(a: u32, b: u32) -> u32
     ensures is { result ≡ two_below a b }
     ensures small { result ≤ 1584 }
 {
-    choose_two(a) + choose_one(b)
+    choose::<2>(a) + choose::<1>(b)
 }
 
 fn three_below(a: u32, b: u32, c: u32) -> u32
     ensures is { result ≡ three_below a b c }
     ensures small { result ≤ 2376 }
 {
-    choose_three(a) + two_below(b, c)
+    choose::<3>(a) + two_below(b, c)
 }
 
 fn five_below(a: u32, b: u32, c: u32, d: u32, e: u32) -> u32
     ensures is { result ≡ five_below a b c d e }
     ensures small { result ≤ 3960 }
 {
-    choose_five(a) + (choose_four(b) + three_below(c, d, e))
+    choose::<5>(a) + (choose::<4>(b) + three_below(c, d, e))
 }
 
 // Whether the two ranks differ.
@@ -107,31 +71,18 @@ fn apart(x: u8, y: u8) -> bool
     either(x < y, y < x)
 }
 
-// Whether it is a rank, from the two to the ace.
-fn is_rank(a: u8) -> bool
-    ensures { result ≡ falling (a ∷ []) }
+// Whether these are ranks, from the two to the ace, each below the one before.
+fn falling(ranks: &[u8]) -> bool
+    ensures { result ≡ falling ranks.now }
 {
-    both(a < 15, 1 < a)
-}
-
-// Whether these are ranks, each below the one before.
-fn two_fall(a: u8, b: u8) -> bool
-    ensures { result ≡ falling (a ∷ b ∷ []) }
-{
-    both(a < 15, both(b < a, 1 < b))
-}
-
-fn three_fall(a: u8, b: u8, c: u8) -> bool
-    ensures { result ≡ falling (a ∷ b ∷ c ∷ []) }
-{
-    both(a < 15, both(b < a, both(c < b, 1 < c)))
-}
-
-fn five_fall(h: Hand) -> bool
-    ensures { result ≡ falling (ranks_in h) }
-{
-    let low = both(h.r4 < h.r3, both(h.r5 < h.r4, 1 < h.r5));
-    both(h.r1 < 15, both(h.r2 < h.r1, both(h.r3 < h.r2, low)))
+    let mut above = 15;
+    for r in ranks {
+        if above <= *r {
+            return false;
+        }
+        above = *r;
+    }
+    1 < above
 }
 
 fn one_above(x: u8, y: u8) -> bool
@@ -172,7 +123,7 @@ fn beside_place(under: u32, r: u8, s: u8) -> u32
     requires { under ≤ 7452 }
     ensures { result ≡ beside_place under r s }
 {
-    let differ = both(is_rank(r), both(is_rank(s), apart(r, s)));
+    let differ = both(falling(&[r]), both(falling(&[s]), apart(r, s)));
     let n = 12 * up(r) + less(up(s), up(r)) + 1;
     chosen(differ, under + n, 0)
 }
@@ -208,7 +159,7 @@ fn odd_place(under: u32, h: Hand) -> u32
 {
     let all = five_below(up(h.r1), up(h.r2), up(h.r3), up(h.r4), up(h.r5));
     let n = under + short_of(all + 1, rows_below(h.r1));
-    chosen(is_straight(h), 0, chosen(five_fall(h), n, 0))
+    chosen(is_straight(h), 0, chosen(falling(&[h.r1, h.r2, h.r3, h.r4, h.r5]), n, 0))
 }
 
 fn three_place(under: u32, h: Hand) -> u32
@@ -216,7 +167,7 @@ fn three_place(under: u32, h: Hand) -> u32
     ensures { result ≡ three_place under h }
 {
     let held = both(h.r1 == h.r2, h.r1 == h.r3);
-    let fall = both(is_rank(h.r1), two_fall(h.r4, h.r5));
+    let fall = both(falling(&[h.r1]), falling(&[h.r4, h.r5]));
     let differ = both(apart(h.r1, h.r4), apart(h.r1, h.r5));
     let r = up(h.r1);
     let n = 66 * r + two_below(less(up(h.r4), r), less(up(h.r5), r)) + 1;
@@ -228,7 +179,7 @@ fn two_pair_place(under: u32, h: Hand) -> u32
     ensures { result ≡ two_pair_place under h }
 {
     let held = both(h.r1 == h.r2, h.r3 == h.r4);
-    let fall = both(two_fall(h.r1, h.r3), is_rank(h.r5));
+    let fall = both(falling(&[h.r1, h.r3]), falling(&[h.r5]));
     let differ = both(apart(h.r5, h.r1), apart(h.r5, h.r3));
     let r = up(h.r1);
     let s = up(h.r3);
@@ -240,7 +191,7 @@ fn pair_place(under: u32, h: Hand) -> u32
     requires { under ≤ 7452 }
     ensures { result ≡ pair_place under h }
 {
-    let fall = both(is_rank(h.r1), three_fall(h.r3, h.r4, h.r5));
+    let fall = both(falling(&[h.r1]), falling(&[h.r3, h.r4, h.r5]));
     let low = both(apart(h.r1, h.r4), apart(h.r1, h.r5));
     let differ = both(apart(h.r1, h.r3), low);
     let r = up(h.r1);
@@ -253,32 +204,18 @@ fn pair_place(under: u32, h: Hand) -> u32
 pub fn place(h: Hand) -> u32
     ensures { result ≡ place_of h }
 {
-    let class = h.class;
-    if class == 0 {
-        return row_place(7452, h);
+    match h.class {
+        0 => row_place(7452, h),
+        1 => four_place(7296, h),
+        2 => full_place(7140, h),
+        3 => odd_place(5863, h),
+        4 => row_place(5853, h),
+        5 => three_place(4995, h),
+        6 => two_pair_place(4137, h),
+        7 => pair_place(1277, h),
+        8 => odd_place(0, h),
+        _ => 0,
     }
-    if class == 1 {
-        return four_place(7296, h);
-    }
-    if class == 2 {
-        return full_place(7140, h);
-    }
-    if class == 3 {
-        return odd_place(5863, h);
-    }
-    if class == 4 {
-        return row_place(5853, h);
-    }
-    if class == 5 {
-        return three_place(4995, h);
-    }
-    if class == 6 {
-        return two_pair_place(4137, h);
-    }
-    if class == 7 {
-        return pair_place(1277, h);
-    }
-    if class == 8 { odd_place(0, h) } else { 0 }
 }
 
 // What is kept of a hand of the deck: its place. The 32-card deck keeps the old form.

@@ -8,10 +8,10 @@ use Prim.Native.Nat.{ℕ, ◌<◌}
 use native.Mathlib.Omega.{arith}
 use lib.Dec.{eqb}
 use borrow.Author.Tests.{eqb-true, eq-eqb}
+use Rattle.std.specs.List.{list_any}
 use Rattle.laws.specs.Tests.{one, both}
 use Rattle.laws.specs.Lists.{All}
 use Rattle.laws.specs.Often.{count}
-use Rattle.laws.specs.Some.{some}
 use Rattle.laws.specs.Listing.{each, those, same_list}
 use Rattle.laws.proofs.Tests.{test, both_true}
 
@@ -91,24 +91,22 @@ or_true false b e = inr e
 
 module _ {A : Type 0} (f : A → Bool) where
   -- some element passes
-  pub some_has : (l : List A) → some (λ x m. f x) l ≡ true → (x : A) × Memᴰ x l × (f x ≡ true)
-  unfolding some
+  pub some_has : (l : List A) → list_any f l ≡ true → (x : A) × Memᴰ x l × (f x ≡ true)
   some_has [] e = absurd (false≢true e)
   some_has (x ∷ l) e =
       ⊎_elim
       (λ (h : f x ≡ true). (x, Memᴰ.head refl, h))
-      (λ (h : some (λ y m. f y) l ≡ true). let t = some_has l h in (t.0, Memᴰ.tail t.1, t.2))
-      (or_true (f x) (some (λ y m. f y) l) e)
+      (λ (h : list_any f l ≡ true). let t = some_has l h in (t.0, Memᴰ.tail t.1, t.2))
+      (or_true (f x) (list_any f l) e)
 
-  pub has_some : (x : A) (l : List A) → Memᴰ x l → f x ≡ true → some (λ y m. f y) l ≡ true
-  unfolding some
+  pub has_some : (x : A) (l : List A) → Memᴰ x l → f x ≡ true → list_any f l ≡ true
   has_some x [] i e = absurd (Memᴰ.not-nil i)
   has_some x (y ∷ l) i e =
       ⊎_elim
-      (λ (q : x ≡ y). ap (λ (b : Bool). b || some (λ z m. f z) l) (ap f (sym q) ∙ e))
+      (λ (q : x ≡ y). ap (λ (b : Bool). b || list_any f l) (ap f (sym q) ∙ e))
       (λ (j : Memᴰ x l). go (f y) (has_some x l j e))
       (Memᴰ.cases_cons i)
     where
-      go : (b : Bool) → some (λ z m. f z) l ≡ true → (b || some (λ z m. f z) l) ≡ true
+      go : (b : Bool) → list_any f l ≡ true → (b || list_any f l) ≡ true
       go true h = refl
       go false h = h

@@ -1,6 +1,6 @@
 -- `banked::hands::flop_hand_of` meets its contract. Assumes nothing.
 use Rattle.banked.specs.Hands.{flop_hand_of}
-use Rattle.banked.proofs.hands.flop_hand_of.Goals as goal
+use Rattle.banked.proofs.Deal.flop_hand_of.Goals as goal
 
 pub returns : goal.returns
 unfolding flop_hand_of

@@ -3,7 +3,7 @@ use Prim.Native.Nat.{◌≤◌}
 use native.Mathlib.Omega.{arith}
 use Rattle.banked.proofs.Tables.{times_most}
 use Rattle.banked.specs.Books.{back_of}
-use Rattle.banked.proofs.fates.back_of.Goals as goal
+use Rattle.banked.proofs.fates.Fate.back_of.Goals as goal
 
 pub overflow_mul-result : goal.overflow_mul-result
 overflow_mul-result c = let n = c.in-Odds.n in

@@ -1,5 +1,0 @@
--- `banked::hands::high_card` meets its contract. Assumes nothing.
-use Rattle.banked.proofs.hands.high_card.Goals as goal
-
-pub returns : goal.returns
-returns c = rw c.all_cards-cards.ensures at c.any_above.ensures

@@ -1,5 +1,0 @@
--- `ladder::three_fall` meets its contract. Assumes nothing.
-use Rattle.ladder.proofs.three_fall.Goals as goal
-
-pub returns : goal.returns
-returns c = cc
