@@ -1,12 +1,14 @@
 // A block's answer: without `--check` the proposer's, and with it the checker's for another program's proposal. Both are lent the tray's rows.
 ghost use Rattle.std.specs.Prelude.{◌≡◌, ◌≤◌, ◌<◌, ◌^◌, length};
 ghost use Rattle.writing.specs.AnswerSheet.{Wrote};
-ghost use Rattle.tray.specs.Proposal.{accepted};
+ghost use Rattle.paper.specs.Refusals.{number_of};
+ghost use Rattle.tray.specs.Proposal.{accepted, code_of};
 ghost use Rattle.teller.specs.Keeping.{Sound, anew};
 ghost use Rattle.payments.specs.Payments.{code_text, paid_out, checked, payment, proposed, proposing, Does};
 
 use crate::writer::{put_code, put_sittings};
 use laws::either;
+use paper::Refusal;
 use rows::{accept_from, propose_from};
 use teller::{Teller, anew, faulty};
 
@@ -17,17 +19,27 @@ pub struct Answered {
     pub written: usize,
 }
 
-// A code alone; nothing else changes.
-fn refuse(s: Teller, out: &mut [u8], code: u32) -> Answered
-    requires { (code < 10 ^ 9) × (15 ≤ length out.old) }
-    ensures { (result.teller ≡ anew s s.tray.row) × Wrote (code_text code) out.old out.new result.written × (result.written ≤ 15) }
+// The number that is written for an answer: 0, or its refusal's.
+fn code_of(outcome: Result<(), Refusal>) -> u32
+    ensures { result ≡ code_of outcome }
+{
+    match outcome {
+        Ok(()) => 0,
+        Err(e) => u32::from(e.number()),
+    }
+}
+
+// A refusal's number alone; nothing else changes.
+fn refuse(s: Teller, out: &mut [u8], e: Refusal) -> Answered
+    requires { 15 ≤ length out.old }
+    ensures { (result.teller ≡ anew s s.tray.row) × Wrote (code_text (number_of e)) out.old out.new result.written × (result.written ≤ 15) }
 {
     let tray = s.tray;
     let row = tray.row;
     let teller = anew(s, row);
     Answered {
         teller,
-        written: put_code(out, code),
+        written: put_code(out, u32::from(e.number())),
     }
 }
 
@@ -58,7 +70,7 @@ pub fn pay_out(s: Teller, gives: &mut [u32], out: &mut [u8]) -> Answered
 {
     let x = s.listed;
     if faulty(x) {
-        return refuse(s, out, 2);
+        return refuse(s, out, Refusal::OutOfRange);
     }
     let tray = s.tray;
     let row = tray.row;
@@ -66,11 +78,10 @@ pub fn pay_out(s: Teller, gives: &mut [u32], out: &mut [u8]) -> Answered
     let paid = x.paid;
     let count = x.count;
     let long = count * n;
-    let code = propose_from(row, n, &paid[0..count], &mut gives[0..long]);
-    if code != 0 {
-        return refuse(s, out, code);
+    match propose_from(row, n, &paid[0..count], &mut gives[0..long]) {
+        Err(e) => refuse(s, out, e),
+        Ok(()) => pay_proposed(s, &gives[0..long], out),
     }
-    pay_proposed(s, &gives[0..long], out)
 }
 
 // Another program's proposal, of so many numbers, is checked; where it is accepted the rows are lowered.
@@ -81,7 +92,7 @@ pub fn check_out(s: Teller, gives: &[u32], out: &mut [u8]) -> Answered
     let x = s.listed;
     let given = s.given;
     if either(faulty(x), 160 < given) {
-        return refuse(s, out, 2);
+        return refuse(s, out, Refusal::OutOfRange);
     }
     let tray = s.tray;
     let row = tray.row;
@@ -92,6 +103,6 @@ pub fn check_out(s: Teller, gives: &[u32], out: &mut [u8]) -> Answered
     let teller = anew(s, after);
     Answered {
         teller,
-        written: put_code(out, v.code),
+        written: put_code(out, code_of(v.outcome)),
     }
 }

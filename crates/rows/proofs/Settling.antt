@@ -21,9 +21,8 @@ use Rattle.tray.proofs.Within.{fits_many}
 use Rattle.tray.proofs.Judging.{judged_2, after_0, after_other}
 use Rattle.proposer.specs.Proposer.{proposing, list_after}
 use Rattle.rows.specs.declared.Row.{Row}
-use Rattle.rows.specs.declared.Answer.{Answer}
 use Rattle.rows.specs.Rows.{no_row, worths_of, counts_of, lower, lower_all, judged_rows, rows_after, proposing_rows, list_of}
-use Rattle.rows.specs.Columns.{columns_to, settled_of, recount, proposed_code, proposed_list}
+use Rattle.rows.specs.Columns.{Counted, columns_to, settled_of, recount, proposed_code, proposed_list}
 use Rattle.rows.proofs.Reading.{counts_column, column-at, column-past, worths_read, counts_read}
 
 -- within a list it does not matter what stands past its end
@@ -101,7 +100,7 @@ module _ (rows : List Row) (paid p : List ℕ) where
       judged_2 (worths_of rows) (counts_of rows) paid p (sym (fits_many (worths_of rows) (counts_of rows) sittings (length p) (omega (arith, h, m))))
 
   -- the answer and the rows after it
-  abbrev Ends : Answer → Type 0
+  abbrev Ends : Counted → Type 0
   Ends s = (s.code ≡ judged_rows rows paid p) × (with s.counts ≡ rows_after s.code sittings p rows)
 
   few_rows : n ≤ most_rows → Ends (settled_of (columns_to n rows) n paid p)

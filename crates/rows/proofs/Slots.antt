@@ -29,12 +29,12 @@ none_counted counts r i l = ap (λ k. record { worth = r.worth; count = k }) (sy
 
 -- ---- the checker over columns
 module _ (c : Columns) (n : ℕ) (paid : List ℕ) where
-  pub settled_many : (p : List ℕ) → most_rows < n → record { counts = c.counts; code = 2 } ≡ settled_of c n paid p
-  settled_many p h = rw (lt-leb n 16 h) refl
+  pub settled_many : (p : List ℕ) → most_rows < n → (c.counts ≡ (settled_of c n paid p).counts) × (2 ≡ (settled_of c n paid p).code)
+  settled_many p h = (rw (lt-leb n 16 h) refl, rw (lt-leb n 16 h) refl)
 
   pub settled_few : (p : List ℕ) (code : ℕ) (new : List ℕ) → n ≤ most_rows → code ≡ judged (mid_of 0 (n - 0) c.worths) (mid_of 0 (n - 0) c.counts) paid p
-      → new ≡ counts_after code (length paid) p (mid_of 0 (n - 0) c.counts) → record { counts = put_mid 0 (n - 0) c.counts new; code = code } ≡ settled_of c n paid p
-  settled_few p code new h e q = rw (le-leb n 16 h, q, e, sub-zero n) refl
+      → new ≡ counts_after code (length paid) p (mid_of 0 (n - 0) c.counts) → (put_mid 0 (n - 0) c.counts new ≡ (settled_of c n paid p).counts) × (code ≡ (settled_of c n paid p).code)
+  settled_few p code new h e q = (rw (le-leb n 16 h, q, e, sub-zero n) refl, rw (le-leb n 16 h, e, sub-zero n) refl)
 
   pub proposed_many : (old : List ℕ) → most_rows < n → (2 ≡ proposed_code c n paid (length old)) × (old ≡ proposed_list 2 c n paid old)
   unfolding list_after

@@ -5,7 +5,6 @@ use Rattle.tray.specs.Proposal.{out_of_bounds, judged, counts_after, most_rows}
 use Rattle.proposer.specs.Proposer.{proposing, list_after}
 use Rattle.rows.specs.declared.Row.{Row}
 use Rattle.rows.specs.declared.Columns.{Columns}
-use Rattle.rows.specs.declared.Answer.{Answer}
 use Rattle.rows.specs.Rows.{no_row}
 
 abbrev pub no_columns : Columns
@@ -20,8 +19,13 @@ abbrev pub columns_to : ℕ → List Row → Columns
 columns_to zero rows = no_columns
 columns_to (suc i) rows = with_row (columns_to i rows) (get_or rows i no_row) i
 
+-- an answer's code and the counts after it
+pub record Counted : Type 0 where
+  pub counts : List ℕ
+  pub code : ℕ
+
 -- the checker's answer for n rows, and the counts after it
-abbrev pub settled_of : Columns → ℕ → List ℕ → List ℕ → Answer
+abbrev pub settled_of : Columns → ℕ → List ℕ → List ℕ → Counted
 settled_of c n paid p =
     pick (leb n most_rows)
     (record {

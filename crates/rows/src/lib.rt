@@ -3,8 +3,11 @@
 #![tactic(auto)]
 
 ghost use Rattle.std.specs.Prelude.{◌≡◌, ◌++◌, ◌≤◌, length, take, drop};
+ghost use Rattle.tray.specs.Proposal.{code_of};
 ghost use Rattle.rows.specs.Rows.{judged_rows, rows_after, proposing_rows, list_of};
 ghost use Rattle.rows.specs.Columns.{no_columns, with_row, settled_of, proposed_code, proposed_list, recount};
+
+use paper::Refusal;
 
 pub const ROWS: usize = 16;
 
@@ -46,20 +49,21 @@ fn with_row(c: Columns, r: Row, i: usize) -> Columns
 #[derive(Clone, Copy)]
 pub struct Answer {
     pub counts: [u32; 16],
-    pub code: u32,
+    pub outcome: Result<(), Refusal>,
 }
 
 // The checker over n rows in columns.
 fn settled(c: Columns, n: usize, paid: &[u32], proposal: &[u32]) -> Answer
-    ensures { result ≡ settled_of c n paid.now proposal.now }
+    ensures { (result.counts ≡ (settled_of c n paid.now proposal.now).counts) × (code_of result.outcome ≡ (settled_of c n paid.now proposal.now).code) }
 {
     let worths = c.worths;
     let mut counts = c.counts;
     if ROWS < n {
-        return Answer { counts, code: 2 };
+        let outcome = Err(Refusal::OutOfRange);
+        return Answer { counts, outcome };
     }
-    let code = tray::accept(&worths[0..n], &mut counts[0..n], paid, proposal);
-    Answer { counts, code }
+    let outcome = tray::accept(&worths[0..n], &mut counts[0..n], paid, proposal);
+    Answer { counts, outcome }
 }
 
 // Row i with its count after the answer.
@@ -74,10 +78,10 @@ fn recounted(s: Answer, r: Row, i: usize) -> Row
     r
 }
 
-// The checker's answer for the lent rows: 0 accepted, 2 out of bounds, 16 refused. Where it accepts, each row's count is lowered by just what is taken from it;
+// The checker's answer for the lent rows: accepted, out of bounds, or not exact. Where it accepts, each row's count is lowered by just what is taken from it;
 // else each row is as it was. One loop reads the rows and one writes their counts.
-pub fn accept(rows: &mut [Row], paid: &[u32], proposal: &[u32]) -> u32
-    ensures { (result ≡ judged_rows rows.old paid.now proposal.now) × (rows.new ≡ rows_after result (length paid.now) proposal.now rows.old) }
+pub fn accept(rows: &mut [Row], paid: &[u32], proposal: &[u32]) -> Result<(), Refusal>
+    ensures { (code_of result ≡ judged_rows rows.old paid.now proposal.now) × (rows.new ≡ rows_after (code_of result) (length paid.now) proposal.now rows.old) }
 {
     let mut columns = no_columns();
     for (i, row) in rows.iter().enumerate() {
@@ -87,25 +91,25 @@ pub fn accept(rows: &mut [Row], paid: &[u32], proposal: &[u32]) -> u32
     for (j, row) in rows.iter_mut().enumerate() {
         *row = recounted(s, *row, j);
     }
-    s.code
+    s.outcome
 }
 
 // The proposer over n rows in columns.
-fn proposed(c: Columns, n: usize, paid: &[u32], list: &mut [u32]) -> u32
-    ensures { (result ≡ proposed_code c n paid.now (length list.old)) × (list.new ≡ proposed_list result c n paid.now list.old) }
+fn proposed(c: Columns, n: usize, paid: &[u32], list: &mut [u32]) -> Result<(), Refusal>
+    ensures { (code_of result ≡ proposed_code c n paid.now (length list.old)) × (list.new ≡ proposed_list (code_of result) c n paid.now list.old) }
 {
     let worths = c.worths;
     let counts = c.counts;
     if ROWS < n {
-        return 2;
+        return Err(Refusal::OutOfRange);
     }
     proposer::propose(&worths[0..n], &counts[0..n], paid, list)
 }
 
-// The proposer's answer for the lent rows, which it reads: 0 with the proposal in the lent list; 2 out of bounds, 17 where something stays unpaid, and then
+// The proposer's answer for the lent rows, which it reads: the proposal stands in the lent list; or it is out of bounds, or something stays unpaid, and then
 // nothing is written.
-pub fn propose(rows: &[Row], paid: &[u32], list: &mut [u32]) -> u32
-    ensures { (result ≡ proposing_rows rows.now paid.now (length list.old)) × (list.new ≡ list_of result rows.now paid.now list.old) }
+pub fn propose(rows: &[Row], paid: &[u32], list: &mut [u32]) -> Result<(), Refusal>
+    ensures { (code_of result ≡ proposing_rows rows.now paid.now (length list.old)) × (list.new ≡ list_of (code_of result) rows.now paid.now list.old) }
 {
     let mut columns = no_columns();
     for (i, row) in rows.iter().enumerate() {
@@ -118,23 +122,28 @@ pub fn propose(rows: &[Row], paid: &[u32], list: &mut [u32]) -> u32
 #[derive(Clone, Copy)]
 pub struct Payment {
     pub rows: [Row; 16],
-    pub code: u32,
+    pub outcome: Result<(), Refusal>,
 }
 
 // The first n rows of a tray are lent to the checker.
 pub fn accept_from(tray: [Row; 16], n: usize, paid: &[u32], proposal: &[u32]) -> Payment
     requires { n ≤ 16 }
-    ensures { (result.code ≡ judged_rows (take n tray) paid.now proposal.now) × (result.rows ≡ rows_after result.code (length paid.now) proposal.now (take n tray) ++ drop n tray) }
+    ensures { (code_of result.outcome ≡ judged_rows (take n tray) paid.now proposal.now) × (result.rows ≡ rows_after (code_of result.outcome) (length paid.now) proposal.now (take n tray) ++ drop n tray) }
 {
     let mut rows = tray;
-    let code = accept(&mut rows[0..n], paid, proposal);
-    Payment { rows, code }
+    let outcome = accept(&mut rows[0..n], paid, proposal);
+    Payment { rows, outcome }
 }
 
 // The first n rows of a tray are lent to the proposer.
-pub fn propose_from(tray: [Row; 16], n: usize, paid: &[u32], list: &mut [u32]) -> u32
+pub fn propose_from(
+    tray: [Row; 16],
+    n: usize,
+    paid: &[u32],
+    list: &mut [u32],
+) -> Result<(), Refusal>
     requires { n ≤ 16 }
-    ensures { (result ≡ proposing_rows (take n tray) paid.now (length list.old)) × (list.new ≡ list_of result (take n tray) paid.now list.old) }
+    ensures { (code_of result ≡ proposing_rows (take n tray) paid.now (length list.old)) × (list.new ≡ list_of (code_of result) (take n tray) paid.now list.old) }
 {
     propose(&tray[0..n], paid, list)
 }

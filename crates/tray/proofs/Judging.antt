@@ -5,7 +5,11 @@ use mathlib.Core.Bool.{Bool, true, false}
 use mathlib.Core.List.{List}
 use lib.ListN.{length}
 use borrow.Author.Tests.{eq-eqb, ne_eqb, eqb-false}
+use lib.Dec.{eqb}
 use Rattle.laws.specs.Tests.{both, pick}
+use Rattle.paper.specs.declared.Refusal.{Refusal}
+use Rattle.paper.specs.declared.Refusal.TheVariants.{Malformed, OutOfRange, NotNext, WrongMoment, WrongSeat, NotInTurn, NotAllowed, CardTwice, TooManyChips, CardsMissing, BadSheet, NoRoom, NotRight, SharesPool, NotStored, NotExact, Unpaid}
+use Rattle.paper.specs.Refusals.{number_of}
 use Rattle.tray.specs.Proposal.{fits, pays_all, holds_all, judged, lowered, counts_after}
 
 module _ (ws cs ps p : List ℕ) where
@@ -49,3 +53,26 @@ after_0 code n p cs e = rw (eq-eqb code 0 e) refl
 pub after_other : (code n : ℕ) (p cs : List ℕ) → (code ≡ 0 → ⊥) → cs ≡ counts_after code n p cs
 unfolding counts_after
 after_other code n p cs h = rw (ne_eqb code 0 h) refl
+
+-- a refusal's number is not that of an accepted proposal
+number_pos : (e : Refusal) → eqb (number_of e) 0 ≡ false
+number_pos Malformed = refl
+number_pos OutOfRange = refl
+number_pos NotNext = refl
+number_pos WrongMoment = refl
+number_pos WrongSeat = refl
+number_pos NotInTurn = refl
+number_pos NotAllowed = refl
+number_pos CardTwice = refl
+number_pos TooManyChips = refl
+number_pos CardsMissing = refl
+number_pos BadSheet = refl
+number_pos NoRoom = refl
+number_pos NotRight = refl
+number_pos SharesPool = refl
+number_pos NotStored = refl
+number_pos NotExact = refl
+number_pos Unpaid = refl
+
+pub refused_code : (e : Refusal) → number_of e ≡ 0 → ⊥
+refused_code e h = eqb-false (number_of e) 0 (number_pos e) h

@@ -5,7 +5,9 @@
 -- of equal worth count apart."
 -- A tray is the list of its rows' worths and the list of their counts. What is paid is a list, a number for each listed sitting in the block's order. A
 -- proposal is one list, sitting by sitting, and for each sitting row by row.
-use Rattle.std.specs.Prelude.{ℕ, ◌+◌, ◌-◌, ◌*◌, Bool, List, length, get_or, eqb, leb}
+use Rattle.std.specs.Prelude.{ℕ, ◌+◌, ◌-◌, ◌*◌, Bool, List, length, get_or, eqb, leb, Result, Ok, Err}
+use Rattle.paper.specs.declared.Refusal.{Refusal}
+use Rattle.paper.specs.Refusals.{number_of}
 use Rattle.laws.specs.Tests.{both, pick}
 use Rattle.tray.specs.Counting.{sum_to, all_to, each_by}
 
@@ -69,6 +71,11 @@ holds_all counts sittings p = all_to (length counts) (λ i. leb (taken_from (len
 unfoldable pub judged : List ℕ → List ℕ → List ℕ → List ℕ → ℕ
 judged worths counts paid p =
     pick (fits worths counts (length paid) (length p)) (pick (both (pays_all worths paid p) (holds_all counts (length paid) p)) accepted refused) out_of_bounds
+
+-- an answer's code: 0 where it accepts, else the number of its refusal
+abbrev pub code_of : Result (Unit {0}) Refusal → ℕ
+code_of (Ok u) = accepted
+code_of (Err e) = number_of e
 
 -- the counts lowered by what is taken from each row
 abbrev pub lowered : ℕ → List ℕ → List ℕ → List ℕ

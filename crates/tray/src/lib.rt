@@ -4,9 +4,10 @@
 
 ghost use Rattle.std.specs.Prelude.{◌≡◌, ℕ, ◌-◌, ◌*◌, ◌≤◌, eqb, length, get_or};
 ghost use Rattle.tray.specs.Counting.{all_to};
-ghost use Rattle.tray.specs.Proposal.{row_fits, fits, given, worth_given, taken_from, pays_all, holds_all, judged, lowered, counts_after};
+ghost use Rattle.tray.specs.Proposal.{row_fits, fits, given, worth_given, taken_from, pays_all, holds_all, judged, code_of, lowered, counts_after};
 
 use laws::both;
+use paper::Refusal;
 
 pub const ROWS: usize = 16;
 
@@ -130,19 +131,19 @@ fn holds_all(counts: &[u32], sittings: usize, p: &[u32]) -> bool
     true
 }
 
-// The checker's answer: 0 accepted, 2 out of bounds, 16 refused.
-pub fn check(worths: &[u32], counts: &[u32], paid: &[u32], p: &[u32]) -> u32
-    ensures { result ≡ judged worths.now counts.now paid.now p.now }
+// The checker's answer: accepted, out of bounds, or not exact.
+pub fn check(worths: &[u32], counts: &[u32], paid: &[u32], p: &[u32]) -> Result<(), Refusal>
+    ensures { code_of result ≡ judged worths.now counts.now paid.now p.now }
 {
-    if fits(worths, counts, paid.len(), p.len()) {
-        let pays = pays_all(worths, paid, p);
-        let holds = holds_all(counts, paid.len(), p);
-        if both(pays, holds) {
-            return 0;
-        }
-        return 16;
+    if !fits(worths, counts, paid.len(), p.len()) {
+        return Err(Refusal::OutOfRange);
     }
-    2
+    let pays = pays_all(worths, paid, p);
+    let holds = holds_all(counts, paid.len(), p);
+    if both(pays, holds) {
+        return Ok(());
+    }
+    Err(Refusal::NotExact)
 }
 
 // How much a count is above what is taken.
@@ -164,13 +165,11 @@ fn lower(counts: &mut [u32], sittings: usize, p: &[u32])
 }
 
 // The checker's answer; where it accepts, the counts are lowered by just what is taken.
-pub fn accept(worths: &[u32], counts: &mut [u32], paid: &[u32], p: &[u32]) -> u32
-    ensures code { result ≡ judged worths.now counts.old paid.now p.now }
-    ensures rows { counts.new ≡ counts_after result (length paid.now) p.now counts.old }
+pub fn accept(worths: &[u32], counts: &mut [u32], paid: &[u32], p: &[u32]) -> Result<(), Refusal>
+    ensures code { code_of result ≡ judged worths.now counts.old paid.now p.now }
+    ensures rows { counts.new ≡ counts_after (code_of result) (length paid.now) p.now counts.old }
 {
-    let code = check(worths, counts, paid, p);
-    if code == 0 {
-        lower(counts, paid.len(), p);
-    }
-    code
+    check(worths, counts, paid, p)?;
+    lower(counts, paid.len(), p);
+    Ok(())
 }

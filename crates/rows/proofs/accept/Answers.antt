@@ -1,11 +1,11 @@
 -- `accept` meets its contract: the columns are those of all rows, the checker over them answers as it does over the rows, and each row is counted anew in its place.
-use Rattle.std.proofs.Common.{◌≡◌, ◌<◌, ◌∙◌, sym, ap, subst, length, arith}
+use Rattle.std.proofs.Common.{◌≡◌, ◌<◌, ◌∙◌, ℕ, List, sym, ap, length, arith}
 use Rattle.tray.proofs.Front.{front_long, each_turn, each_done}
 use Rattle.tray.specs.Counting.{each_by}
 use Rattle.rows.specs.declared.Columns.{Columns}
-use Rattle.rows.specs.declared.Answer.{Answer}
-use Rattle.rows.specs.Rows.{no_row, judged_rows, rows_after}
-use Rattle.rows.specs.Columns.{columns_to, settled_of, recount}
+use Rattle.rows.specs.Rows.{no_row, rows_after}
+use Rattle.rows.specs.Columns.{Counted, columns_to, settled_of, recount}
+use Rattle.tray.specs.Proposal.{code_of}
 use Rattle.rows.proofs.Settling.{rows_settled}
 use Rattle.rows.proofs.accept.Goals as goal
 
@@ -25,10 +25,12 @@ returns c =
     let f = recount c.settled-s.result.counts in
     let e : c.loop-i.i ≡ length rows = omega (arith, c.loop-i-test.false) in
     let all : c.loop-i.columns ≡ columns_to (length rows) rows = c.loop-i.invariant ∙ ap (λ i. columns_to i rows) e in
-    let s : c.settled-s.result ≡ settled_of (columns_to (length rows) rows) (length rows) paid p =
-    c.settled-s.ensures ∙ ap (λ (k : Columns). settled_of k (length rows) paid p) all in
+    let w : Counted = settled_of (columns_to (length rows) rows) (length rows) paid p in
+    let counts : c.settled-s.result.counts ≡ w.counts = c.settled-s.ensures.0 ∙ ap (λ (k : Columns). (settled_of k (length rows) paid p).counts) all in
+    let code : code_of c.settled-s.result.outcome ≡ w.code = c.settled-s.ensures.1 ∙ ap (λ (k : Columns). (settled_of k (length rows) paid p).code) all in
     let ends = rows_settled rows paid p in
     let long : length c.loop-j.rows ≡ length rows = ap length c.loop-j.invariant ∙ front_long c.loop-j.j f rows in
-    let done = each_done f rows c.loop-j.rows c.loop-j.j (omega (arith, c.loop-j-test.false, long)) c.loop-j.invariant in
-    let e = subst (λ (k : Answer). (k.code ≡ judged_rows rows paid p) × (each_by (recount k.counts) rows ≡ rows_after k.code (length paid) p rows)) (sym s) ends in
-    (e.0, done ∙ e.1)
+    let done = each_done f rows c.loop-j.rows c.loop-j.j (omega (arith, c.loop-j-test.false, long)) c.loop-j.invariant in (
+      code ∙ ends.0,
+      done ∙ ap (λ (k : List ℕ). each_by (recount k) rows) counts ∙ ends.1 ∙ ap (λ (k : ℕ). rows_after k (length paid) p rows) (sym code),
+    )

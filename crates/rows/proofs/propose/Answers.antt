@@ -4,6 +4,7 @@ use Rattle.rows.specs.declared.Columns.{Columns}
 use Rattle.rows.specs.Rows.{proposing_rows}
 use Rattle.rows.specs.Columns.{columns_to, proposed_code, proposed_list}
 use Rattle.rows.proofs.Settling.{rows_proposed, rows_listed}
+use Rattle.tray.specs.Proposal.{code_of}
 use Rattle.rows.proofs.propose.Goals as goal
 
 pub returns : goal.returns
@@ -13,8 +14,8 @@ returns c =
     let old = c.args.list.now in
     let e : c.loop-i.i ≡ length rows = omega (arith, c.loop-i-test.false) in
     let all : c.loop-i.columns ≡ columns_to (length rows) rows = c.loop-i.invariant ∙ ap (λ i. columns_to i rows) e in
-    let code : c.proposed.result ≡ proposing_rows rows paid (length old) =
+    let code : code_of c.proposed.result ≡ proposing_rows rows paid (length old) =
     c.proposed.ensures.0 ∙ ap (λ (k : Columns). proposed_code k (length rows) paid (length old)) all ∙ rows_proposed rows paid (length old) in (
       code,
-      c.proposed.ensures.1 ∙ ap (λ (k : Columns). proposed_list c.proposed.result k (length rows) paid old) all ∙ rows_listed rows paid c.proposed.result old code,
+      c.proposed.ensures.1 ∙ ap (λ (k : Columns). proposed_list (code_of c.proposed.result) k (length rows) paid old) all ∙ rows_listed rows paid (code_of c.proposed.result) old code,
     )

@@ -4,6 +4,7 @@ use mathlib.Core.Path.{◌≡◌}
 use native.Mathlib.Omega.{arith}
 use Rattle.rows.proofs.Slots.{settled_many, settled_few}
 use borrow.Author.Rules.{rules}
+use Rattle.tray.specs.Proposal.{code_of}
 use Rattle.rows.proofs.settled.Goals as goal
 
 pub returns-then-n-gt-ROWS : goal.returns-then-n-gt-ROWS
@@ -16,4 +17,4 @@ pub slice_bounds-counts-end : goal.slice_bounds-counts-end
 slice_bounds-counts-end c = let w : length c.args.c.counts ≡ 16 = search rules in omega (arith, w, c.if-n-gt-ROWS.false)
 
 pub returns : goal.returns
-returns c = settled_few c.args.c c.args.n c.args.paid.now c.args.proposal.now c.accept-code.result _ c.if-n-gt-ROWS.false c.accept-code.ensures.code c.accept-code.ensures.rows
+returns c = settled_few c.args.c c.args.n c.args.paid.now c.args.proposal.now (code_of c.accept-outcome.result) _ c.if-n-gt-ROWS.false c.accept-outcome.ensures.code c.accept-outcome.ensures.rows

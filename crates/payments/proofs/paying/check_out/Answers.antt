@@ -2,7 +2,8 @@
 use Rattle.payments.proofs.Same.{wrote_as}
 use Rattle.payments.proofs.Deciding.{few_listed, checked-bad, checked-good}
 use Rattle.payments.proofs.SmallRows.{judged_small}
-use Rattle.payments.specs.Payments.{checked}
+use Rattle.tray.specs.Proposal.{code_of}
+use Rattle.payments.specs.Payments.{checked, code_text}
 use Rattle.teller.specs.Keeping.{faulty}
 use Rattle.laws.specs.Tests.{either}
 use Rattle.laws.proofs.Tests.{either_false}
@@ -12,7 +13,7 @@ use lib.ListN.{length}
 use lib.Dec.{ltb}
 use Prim.Native.Nat.{ℕ, ◌<◌, ◌^◌}
 use mathlib.Core.Bool.{true, false}
-use mathlib.Core.Path.{◌≡◌, refl, sym, ◌∙◌, subst}
+use mathlib.Core.Path.{◌≡◌, refl, sym, ap, ◌∙◌, subst}
 use Rattle.payments.proofs.paying.check_out.Goals as goal
 
 pub returns-then-either : goal.returns-then-either
@@ -34,10 +35,10 @@ pub accept_from-v-requires : goal.accept_from-v-requires
 accept_from-v-requires c = c.requires.0.few
 
 pub put_code-requires : goal.put_code-requires
-put_code-requires c = (subst (λ (n : ℕ). n < 10 ^ 9) (sym c.accept_from-v.ensures.0) (judged_small _ _ _), c.requires.2)
+put_code-requires c = (subst (λ (n : ℕ). n < 10 ^ 9) (sym (c.code_of.ensures ∙ c.accept_from-v.ensures.0)) (judged_small _ _ _), c.requires.2)
 
 pub returns : goal.returns
 unfolding checked
 returns c = let e : either (faulty c.args.s.listed) (ltb 160 c.args.s.given) ≡ false = sym (c.either.ensures ∙ rw c.faulty.ensures refl) ∙ c.if-either.false in
-    let l = checked-good c.args.s c.args.gives.now c.accept_from-v.result.code c.accept_from-v.result.rows e c.accept_from-v.ensures.0 c.accept_from-v.ensures.1 in
-    record { teller = c.anew-teller.ensures ∙ l.0; lent = refl; wrote = wrote_as l.1 c.put_code.ensures.0; most = c.put_code.ensures.1 }
+    let l = checked-good c.args.s c.args.gives.now (code_of c.accept_from-v.result.outcome) c.accept_from-v.result.rows e c.accept_from-v.ensures.0 c.accept_from-v.ensures.1 in
+    record { teller = c.anew-teller.ensures ∙ l.0; lent = refl; wrote = wrote_as (ap code_text c.code_of.ensures ∙ l.1) c.put_code.ensures.0; most = c.put_code.ensures.1 }
