@@ -21,12 +21,6 @@ use table::table::Table;
 pub mod log;
 pub mod quiet;
 
-fn wide(x: u8) -> u32
-    ensures { (result ≡ x) × (result < 256) }
-{
-    x as u32
-}
-
 // A row for each seat: the sitting dealt in there, and what it is paid.
 fn rows_of(sittings: [u32; 10], paid: [u32; 10]) -> [PaidRow; 10]
     ensures { result ≡ rows_of sittings paid }

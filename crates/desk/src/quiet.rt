@@ -7,7 +7,7 @@ ghost use Rattle.table.specs.Take.{Sound};
 ghost use Rattle.desk.specs.Desk.{shown_of, judged_bytes, SmallPaid, Closed};
 ghost use Rattle.desk.specs.Quiet.{ShowsPots, quiet_kind, quiet_block, keeps_pots};
 
-use crate::{Judged, payout_shown, wide};
+use crate::{Judged, payout_shown};
 use answers::{Shown, write_answer};
 use blocks::Block;
 use laws::either;
@@ -78,7 +78,7 @@ pub fn shown_with(n: u32, code: u8, t: Table, stands: Stands, paid: table::table
     let p = payout_shown(paid);
     Shown {
         n: n,
-        code: wide(code),
+        code: u32::from(code),
         turn: t.play.turn,
         mark: t.play.mark,
         pots: ps,

@@ -87,12 +87,6 @@ pub fn next_number(count: u32) -> u32
     least(count, 999999998) + 1
 }
 
-fn wide(code: u8) -> u32
-    ensures { (result ≡ code) × (result < 256) }
-{
-    code as u32
-}
-
 // The line about a block that is left out.
 fn put_note(buffer: &mut [u8], number: u32, code: u32) -> usize
     requires { (number < 10 ^ 9) × (code < 10 ^ 9) × (length (note_text number code) ≤ length buffer.old) }
@@ -115,5 +109,5 @@ pub fn write_note(number: u32, code: u8, buffer: &mut [u8]) -> usize
     if buffer.len() < NOTE {
         return 0;
     }
-    put_note(buffer, number, wide(code))
+    put_note(buffer, number, u32::from(code))
 }

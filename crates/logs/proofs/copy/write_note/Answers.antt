@@ -10,7 +10,7 @@ pub returns-then-buffer-lt-NOTE : goal.returns-then-buffer-lt-NOTE
 returns-then-buffer-lt-NOTE c = let r = note_short c.args.number c.args.code c.args.buffer.now c.if-code-eq-TAKEN.false c.if-buffer-lt-NOTE.true in record { bytes = r.0; within = r.1 }
 
 pub put_note-requires : goal.put_note-requires
-put_note-requires c = (c.requires, omega (arith, c.wide.ensures.1), omega (arith, note_most_law c.args.number c.wide.result))
+put_note-requires c = (c.requires, omega (arith, c.ranges.code, c.from.ensures), omega (arith, note_most_law c.args.number c.from.result))
 
 pub returns : goal.returns
-returns c = let r = note_done c.args.number c.args.code c.args.buffer.now c.if-code-eq-TAKEN.false c.if-buffer-lt-NOTE.false c.wide.ensures.0 c.put_note.ensures in record { bytes = r.0; within = r.1 }
+returns c = let r = note_done c.args.number c.args.code c.args.buffer.now c.if-code-eq-TAKEN.false c.if-buffer-lt-NOTE.false c.from.ensures c.put_note.ensures in record { bytes = r.0; within = r.1 }
