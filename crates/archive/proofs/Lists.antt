@@ -19,7 +19,8 @@ use Rattle.table.specs.Take.{code_of, next_of}
 use Rattle.table.specs.declared.table.Table.{Table}
 use Rattle.table.proofs.Sounds.{passed}
 use Rattle.blocks.proofs.Bounds.{numbers_bounded}
-use Rattle.records.specs.Stored.{record_at, record_bytes, entry_by, entry_in, put_record}
+use Rattle.std.specs.Prelude.{unwrap_or}
+use Rattle.records.specs.Stored.{no_record, record_at, record_bytes, entry_by, entry_in, put_record}
 use Rattle.records.proofs.Again.{Fits, entry_back}
 use Rattle.records.proofs.Puts.{put_over}
 use Rattle.fresh.specs.Reading.{replacing, played_of, played_to}
@@ -71,7 +72,7 @@ entries_back [] rest a = refl
 entries_back (e ∷ es) rest a =
     ap (λ (l : List ℕ). entry_in l (length es) ∷ entries_to (entry_in l) (length es)) (append_assoc (records_of es) (record_bytes (numbers_of e)) rest)
     ∙ ap₂ ◌∷◌
-    (ap (λ (k : ℕ). entry_by (record_at (records_of es ++ (record_bytes (numbers_of e) ++ rest)) k)) (sym (records_length es)) ∙ entry_back (records_of es) rest e a.0)
+    (ap (λ (k : ℕ). entry_by (unwrap_or (record_at (records_of es ++ (record_bytes (numbers_of e) ++ rest)) k) no_record)) (sym (records_length es)) ∙ entry_back (records_of es) rest e a.0)
     (entries_back es (record_bytes (numbers_of e) ++ rest) a.1)
 
 -- ---- one replaced

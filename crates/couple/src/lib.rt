@@ -214,7 +214,12 @@ pub fn of_none(p: Pair, only: u8, out: &mut [u8]) -> PairAfter
 {
     PairAfter {
         pair: p,
-        written: put_shown(out, only, Due::Stray, b"n=0\ncode=1\nturn=0\nmark=0\nback=0\n"),
+        written: put_shown(
+            out,
+            only,
+            Due::Stray,
+            b"n=0\ncode=1\nturn=0\nmark=0\nback=0\n",
+        ),
     }
 }
 

@@ -26,7 +26,8 @@ pub fn clerk_run(log: &[u8], out: &mut [u8]) -> usize
 // How many bytes of state are lent: the clerk's, and behind them those of an unfinished sheet or block.
 const STATE: usize = FIELDS + ROOM;
 
-// What is refused, and changes nothing: a state, an output or counts that are too short.
+// What is refused, and changes nothing: a state, an output or counts that are too short. Numbers, since the calls of
+// the C interface return them (include/clerk.h).
 const NO_STATE: u32 = 1;
 
 const NO_OUT: u32 = 2;

@@ -71,14 +71,7 @@ fn whole(p: Pair, only: u8, due: Due, lines: &[u8], out: &mut [u8]) -> PairAfter
 }
 
 // A piece, where the opening was not bad.
-fn piece(
-    p: Pair,
-    only: u8,
-    what: Option<Made>,
-    due: Due,
-    lines: &[u8],
-    out: &mut [u8],
-) -> PairAfter
+fn piece(p: Pair, only: u8, what: Option<Made>, due: Due, lines: &[u8], out: &mut [u8]) -> PairAfter
     requires { Good p × (p.shut ≡ false) × (only ≤ 2) × (room_most ≤ length out.old) }
     ensures gave { Gave (ran only p (piece_of what due lines.now)) out.old out.new result.pair result.written }
     ensures good { Good result.pair }

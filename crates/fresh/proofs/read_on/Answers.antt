@@ -20,7 +20,7 @@ loop-k-preserved c =
     let log = a.log.now in
     let k = c.loop-k.k in
     let got : c.unwrap_or-got.result ≡ met log k =
-        c.unwrap_or-got.ensures ∙ ap (λ (o : Option Record). unwrap_or o no_record) (c.next.ensures.got ∙ ap₂ record_at v.2 v.3) in
+    c.unwrap_or-got.ensures ∙ ap (λ (o : Option Record). unwrap_or o no_record) (c.next.ensures.got ∙ ap₂ record_at v.2 v.3) in
     let e : c.entry_or.result ≡ entry_or k a.at a.e (met log k) = c.entry_or.ensures ∙ ap (entry_or k a.at a.e) got in (
       c.play_on-p.ensures.0 ∙ ap₂ (λ (p : Played) (x : Entry). played_of p (k + 1) x) v.0 e ∙ ap (read_to a.start log a.at a.e) (sym (add-one k)),
       c.play_on-p.ensures.1,

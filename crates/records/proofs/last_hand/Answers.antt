@@ -43,7 +43,7 @@ loop-r-preserved c =
     let a : c.next.new.self.at ≡ at + 8 = ap (λ (r : Reader). r.at) c.next.ensures.rest ∙ on log c.loop-r.reader v.0 c.next.ensures.got c.in-Some.is in
     let last : c.later-last.result ≡ later_of c.loop-r.last (at + 8) c.in-Some.r = c.later-last.ensures ∙ ap (λ (k : ℕ). later_of c.loop-r.last k c.in-Some.r) a in
     let goes : last_on (f - 1) log c.next.new.self.at c.later-last.result ≡ last_hand log =
-        ap₂ (last_on (f - 1) log) a last ∙ sym (turn log f at c.loop-r.last (there log c.loop-r.reader v.0 c.next.ensures.got c.in-Some.is) v.1.1.1) ∙ v.1.1.0 in
+    ap₂ (last_on (f - 1) log) a last ∙ sym (turn log f at c.loop-r.last (there log c.loop-r.reader v.0 c.next.ensures.got c.in-Some.is) v.1.1.1) ∙ v.1.1.0 in
     (ap (λ (r : Reader). r.log.now) c.next.ensures.rest ∙ v.0, (f - 1, (goes, omega (arith, h, a, v.1.1.1))))
 
 pub returns : goal.returns
@@ -51,5 +51,5 @@ returns c =
     let v = c.loop-r.invariant in
     let log = c.args.log.now in
     let gone : record_at log c.loop-r.reader.at ≡ None =
-        sym (ap (λ (l : List ℕ). record_at l c.loop-r.reader.at) v.0) ∙ sym c.next.ensures.got ∙ c.in_default.is in
+    sym (ap (λ (l : List ℕ). record_at l c.loop-r.reader.at) v.0) ∙ sym c.next.ensures.got ∙ c.in_default.is in
     sym (done log v.1.0 c.loop-r.reader.at c.loop-r.last gone) ∙ v.1.1.0
