@@ -283,13 +283,7 @@ impl Desk {
             return;
         }
         let from = flush(STDOUT_FILENO, &self.out[..self.at], ENOUGH).unwrap_or(0);
-        self.at = answer(
-            self.wish,
-            self.line,
-            &mut self.cards,
-            &mut self.out,
-            from,
-        );
+        self.at = answer(self.wish, self.line, &mut self.cards, &mut self.out, from);
         self.line = fresh();
     }
 }

@@ -5,6 +5,7 @@ use Rattle.picture.specs.declared.Screen.{Screen}
 use Rattle.picture.specs.declared.Drawn.{Drawn}
 use Rattle.picture.specs.Parts.{drawn_by, DrawnOn, DrawnTo}
 use Rattle.picture.proofs.Parts as parts
+use Rattle.text.proofs.Parts.{part_is}
 
 pub draws_none : (colour : Bool) (s : Screen) (buf part : List ℕ) → (colour ≡ colour) × DrawnTo colour s buf part 0 s buf 0
 draws_none colour s buf part = (refl, parts.draws_none colour s buf part)
@@ -23,4 +24,4 @@ draws_on colour s buf part n colour2 d buf2 colour3 e buf3 k g h =
 pub draws_front : {colour : Bool} {s : Screen} {buf part out buf2 out2 : List ℕ} (r : Drawn) → DrawnOn colour s buf part out buf2 out2 r
     → DrawnTo colour s buf part 0 r.screen buf2 r.used
 draws_front {colour} {s} {buf} {part} {out} {buf2} {out2} r f =
-    let z : r.used ≡ r.used - 0 = omega arith in (omega arith, f.state ∙ ap (λ (i : ℕ). (drawn_by colour s buf part i).after) z)
+    parts.draws_one part 0 r (subst (λ (x : List ℕ). DrawnOn colour s buf x out buf2 out2 r) (sym (part_is 0 part)) f) (omega arith)

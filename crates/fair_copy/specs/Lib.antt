@@ -1,0 +1,2 @@
+-- What the copier hears of a part.
+pub mod Hearing
