@@ -4,7 +4,7 @@
 mod paying;
 mod writer;
 
-ghost use Rattle.std.specs.Prelude.{◌≡◌, ◌≤◌, ◌<◌, ◌^◌, length, set};
+ghost use Rattle.std.specs.Prelude.{◌≡◌, ◌≤◌, ◌<◌, ◌^◌, length};
 ghost use Rattle.writing.specs.AnswerSheet.{Wrote};
 ghost use Rattle.teller.specs.Keeping.{Sound};
 ghost use Rattle.payments.specs.Payments.{Does};
@@ -14,7 +14,7 @@ use laws::both;
 pub use paying::Answered;
 use paying::{check_out, pay_out};
 use teller::{
-    ANSWERS_DUE, FAULT, GIVE, Line, PROPOSAL_DUE, Teller, answer_line, give_line, tray_line,
+    ANSWERS_DUE, FAULT, GIVE, Line, PROPOSAL_DUE, Teller, answer_line, give_line, put, tray_line,
 };
 use writer::{put_code, put_tray};
 
@@ -33,21 +33,13 @@ fn answers_line(check: bool, s: Teller, l: Line, gives: &mut [u32], out: &mut [u
     }
 }
 
-fn store(gives: &mut [u32], i: usize, v: u32)
-    ensures { gives.new ≡ set gives.old i v }
-{
-    if i < gives.len() {
-        gives[i] = v;
-    }
-}
-
 // A line where a proposal is due: one more number, or its end, and then a line as any other.
 fn proposal_line(s: Teller, l: Line, gives: &mut [u32], out: &mut [u8]) -> Answered
     requires { Sound s × (l.value < 10 ^ 9) × (length gives.old ≡ 160) × (line_room ≤ length out.old) }
     ensures { Does (proposal_line s l gives.old) result gives.new out.old out.new line_room }
 {
     if l.kind == GIVE {
-        store(gives, s.given, l.value);
+        put(gives, s.given, l.value);
         let t = give_line(s, l);
         return Answered {
             teller: t,

@@ -5,7 +5,7 @@
 ghost use Rattle.std.specs.Prelude.{◌≡◌, ◌++◌, ◌≤◌, length, take, drop};
 ghost use Rattle.tray.specs.Proposal.{code_of};
 ghost use Rattle.rows.specs.Rows.{judged_rows, rows_after, proposing_rows, list_of};
-ghost use Rattle.rows.specs.Columns.{no_columns, with_row, settled_of, proposed_code, proposed_list, recount};
+ghost use Rattle.rows.specs.Columns.{no_columns, with_row, columns_to, settled_of, proposed_code, proposed_list, recount};
 
 use paper::Refusal;
 
@@ -45,6 +45,17 @@ fn with_row(c: Columns, r: Row, i: usize) -> Columns
     d
 }
 
+// The columns of all rows.
+fn columns_of(rows: &[Row]) -> Columns
+    ensures { result ≡ columns_to (length rows.now) rows.now }
+{
+    let mut columns = no_columns();
+    for (i, row) in rows.iter().enumerate() {
+        columns = with_row(columns, *row, i);
+    }
+    columns
+}
+
 // The checker's answer, and the counts after it.
 #[derive(Clone, Copy)]
 pub struct Answer {
@@ -79,15 +90,11 @@ fn recounted(s: Answer, r: Row, i: usize) -> Row
 }
 
 // The checker's answer for the lent rows: accepted, out of bounds, or not exact. Where it accepts, each row's count is lowered by just what is taken from it;
-// else each row is as it was. One loop reads the rows and one writes their counts.
+// else each row is as it was. The rows are read into columns, and one loop writes their counts.
 pub fn accept(rows: &mut [Row], paid: &[u32], proposal: &[u32]) -> Result<(), Refusal>
     ensures { (code_of result ≡ judged_rows rows.old paid.now proposal.now) × (rows.new ≡ rows_after (code_of result) (length paid.now) proposal.now rows.old) }
 {
-    let mut columns = no_columns();
-    for (i, row) in rows.iter().enumerate() {
-        columns = with_row(columns, *row, i);
-    }
-    let s = settled(columns, rows.len(), paid, proposal);
+    let s = settled(columns_of(rows), rows.len(), paid, proposal);
     for (j, row) in rows.iter_mut().enumerate() {
         *row = recounted(s, *row, j);
     }
@@ -111,11 +118,7 @@ fn proposed(c: Columns, n: usize, paid: &[u32], list: &mut [u32]) -> Result<(), 
 pub fn propose(rows: &[Row], paid: &[u32], list: &mut [u32]) -> Result<(), Refusal>
     ensures { (code_of result ≡ proposing_rows rows.now paid.now (length list.old)) × (list.new ≡ list_of (code_of result) rows.now paid.now list.old) }
 {
-    let mut columns = no_columns();
-    for (i, row) in rows.iter().enumerate() {
-        columns = with_row(columns, *row, i);
-    }
-    proposed(columns, rows.len(), paid, list)
+    proposed(columns_of(rows), rows.len(), paid, list)
 }
 
 // A tray's rows after an answer, and the answer.

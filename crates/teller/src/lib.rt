@@ -7,5 +7,5 @@ mod state;
 pub use keys::{GIVE, Line, said};
 pub use state::{
     ANSWERS_DUE, FAULT, Listed, PROPOSAL_DUE, Teller, Tray, anew, answer_line, faulty, give_line,
-    start, tray_line,
+    put, start, tray_line,
 };

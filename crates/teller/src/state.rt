@@ -144,15 +144,13 @@ fn one_more(n: usize, most: usize) -> usize
     if n < most { n + 1 } else { most }
 }
 
-// The rows with row i; past the sixteenth there is none.
-fn put_row(row: [Row; 16], i: usize, r: Row) -> [Row; 16]
-    ensures { result ≡ set row i r }
+// A value is put at a place; past the end there is none.
+pub fn put<T: Copy>(list: &mut [T], i: usize, v: T)
+    ensures { list.new ≡ set list.old i v }
 {
-    let mut a = row;
-    if i < 16 {
-        a[i] = r;
+    if i < list.len() {
+        list[i] = v;
     }
-    a
 }
 
 // The tray's line that is due is good, and this is its number.
@@ -169,13 +167,13 @@ fn taken_due(s: Teller, v: u32) -> Teller
         tray.worth = v;
         return with_tray(s, COUNT_DUE, tray);
     }
-    let row = tray.row;
     let r = Row {
         worth: tray.worth,
         count: v,
     };
-    let next = put_row(row, tray.read, r);
-    tray.row = next;
+    let mut row = tray.row;
+    put(&mut row, tray.read, r);
+    tray.row = row;
     tray.read = one_more(tray.read, 16);
     with_tray(s, due_after(tray.read, tray.rows), tray)
 }
@@ -200,23 +198,12 @@ fn now_bad(bad: bool, wrong: bool, good: bool) -> bool
     either(bad, either(wrong, !good))
 }
 
-// The numbers with the i-th; past the tenth there is none.
-fn put_number(list: [u32; 10], i: usize, v: u32) -> [u32; 10]
-    ensures { result ≡ set list i v }
-{
-    let mut a = list;
-    if i < 10 {
-        a[i] = v;
-    }
-    a
-}
-
 // A sitting, where none waits for its `paid`.
 fn sitting_line(x: Listed, l: Line) -> Listed
     ensures { result ≡ sitting_line x l }
 {
-    let list = x.sittings;
-    let sittings = put_number(list, x.count, l.value);
+    let mut sittings = x.sittings;
+    put(&mut sittings, x.count, l.value);
     let paid = x.paid;
     Listed {
         count: x.count,
@@ -231,8 +218,8 @@ fn sitting_line(x: Listed, l: Line) -> Listed
 fn paid_line(x: Listed, l: Line) -> Listed
     ensures { result ≡ paid_line x l }
 {
-    let list = x.paid;
-    let paid = put_number(list, x.count, l.value);
+    let mut paid = x.paid;
+    put(&mut paid, x.count, l.value);
     let sittings = x.sittings;
     Listed {
         count: one_more(x.count, 11),

@@ -13,7 +13,7 @@ use Rattle.payments.proofs.proposal_line.Goals as goal
 
 pub returns-then-l-eq-GIVE : goal.returns-then-l-eq-GIVE
 unfolding proposal_line
-returns-then-l-eq-GIVE c = rw (eq-eqb c.args.l.kind 6 c.if-l-eq-GIVE.true) (record { teller = c.give_line-t.ensures; lent = c.store.ensures; wrote = record { count = refl; sheet = refl }; most = omega arith })
+returns-then-l-eq-GIVE c = rw (eq-eqb c.args.l.kind 6 c.if-l-eq-GIVE.true) (record { teller = c.give_line-t.ensures; lent = c.put.ensures; wrote = record { count = refl; sheet = refl }; most = omega arith })
 
 pub check_out-a-requires : goal.check_out-a-requires
 check_out-a-requires c = (c.requires.0, c.requires.2, omega (arith, c.requires.3))

@@ -1,8 +1,8 @@
 -- `propose` meets its contract: the columns are those of all rows, and the proposer over them answers as it does over the rows.
-use Rattle.std.proofs.Common.{◌≡◌, ◌∙◌, ap, length, arith}
+use Rattle.std.proofs.Common.{◌≡◌, ◌∙◌, ap, length}
 use Rattle.rows.specs.declared.Columns.{Columns}
 use Rattle.rows.specs.Rows.{proposing_rows}
-use Rattle.rows.specs.Columns.{columns_to, proposed_code, proposed_list}
+use Rattle.rows.specs.Columns.{proposed_code, proposed_list}
 use Rattle.rows.proofs.Settling.{rows_proposed, rows_listed}
 use Rattle.tray.specs.Proposal.{code_of}
 use Rattle.rows.proofs.propose.Goals as goal
@@ -12,8 +12,7 @@ returns c =
     let rows = c.args.rows.now in
     let paid = c.args.paid.now in
     let old = c.args.list.now in
-    let e : c.loop-i.i ≡ length rows = omega (arith, c.loop-i-test.false) in
-    let all : c.loop-i.columns ≡ columns_to (length rows) rows = c.loop-i.invariant ∙ ap (λ i. columns_to i rows) e in
+    let all = c.columns_of.ensures in
     let code : code_of c.proposed.result ≡ proposing_rows rows paid (length old) =
     c.proposed.ensures.0 ∙ ap (λ (k : Columns). proposed_code k (length rows) paid (length old)) all ∙ rows_proposed rows paid (length old) in (
       code,

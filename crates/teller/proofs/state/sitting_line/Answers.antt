@@ -3,4 +3,4 @@ use mathlib.Core.Path.{refl}
 use Rattle.teller.proofs.state.sitting_line.Goals as goal
 
 pub returns : goal.returns
-returns c = rw (c.now_bad.ensures, c.put_number-sittings.ensures) refl
+returns c = rw (c.now_bad.ensures, c.put.ensures) refl

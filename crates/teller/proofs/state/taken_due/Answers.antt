@@ -14,4 +14,4 @@ returns-then-s-eq-WORTH_DUE c = rw (ne_eqb c.args.s.due 0 c.if-s-eq-ROWS_DUE.fal
 
 pub returns : goal.returns
 unfolding taken_due
-returns c = rw (ne_eqb c.args.s.due 0 c.if-s-eq-ROWS_DUE.false, ne_eqb c.args.s.due 1 c.if-s-eq-WORTH_DUE.false) (c.with_tray-2.ensures ∙ rw (c.due_after-2.ensures, c.one_more.ensures, c.put_row-next.ensures) refl)
+returns c = rw (ne_eqb c.args.s.due 0 c.if-s-eq-ROWS_DUE.false, ne_eqb c.args.s.due 1 c.if-s-eq-WORTH_DUE.false) (c.with_tray-2.ensures ∙ rw (c.due_after-2.ensures, c.one_more.ensures, c.put.ensures) refl)
