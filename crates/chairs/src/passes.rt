@@ -33,6 +33,7 @@ pub(crate) fn mask<F: Fn(&Chair) -> bool>(cs: &[Chair], asked: F) -> u16
     ensures { (f : Chair → ℕ) → ((c : Chair) (r : Bool) → FnReturnsAt F.Fn asked c r → one r ≡ f c) → result ≡ mask_at (map f cs.now) 1 }
 {
     let mut m: u16 = 0;
+    // From the last chair to the first, since each doubles what is behind it.
     for i in (0..cs.len()).rev() {
         m = u16::from(asked(&cs[i])) + 2 * m;
     }

@@ -102,16 +102,16 @@ pub(crate) fn first_from<F: Fn(&Chair) -> bool>(
 }
 
 // The first seat clockwise from s, which comes last, that owes; 0 where there is none, or fewer than two hands are live.
-pub fn turn_from(cs: [Chair; 10], seats: u32, mark: u32, s: u32) -> u32
-    requires { Seats seats cs × (s ≤ seats) }
-    ensures { result ≡ pick (leb 2 (count_of (want_of Live) cs)) (first_of (want_of (Owing mark (leb (count_of (want_of LiveWithChips) cs) 1))) cs (clockwise seats s)) 0 }
+pub fn turn_from(cs: &[Chair; 10], seats: u32, mark: u32, s: u32) -> u32
+    requires { Seats seats cs.now × (s ≤ seats) }
+    ensures { result ≡ pick (leb 2 (count_of (want_of Live) cs.now)) (first_of (want_of (Owing mark (leb (count_of (want_of LiveWithChips) cs.now) 1))) cs.now (clockwise seats s)) 0 }
 {
     let at = &cs[..seats as usize];
     if count(at, |c| c.dealt.live) < 2 {
         return 0;
     }
     let alone = count(at, |c| c.live_with_chips()) <= 1;
-    first_from(&cs, seats, s, |c| c.owes(mark, alone))
+    first_from(cs, seats, s, |c| c.owes(mark, alone))
 }
 
 // All chips: the stacks and what lies in the open hand.

@@ -173,8 +173,7 @@ impl Table {
         requires { Seated self × (s ≤ self.sheet.seats) }
         ensures { result ≡ first_owing self s }
     {
-        let cs = self.chairs;
-        chairs::seats::turn_from(cs, self.sheet.seats, self.play.mark, s)
+        chairs::seats::turn_from(&self.chairs, self.sheet.seats, self.play.mark, s)
     }
 
     // Whether nobody owes: then, and only then, it is nobody's turn.
@@ -186,9 +185,9 @@ impl Table {
     }
 
     // The turn with other chairs and another mark: the first owing seat clockwise from s; where the entry moves no turn, as it was.
-    pub(crate) fn next_turn(self, ok: bool, cs: [Chair; 10], mark: u32, s: u32) -> u32
-        requires { Seats self.sheet.seats cs × (s ≤ self.sheet.seats) }
-        ensures { result ≡ pick ok (first_owing (with_mark (with_chairs self cs) mark self.play.lift) s) self.play.turn }
+    pub(crate) fn next_turn(self, ok: bool, cs: &[Chair; 10], mark: u32, s: u32) -> u32
+        requires { Seats self.sheet.seats cs.now × (s ≤ self.sheet.seats) }
+        ensures { result ≡ pick ok (first_owing (with_mark (with_chairs self cs.now) mark self.play.lift) s) self.play.turn }
     {
         if ok {
             chairs::seats::turn_from(cs, self.sheet.seats, mark, s)
@@ -217,7 +216,7 @@ impl Table {
         cs[i] = d;
         let mark = laws::chosen(wager, x.a, self.play.mark);
         let lift = laws::chosen(wager, self.lift_after(x.a), self.play.lift);
-        let next = self.next_turn(ok, cs, mark, x.seat);
+        let next = self.next_turn(ok, &cs, mark, x.seat);
         let mut u = self;
         u.chairs = cs;
         u.play.mark = mark;

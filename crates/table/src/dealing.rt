@@ -77,7 +77,7 @@ impl Table {
         chairs::passes::sweep(&mut cs[..last], |c| c.rounded());
         let mark = laws::chosen(round, 0, self.play.mark);
         let lift = laws::chosen(round, self.sheet.big, self.play.lift);
-        let next = self.next_turn(round, cs, 0, laws::short_of(self.play.puck, 1));
+        let next = self.next_turn(round, &cs, 0, laws::short_of(self.play.puck, 1));
         let mut u = self;
         u.chairs = cs;
         u.board = d;

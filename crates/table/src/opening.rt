@@ -46,7 +46,7 @@ impl Table {
             second: d.paid(big),
         };
         let ds = chairs::passes::deal_all(cs, self.sheet.seats, x);
-        let turn = chairs::seats::turn_from(ds, self.sheet.seats, big, next);
+        let turn = chairs::seats::turn_from(&ds, self.sheet.seats, big, next);
         let p = Play {
             opened: true,
             puck: s,

@@ -8,7 +8,7 @@ ghost use Rattle.table.specs.State.{with_chairs, with_sitting, with_taken, with_
 use chairs::Chair;
 use paper::{Refusal, Sheet, TAKEN};
 
-// How the open hand stands; without one, the puck seat of the last.
+// How the open hand stands; without one, the puck seat of the last. Seats count from 1, and 0 is no seat: a public type that others read.
 #[derive(Clone, Copy)]
 pub struct Play {
     pub opened: bool,

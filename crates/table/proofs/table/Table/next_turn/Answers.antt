@@ -8,7 +8,7 @@ use Rattle.table.proofs.table.Table.next_turn.Goals as goal
 pub returns-then-ok : goal.returns-then-ok
 unfolding live_hands only_with_chips
 returns-then-ok c = let t = c.args.self in
-    let u = with_mark (with_chairs t c.args.cs) c.args.mark t.play.lift in
+    let u = with_mark (with_chairs t c.args.cs.now) c.args.mark t.play.lift in
     rw c.if-ok.true (c.turn_from.ensures ∙ owing_is u c.args.s)
 
 pub returns-else-ok : goal.returns-else-ok
