@@ -34,9 +34,7 @@ fn packed(w: &[u8]) -> u64
     ensures { result ≡ pack_of w.now }
 {
     let mut v: u64 = 0;
-    let mut i = w.len();
-    while 0 < i {
-        i -= 1;
+    for i in (0..w.len()).rev() {
         v = v * 256 + wide(w[i]);
     }
     v
@@ -48,12 +46,10 @@ pub fn kind_place(w: &[u8]) -> usize
     ensures { result ≡ place_in kind_names w.now }
 {
     let word = packed(w);
-    let mut k: usize = 0;
-    while k < 12 {
-        if KINDS[k] == word {
+    for (k, kind) in KINDS.iter().enumerate() {
+        if *kind == word {
             return k;
         }
-        k += 1;
     }
     12
 }
@@ -62,16 +58,10 @@ pub fn kind_place(w: &[u8]) -> usize
 fn all_within(w: &[u8], lo: u8, hi: u8) -> bool
     ensures { result ≡ all_within lo hi w.now }
 {
-    let mut i = 0;
-    while i < w.len() {
-        let b = w[i];
-        if b < lo {
+    for b in w {
+        if *b < lo || hi < *b {
             return false;
         }
-        if hi < b {
-            return false;
-        }
-        i += 1;
     }
     true
 }
@@ -133,19 +123,10 @@ pub fn entry_of(kind: u32, seat: u32, a: u32, b: u32) -> Result<Entry, Refusal>
 pub fn letter_run(part: &[u8]) -> usize
     ensures { (result ≤ 8) × (result ≤ length part.now) × (all_letters (take result part.now) ≡ true) }
 {
-    let mut i: usize = 0;
-    while i < 8 {
-        if part.len() <= i {
+    for (i, b) in part.iter().take(8).enumerate() {
+        if *b < 97 || 122 < *b {
             return i;
         }
-        let b = part[i];
-        if b < 97 {
-            return i;
-        }
-        if 122 < b {
-            return i;
-        }
-        i += 1;
     }
-    i
+    least(8, part.len())
 }

@@ -26,16 +26,14 @@ fn digit_run(part: &[u8]) -> Run
     ensures { (result.count ≤ 9) × (all_digits (take result.count part.now) ≡ true) × (result.value ≡ value_from 0 (take result.count part.now)) }
 {
     let mut v: u32 = 0;
-    let mut i: usize = 0;
-    while i < 9 {
+    for i in 0..9 {
         let d = digit(part[i]);
         if 9 < d {
             return Run { count: i, value: v };
         }
         v = v * 10 + d;
-        i += 1;
     }
-    Run { count: i, value: v }
+    Run { count: 9, value: v }
 }
 
 // A number and its LF at the front of `part`: its digits; none where there is no such number.

@@ -15,17 +15,11 @@ fn digits_value(part: &[u8]) -> Option<u32>
     ensures { result ≡ digits_from 0 part.now }
 {
     let mut v: u32 = 0;
-    let mut i = 0;
-    while i < part.len() {
-        let b = part[i];
-        if b < 48 {
+    for b in part {
+        if *b < 48 || 57 < *b {
             return None;
         }
-        if 57 < b {
-            return None;
-        }
-        v = v * 10 + wide(b - 48);
-        i += 1;
+        v = v * 10 + wide(*b - 48);
     }
     Some(v)
 }
