@@ -22,12 +22,6 @@ const KINDS: [u64; 12] = [
     0x64696f76,
 ];
 
-fn wide(b: u8) -> u64
-    ensures { result ≡ b }
-{
-    b as u64
-}
-
 // A word of at most eight bytes as one number, its first byte the lowest.
 fn packed(w: &[u8]) -> u64
     requires { length w.now ≤ 8 }
@@ -35,7 +29,7 @@ fn packed(w: &[u8]) -> u64
 {
     let mut v: u64 = 0;
     for i in (0..w.len()).rev() {
-        v = v * 256 + wide(w[i]);
+        v = v * 256 + u64::from(w[i]);
     }
     v
 }
@@ -123,10 +117,11 @@ pub fn entry_of(kind: u32, seat: u32, a: u32, b: u32) -> Result<Entry, Refusal>
 pub fn letter_run(part: &[u8]) -> usize
     ensures { (result ≤ 8) × (result ≤ length part.now) × (all_letters (take result part.now) ≡ true) }
 {
-    for (i, b) in part.iter().take(8).enumerate() {
-        if *b < 97 || 122 < *b {
+    let most = part.len().min(8);
+    for i in 0..most {
+        if part[i] < 97 || 122 < part[i] {
             return i;
         }
     }
-    least(8, part.len())
+    most
 }

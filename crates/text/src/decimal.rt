@@ -2,13 +2,6 @@
 ghost use Rattle.std.specs.Prelude.{◌≡◌, ◌≤◌, length};
 ghost use Rattle.text.specs.Number.{number_of, digits_from};
 
-// A byte as a number that can grow.
-pub fn wide(b: u8) -> u32
-    ensures { result ≡ b }
-{
-    b as u32
-}
-
 // The value of at most nine digits.
 fn digits_value(part: &[u8]) -> Option<u32>
     requires { length part.now ≤ 9 }
@@ -19,7 +12,7 @@ fn digits_value(part: &[u8]) -> Option<u32>
         if *b < 48 || 57 < *b {
             return None;
         }
-        v = v * 10 + wide(*b - 48);
+        v = v * 10 + u32::from(*b - 48);
     }
     Some(v)
 }

@@ -7,4 +7,4 @@ pub overflow_mul-v : goal.overflow_mul-v
 overflow_mul-v c = omega (arith, room c.loop-b.v 0 c.loop-b.b-index c.loop-b.invariant.0 (omega arith) (omega arith))
 
 pub overflow_add-v : goal.overflow_add-v
-overflow_add-v c = omega (arith, room c.loop-b.v c.wide.result c.loop-b.b-index c.loop-b.invariant.0 (omega arith) (omega arith))
+overflow_add-v c = omega (arith, room c.loop-b.v c.from.result c.loop-b.b-index c.loop-b.invariant.0 (omega arith) (omega arith))
