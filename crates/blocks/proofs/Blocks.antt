@@ -28,9 +28,6 @@ pub place_on : (ts : List (List ℕ)) (w : List ℕ) (k : ℕ) → k < length ts
     → k + place_in (drop k ts) w ≡ k + 1 + place_in (drop (k + 1) ts) w
 place_on ts w k h e = rw (add-one k, drop-cons ts k [], e) (omega arith)
 
-pub place_end : (ts : List (List ℕ)) (w : List ℕ) (k : ℕ) → length ts ≤ k → k + place_in (drop k ts) w ≡ k
-place_end ts w k h = rw (drop_of_length-le ts h) (omega arith)
-
 pub place_within : (ts : List (List ℕ)) (w : List ℕ) → place_in ts w ≤ length ts
 place_within [] w = omega arith
 place_within (t ∷ ts) w = go (same_list w t) (place_within ts w)

@@ -10,7 +10,7 @@ use lib.ListN.{length, get_or, take, drop, length-append, length-drop, take-appe
 use lib.Seq.{drop-cons, length-take-le, get_or-drop}
 use lib.Dec.{eqb, ltb}
 use borrow.Author.Tests.{lt-ltb, eqb-false}
-use Rattle.std.specs.Prelude.{Option, Some}
+use Rattle.std.specs.Prelude.{Option, Some, None, IfSome}
 use Rattle.laws.specs.Tests.{pick}
 use Rattle.text.specs.Bytes.{all_within, pack_of}
 use Rattle.text.specs.Number.{number_of, value_from}
@@ -83,7 +83,7 @@ module _ (key log part : List ℕ) (e : ℕ) (f : line_len key ≡ length key) (
   pub number_seen : {v : ℕ} → number_of (take e part) ≡ Some v → AtOneGo (line_number key log) log (record { value = v; next = length key + 1 + e + 1 })
   number_seen {v} q =
       let n = no_number (take e part) v q in
-      (seen_within, λ o. (ap number_of (value_seen n.0 (omega (arith, n.1, count))) ∙ q, after_seen n.0, omega (arith, line_seen n.0)))
+      (seen_within, ap number_of (value_seen n.0 (omega (arith, n.1, count))) ∙ q, after_seen n.0, omega (arith, line_seen n.0))
 
 -- ---- one digit, two digits
 
@@ -161,22 +161,23 @@ abbrev line_at : ℕ → Run → Line
 line_at from d = record { value = d.value; next = from + d.count + 1 }
 
 -- what `line_from` promises
-abbrev Made : ℕ → Run → Line → Type 0
-Made from d r = (0 < d.count → r ≡ line_at from d) × (d.count ≡ 0 → r.next ≡ 0)
+abbrev Made : ℕ → Run → Option Line → Type 0
+Made from d r = (0 < d.count → r ≡ Some (line_at from d)) × (d.count ≡ 0 → r ≡ None)
 
-pub unread : (x : Option ℕ) (log : List ℕ) {v : ℕ} → AtOneGo x log (record { value = v; next = 0 })
-unread x log = (omega arith, λ o. absurd (omega arith))
+-- a line that is read at one go, if there is one
+abbrev Seen : Option ℕ → List ℕ → ℕ → Option Line → Type 0
+Seen x log most r = IfSome r (λ (y : Line). AtOneGo x log y × (y.next ≤ most))
 
-line_made : (x : Option ℕ) (log : List ℕ) (from most : ℕ) (d : Run) (r : Line) → Made from d r → d.count ≤ most → (0 < d.count → AtOneGo x log (line_at from d))
-    → AtOneGo x log r × (r.next ≤ from + most + 1)
+line_made : (x : Option ℕ) (log : List ℕ) (from most : ℕ) (d : Run) (r : Option Line) → Made from d r → d.count ≤ most → (0 < d.count → AtOneGo x log (line_at from d))
+    → Seen x log (from + most + 1) r
 line_made x log from most d r m s f = ⊎_elim
-    (λ o. subst (λ (y : Line). AtOneGo x log y × (y.next ≤ from + most + 1)) (sym (m.0 o)) (f o, omega arith))
-    (λ o. let z : r.next ≡ 0 = m.1 (omega arith) in ((omega arith, λ n. absurd (omega arith)), omega arith))
+    (λ o. subst (Seen x log (from + most + 1)) (sym (m.0 o)) (f o, omega arith))
+    (λ o. subst (Seen x log (from + most + 1)) (sym (m.1 (omega arith))) tt)
     (le_or_lt 1 d.count)
 
-pub number_read : (key log part : List ℕ) (d : Run) {r : Line} → line_len key ≡ length key → length key ≤ 8 → has_key key log ≡ true
+pub number_read : (key log part : List ℕ) (d : Run) {r : Option Line} → line_len key ≡ length key → length key ≤ 8 → has_key key log ≡ true
     → part ≡ drop (length key + 1) log → 10 ≤ length part
-    → NumberAt part d → Made (length key + 1) d r → AtOneGo (line_number key log) log r × (r.next ≤ length key + 1 + 9 + 1)
+    → NumberAt part d → Made (length key + 1) d r → Seen (line_number key log) log (length key + 1 + 9 + 1) r
 number_read key log part d {r} f w k p h s m =
     line_made (line_number key log) log (length key + 1) 9 d r m s.0
     (λ o. number_seen key log part d.count f w k p (omega arith) (s.1 o).1 (s.1 o).0)
@@ -192,17 +193,15 @@ kind_seen log part e {v} k p h z o s l q =
     ap (λ (b : List ℕ). kind_of b) (value_seen key log part e refl (omega arith) k p h z n (omega arith))
     ∙ kind_letters (take e part) (omega arith) (omega arith) l ∙ ap (λ (x : ℕ). Some x) (sym q) in (
       omega (arith, seen_within key log part e refl (omega arith) k p h z),
-      λ g. (
-        r,
-        after_seen key log part e refl (omega arith) k p h z n,
-        omega (arith, line_seen key log part e refl (omega arith) k p h z n),
-      ),
+      r,
+      after_seen key log part e refl (omega arith) k p h z n,
+      omega (arith, line_seen key log part e refl (omega arith) k p h z n),
     )
 
-pub kind_read : (log part : List ℕ) (d : Run) {r : Line} → has_key (100 ∷ 111 ∷ []) log ≡ true → part ≡ drop 3 log → 9 ≤ length part
+pub kind_read : (log part : List ℕ) (d : Run) {r : Option Line} → has_key (100 ∷ 111 ∷ []) log ≡ true → part ≡ drop 3 log → 9 ≤ length part
     → (d.count ≤ 8)
     × (0 < d.count → (all_letters (take d.count part) ≡ true) × (get_or part d.count 0 ≡ 10) × (d.value ≡ place_in kind_names (take d.count part)))
-    → Made 3 d r → AtOneGo (line_kind log) log r × (r.next ≤ 3 + 8 + 1)
+    → Made 3 d r → Seen (line_kind log) log (3 + 8 + 1) r
 kind_read log part d {r} k p h s m =
     line_made (line_kind log) log 3 8 d r m s.0
     (λ o. kind_seen log part d.count k p (omega (arith, s.0)) (s.1 o).1 o s.0 (s.1 o).0 (s.1 o).2)
@@ -211,9 +210,6 @@ kind_read log part d {r} k p h s m =
 
 drop_count : (i : ℕ) (l : List ℕ) → i ≤ length l → length (drop i l) + i ≡ length l
 drop_count i l h = omega (arith, length-drop i l)
-
-pub none_used : 0 < 0 → ⊥
-none_used o = omega arith
 
 -- what is lent of the log behind four lines has room for the fifth
 abbrev later : ℕ → List ℕ → List ℕ
@@ -230,30 +226,30 @@ fifth_room log i j k l h p q r s =
     omega (arith, later_count l (later k (later j (later i log))) (omega arith))
 
 pub five_seen : (log : List ℕ) {l1 l2 l3 l4 : List ℕ} {n k s a b : Line}
-    → AtOneGo (line_number (110 ∷ []) log) log n → 0 < n.next
-    → l1 ≡ drop n.next log → AtOneGo (line_kind l1) l1 k → 0 < k.next
-    → l2 ≡ drop k.next l1 → AtOneGo (line_number (115 ∷ 101 ∷ 97 ∷ 116 ∷ []) l2) l2 s → 0 < s.next
-    → l3 ≡ drop s.next l2 → AtOneGo (line_number (97 ∷ []) l3) l3 a → 0 < a.next
-    → l4 ≡ drop a.next l3 → AtOneGo (line_number (98 ∷ []) l4) l4 b → 0 < b.next
+    → AtOneGo (line_number (110 ∷ []) log) log n
+    → l1 ≡ drop n.next log → AtOneGo (line_kind l1) l1 k
+    → l2 ≡ drop k.next l1 → AtOneGo (line_number (115 ∷ 101 ∷ 97 ∷ 116 ∷ []) l2) l2 s
+    → l3 ≡ drop s.next l2 → AtOneGo (line_number (97 ∷ []) l3) l3 a
+    → l4 ≡ drop a.next l3 → AtOneGo (line_number (98 ∷ []) l4) l4 b
     → ◌≡◌ {A = Front} (record {
       block = Raw n.value k.value s.value a.value b.value;
       used = n.next + k.next + s.next + a.next + b.next;
       whole = true;
     }) (front_of log)
 unfolding block_ended rest_of
-five_seen log {l1} {l2} {l3} {l4} {n} {k} {s} {a} {b} rn pn e1 rk pk e2 rs ps e3 ra pa e4 rb pb =
-    let f1 : l1 ≡ after_line log = e1 ∙ sym (rn.1 pn).1 in
-    let f2 : l2 ≡ after_line l1 = e2 ∙ sym (rk.1 pk).1 in
-    let f3 : l3 ≡ after_line l2 = e3 ∙ sym (rs.1 ps).1 in
-    let f4 : l4 ≡ after_line l3 = e4 ∙ sym (ra.1 pa).1 in
+five_seen log {l1} {l2} {l3} {l4} {n} {k} {s} {a} {b} rn e1 rk e2 rs e3 ra e4 rb =
+    let f1 : l1 ≡ after_line log = e1 ∙ sym rn.2 in
+    let f2 : l2 ≡ after_line l1 = e2 ∙ sym rk.2 in
+    let f3 : l3 ≡ after_line l2 = e3 ∙ sym rs.2 in
+    let f4 : l4 ≡ after_line l3 = e4 ∙ sym ra.2 in
     let four : after_lines 4 log ≡ l4 = rw (← f1, ← f2, ← f3, ← f4) in
-    let five : rest_of log ≡ drop b.next l4 = ap after_line four ∙ (rb.1 pb).1 in
+    let five : rest_of log ≡ drop b.next l4 = ap after_line four ∙ rb.2 in
     let blk : Raw n.value k.value s.value a.value b.value ≡ block_of log =
-    block_five log (λ z. omega (arith, rn.0)) (sym (rn.1 pn).0) f1 (sym (rk.1 pk).0) f2 (sym (rs.1 ps).0) f3 (sym (ra.1 pa).0) f4 (sym (rb.1 pb).0) refl in
+    block_five log (λ z. omega (arith, rn.0)) (sym rn.1) f1 (sym rk.1) f2 (sym rs.1) f3 (sym ra.1) f4 (sym rb.1) refl in
     let total : n.next + k.next + s.next + a.next + b.next ≡ length log - length (rest_of log) =
     omega (arith, ap length five, drop_count b.next l4 rb.0, ap length e4, drop_count a.next l3 ra.0, ap length e3, drop_count s.next l2 rs.0, ap length e2, drop_count k.next l1 rk.0, ap length e1, drop_count n.next log rn.0) in
     let end : true ≡ ltb (line_len (after_lines 4 log)) (length (after_lines 4 log)) =
-    rw four (sym (lt-ltb (line_len l4) (length l4) (omega (arith, rb.0, (rb.1 pb).2)))) in
+    rw four (sym (lt-ltb (line_len l4) (length l4) (omega (arith, rb.0, rb.3)))) in
     joined blk total end
   where
     joined : {x y : Block} {u v : ℕ} {p q : Bool} → x ≡ y → u ≡ v → p ≡ q

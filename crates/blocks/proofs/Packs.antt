@@ -187,6 +187,3 @@ pub pack_more : (n v d i : ℕ) → 0 < i → i ≤ n → d ≤ 255 → v < 256 
 pack_more n v d i p l q h =
     let e : n - (i - 1) ≡ suc (n - i) = omega arith in
     rw e (pack_step v d (n - i) h q)
-
-pub pack_none : (n : ℕ) → 0 < 256 ^ (n - n)
-pack_none n = let e : n - n ≡ 0 = omega arith in rw e (omega arith)

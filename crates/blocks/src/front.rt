@@ -1,6 +1,6 @@
 // The block at the front of a log, with its length: five well-formed lines are read at one go, with no look for a line's end first, and other bytes by
 // the reader.
-ghost use Rattle.std.specs.Prelude.{◌≡◌, [], ◌∷◌, ◌+◌, ◌≤◌, ◌<◌, length};
+ghost use Rattle.std.specs.Prelude.{◌≡◌, [], ◌∷◌, ◌+◌, ◌≤◌, ◌<◌, length, Some, None, IfSome};
 ghost use Rattle.text.specs.Line.{line_number};
 ghost use Rattle.blocks.specs.Block.{line_kind, rest_of};
 ghost use Rattle.blocks.specs.Front.{front_of, AtOneGo};
@@ -20,135 +20,101 @@ pub struct Front {
     pub whole: bool,
 }
 
-// A line's value, and where the next line starts; 0 where the line was not read.
+// A line's value, and where the next line starts.
 #[derive(Clone, Copy)]
 pub struct Line {
     pub value: u32,
     pub next: usize,
 }
 
-const UNREAD: Line = Line { value: 0, next: 0 };
-
-// The line whose value is these bytes and starts at `from`, with its LF behind them; unread where there are none.
-fn line_from(from: usize, d: Run) -> Line
+// The line whose value is these bytes and starts at `from`, with its LF behind them; none where there are no bytes.
+fn line_from(from: usize, d: Run) -> Option<Line>
     requires { (from ≤ 5) × (d.count ≤ 9) }
-    ensures { (0 < d.count → result ≡ record { value = d.value; next = from + d.count + 1 }) × (d.count ≡ 0 → result.next ≡ 0) }
+    ensures { (0 < d.count → result ≡ Some (record { value = d.value; next = from + d.count + 1 })) × (d.count ≡ 0 → result ≡ None) }
 {
-    let e = d.count;
-    if 0 < e {
-        return Line {
-            value: d.value,
-            next: from + e + 1,
-        };
+    if d.count == 0 {
+        return None;
     }
-    UNREAD
+    Some(Line {
+        value: d.value,
+        next: from + d.count + 1,
+    })
 }
 
 // The line of each key, at the front of a log that has room for any such line.
-fn n_line(log: &[u8]) -> Line
+fn n_line(log: &[u8]) -> Option<Line>
     requires { 12 ≤ length log.now }
-    ensures line { AtOneGo (line_number (110 ∷ []) log.now) log.now result }
-    ensures short { result.next ≤ 12 }
+    ensures { IfSome result (λ r. AtOneGo (line_number (110 ∷ []) log.now) log.now r × (r.next ≤ 12)) }
 {
     if two(log) == 0x3d6e {
         return line_from(2, number_ended(&log[2..]));
     }
-    UNREAD
+    None
 }
 
-fn do_line(log: &[u8]) -> Line
+fn do_line(log: &[u8]) -> Option<Line>
     requires { 12 ≤ length log.now }
-    ensures line { AtOneGo (line_kind log.now) log.now result }
-    ensures short { result.next ≤ 12 }
+    ensures { IfSome result (λ r. AtOneGo (line_kind log.now) log.now r × (r.next ≤ 12)) }
 {
     if two(log) == 0x6f64 {
         if log[2] == 61 {
             return line_from(3, word_ended(&log[3..]));
         }
     }
-    UNREAD
+    None
 }
 
-fn seat_line(log: &[u8]) -> Line
+fn seat_line(log: &[u8]) -> Option<Line>
     requires { 15 ≤ length log.now }
-    ensures line { AtOneGo (line_number (115 ∷ 101 ∷ 97 ∷ 116 ∷ []) log.now) log.now result }
-    ensures short { result.next ≤ 15 }
+    ensures { IfSome result (λ r. AtOneGo (line_number (115 ∷ 101 ∷ 97 ∷ 116 ∷ []) log.now) log.now r × (r.next ≤ 15)) }
 {
     if four(log) == 0x74616573 {
         if log[4] == 61 {
             return line_from(5, number_behind(log, 5));
         }
     }
-    UNREAD
+    None
 }
 
-fn a_line(log: &[u8]) -> Line
+fn a_line(log: &[u8]) -> Option<Line>
     requires { 12 ≤ length log.now }
-    ensures line { AtOneGo (line_number (97 ∷ []) log.now) log.now result }
-    ensures short { result.next ≤ 12 }
+    ensures { IfSome result (λ r. AtOneGo (line_number (97 ∷ []) log.now) log.now r × (r.next ≤ 12)) }
 {
     if two(log) == 0x3d61 {
         return line_from(2, number_behind(log, 2));
     }
-    UNREAD
+    None
 }
 
-fn b_line(log: &[u8]) -> Line
+fn b_line(log: &[u8]) -> Option<Line>
     requires { 12 ≤ length log.now }
-    ensures line { AtOneGo (line_number (98 ∷ []) log.now) log.now result }
-    ensures short { result.next ≤ 12 }
+    ensures { IfSome result (λ r. AtOneGo (line_number (98 ∷ []) log.now) log.now r × (r.next ≤ 12)) }
 {
     if two(log) == 0x3d62 {
         return line_from(2, number_behind(log, 2));
     }
-    UNREAD
+    None
 }
-
-const NONE: Front = Front {
-    block: Block::Nothing,
-    used: 0,
-    whole: false,
-};
 
 // Five well-formed lines have at most 63 bytes: `n`, `a` and `b` 12 each, `do` 12 and `seat` 15.
 const FULL: usize = 64;
 
-// Five well-formed lines; `used` is 0 where they are not.
-fn at_one_go(log: &[u8]) -> Front
-    ensures { 0 < result.used → result ≡ front_of log.now }
+// Five well-formed lines; none where they are not.
+fn at_one_go(log: &[u8]) -> Option<Front>
+    ensures { IfSome result (λ f. f ≡ front_of log.now) }
 {
     if log.len() < FULL {
-        return NONE;
+        return None;
     }
-    let n = n_line(log);
-    let i = n.next;
-    if i == 0 {
-        return NONE;
-    }
-    let second = &log[i..];
-    let kind = do_line(second);
-    let j = kind.next;
-    if j == 0 {
-        return NONE;
-    }
-    let third = &second[j..];
-    let seat = seat_line(third);
-    let k = seat.next;
-    if k == 0 {
-        return NONE;
-    }
-    let fourth = &third[k..];
-    let a = a_line(fourth);
-    let l = a.next;
-    if l == 0 {
-        return NONE;
-    }
-    let b = b_line(&fourth[l..]);
-    let m = b.next;
-    if m == 0 {
-        return NONE;
-    }
-    Front {
+    let n = n_line(log)?;
+    let second = &log[n.next..];
+    let kind = do_line(second)?;
+    let third = &second[kind.next..];
+    let seat = seat_line(third)?;
+    let fourth = &third[seat.next..];
+    let a = a_line(fourth)?;
+    let b = b_line(&fourth[a.next..])?;
+    Some(Front {
         block: Block::Raw {
             n: n.value,
             kind: kind.value,
@@ -156,9 +122,9 @@ fn at_one_go(log: &[u8]) -> Front
             a: a.value,
             b: b.value,
         },
-        used: i + j + k + l + m,
+        used: n.next + kind.next + seat.next + a.next + b.next,
         whole: true,
-    }
+    })
 }
 
 // The block at the front of the log, by the ends of its lines.
@@ -178,8 +144,7 @@ fn line_by_line(log: &[u8]) -> Front
 pub fn read_front(log: &[u8]) -> Front
     ensures { result ≡ front_of log.now }
 {
-    let f = at_one_go(log);
-    if 0 < f.used {
+    if let Some(f) = at_one_go(log) {
         return f;
     }
     line_by_line(log)

@@ -22,22 +22,14 @@ const KINDS: [u64; 12] = [
     0x64696f76,
 ];
 
-fn wide(b: u8) -> u64
-    ensures { result ≡ b }
-{
-    b as u64
-}
-
 // A word of at most eight bytes as one number, its first byte the lowest.
 fn packed(w: &[u8]) -> u64
     requires { length w.now ≤ 8 }
     ensures { result ≡ pack_of w.now }
 {
     let mut v: u64 = 0;
-    let mut i = w.len();
-    while 0 < i {
-        i -= 1;
-        v = v * 256 + wide(w[i]);
+    for i in (0..w.len()).rev() {
+        v = v * 256 + u64::from(w[i]);
     }
     v
 }
@@ -48,12 +40,10 @@ pub fn kind_place(w: &[u8]) -> usize
     ensures { result ≡ place_in kind_names w.now }
 {
     let word = packed(w);
-    let mut k: usize = 0;
-    while k < 12 {
-        if KINDS[k] == word {
+    for (k, kind) in KINDS.iter().enumerate() {
+        if *kind == word {
             return k;
         }
-        k += 1;
     }
     12
 }
@@ -62,16 +52,10 @@ pub fn kind_place(w: &[u8]) -> usize
 fn all_within(w: &[u8], lo: u8, hi: u8) -> bool
     ensures { result ≡ all_within lo hi w.now }
 {
-    let mut i = 0;
-    while i < w.len() {
-        let b = w[i];
-        if b < lo {
+    for b in w {
+        if *b < lo || hi < *b {
             return false;
         }
-        if hi < b {
-            return false;
-        }
-        i += 1;
     }
     true
 }
@@ -133,19 +117,11 @@ pub fn entry_of(kind: u32, seat: u32, a: u32, b: u32) -> Result<Entry, Refusal>
 pub fn letter_run(part: &[u8]) -> usize
     ensures { (result ≤ 8) × (result ≤ length part.now) × (all_letters (take result part.now) ≡ true) }
 {
-    let mut i: usize = 0;
-    while i < 8 {
-        if part.len() <= i {
+    let most = part.len().min(8);
+    for i in 0..most {
+        if part[i] < 97 || 122 < part[i] {
             return i;
         }
-        let b = part[i];
-        if b < 97 {
-            return i;
-        }
-        if 122 < b {
-            return i;
-        }
-        i += 1;
     }
-    i
+    most
 }

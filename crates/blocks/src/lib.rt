@@ -13,7 +13,7 @@ pub use kind::{entry_at, entry_of};
 pub use reader::{BLOCK_LINES, block_from, line_kind, read_block, rest};
 
 // A block's five numbers, the kind as its place in the table of kinds, 12 for a word that is none of them; that its form is wrong: code 1; or that
-// no bytes are left.
+// no bytes are left. Its callers answer each of the three apart, and none passes one up: Option<Result<..>> would only be matched two deep.
 #[derive(Clone, Copy)]
 pub enum Block {
     Raw {

@@ -26,13 +26,25 @@ pub fn line_kind(log: &[u8], e: usize) -> Option<u32>
 }
 
 // Five readings make a block where none of them is bad.
-pub fn block_from(n: Option<u32>, kind: Option<u32>, seat: Option<u32>, a: Option<u32>, b: Option<u32>) -> Block
+pub fn block_from(
+    n: Option<u32>,
+    kind: Option<u32>,
+    seat: Option<u32>,
+    a: Option<u32>,
+    b: Option<u32>,
+) -> Block
     ensures { result ≡ block_from n kind seat a b }
 {
     let (Some(n), Some(kind), Some(seat), Some(a), Some(b)) = (n, kind, seat, a, b) else {
         return Block::Malformed;
     };
-    Block::Raw { n, kind, seat, a, b }
+    Block::Raw {
+        n,
+        kind,
+        seat,
+        a,
+        b,
+    }
 }
 
 // The block at the front of the log. The end of each line is looked for once.

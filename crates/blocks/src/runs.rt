@@ -2,8 +2,6 @@
 ghost use Rattle.std.specs.Prelude.{◌≡◌, true, ◌+◌, ◌-◌, ◌*◌, ◌≤◌, ◌<◌, length, get_or, take, drop, Some};
 ghost use Rattle.text.specs.Number.{number_of, all_digits, value_from};
 
-use text::decimal::wide;
-
 // Bytes at the front of a part: how many, and their value.
 #[derive(Clone, Copy)]
 pub struct Run {
@@ -17,7 +15,7 @@ const NO_RUN: Run = Run { count: 0, value: 0 };
 fn digit(b: u8) -> u32
     ensures { result ≤ 9 → (48 ≤ b) × (b ≤ 57) × (result ≡ b - 48) }
 {
-    wide(b) ^ 48
+    u32::from(b) ^ 48
 }
 
 // The digits at the front of `part`, at most nine of them.
@@ -26,16 +24,14 @@ fn digit_run(part: &[u8]) -> Run
     ensures { (result.count ≤ 9) × (all_digits (take result.count part.now) ≡ true) × (result.value ≡ value_from 0 (take result.count part.now)) }
 {
     let mut v: u32 = 0;
-    let mut i: usize = 0;
-    while i < 9 {
+    for i in 0..9 {
         let d = digit(part[i]);
         if 9 < d {
             return Run { count: i, value: v };
         }
         v = v * 10 + d;
-        i += 1;
     }
-    Run { count: i, value: v }
+    Run { count: 9, value: v }
 }
 
 // A number and its LF at the front of `part`: its digits; none where there is no such number.

@@ -2,9 +2,6 @@
 // those of crate `columns`; lengths are in tenths of a pixel. It needs nothing of the page around it, so that it can stand alone.
 #![tactic(auto)]
 
-use std::fmt;
-use std::fmt::Write;
-
 use captions::Column;
 use columns::{height, in_mask, reach, slab, tallest};
 use page::pen::Writer;
@@ -12,6 +9,8 @@ use spots::{
     BAND, Chips, apart, column_x, less, more, number_of, pot_at, reach_of_first, right_of, sum,
     y_at,
 };
+use std::fmt;
+use std::fmt::Write;
 
 // The band of the k-th pot, from 0.
 fn put_band(w: &mut Writer<'_>, c: &Chips, k: usize) -> fmt::Result {
@@ -110,7 +109,9 @@ fn put_returned(w: &mut Writer<'_>, c: &Chips, q: &Column) -> fmt::Result {
         tall: less(high, height(low, most)),
         chips,
     };
-    w.write_str("<rect class=\"back\" fill=\"#fff\" stroke=\"#000\" stroke-width=\"12\" stroke-dasharray=\"40 30\"")?;
+    w.write_str(
+        "<rect class=\"back\" fill=\"#fff\" stroke=\"#000\" stroke-width=\"12\" stroke-dasharray=\"40 30\"",
+    )?;
     put_box(w, q.x, d)?;
     put_data(w, q, d)
 }

@@ -16,8 +16,8 @@ use paper::{STAND_IN, Sheet, TAKEN};
 use pool::{MOST, Pool, open_pool};
 use table::table::Table;
 use table::take::new_table;
-use text::sheet::read_sheet;
 use text::read_key_number;
+use text::sheet::read_sheet;
 use writing::{put_bytes, write_number_line};
 
 // The most bytes that are written to a piece: a `table` line, 16 at most, and an answer.

@@ -97,7 +97,7 @@ fn table_in(x: Option<u32>) -> Option<Which>
             }
             None
         }
-        Option<u32>::Bad => None,
+        None => None,
     }
 }
 

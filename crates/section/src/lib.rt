@@ -1,9 +1,6 @@
 // A hand's section: its heading and who is dealt in, and when it is settled, or the log ends, the picture of its chips, its tables and what it paid and why.
 #![tactic(auto)]
 
-use std::fmt;
-use std::fmt::Write;
-
 use captions::put_seats;
 use chart::put_chart;
 use columns::{in_mask, reach, wins};
@@ -11,6 +8,8 @@ use notes::Ending;
 use page::pen::Writer;
 use page::words::{Card, put_hand};
 use spots::{Chips, pot_at, reach_of_first};
+use std::fmt;
+use std::fmt::Write;
 
 // The best hand of a sitting: its class, its ranks, and the number that hands are compared by.
 #[derive(Clone, Copy)]
@@ -180,8 +179,12 @@ fn put_reasons(w: &mut Writer<'_>, h: &Hand, r: Row) -> fmt::Result {
 
 // The head of the sittings' table.
 fn put_parts_head(w: &mut Writer<'_>) -> fmt::Result {
-    w.write_str("<table class=\"parts\">\n<caption>Who was dealt in</caption>\n<tr><th>seat</th><th>sitting</th><th>stack before</th><th>before the flop</th><th>flop</th><th>turn</th><th>river</th><th>put in</th>")?;
-    w.write_str("<th>hand</th><th>cards</th><th>best five</th><th>goes back</th><th>paid</th><th class=\"why\">why</th></tr>\n")
+    w.write_str(
+        "<table class=\"parts\">\n<caption>Who was dealt in</caption>\n<tr><th>seat</th><th>sitting</th><th>stack before</th><th>before the flop</th><th>flop</th><th>turn</th><th>river</th><th>put in</th>",
+    )?;
+    w.write_str(
+        "<th>hand</th><th>cards</th><th>best five</th><th>goes back</th><th>paid</th><th class=\"why\">why</th></tr>\n",
+    )
 }
 
 // A row for each seat where somebody was dealt in.
@@ -219,7 +222,9 @@ fn put_pot(w: &mut Writer<'_>, c: &Chips, k: usize) -> fmt::Result {
 
 // The table of the pots, with what goes back.
 fn put_pots(w: &mut Writer<'_>, c: &Chips) -> fmt::Result {
-    w.write_str("<table class=\"pots\">\n<caption>Pots</caption>\n<tr><th>pot</th><th>heights</th><th>chips</th><th>contended by</th></tr>\n")?;
+    w.write_str(
+        "<table class=\"pots\">\n<caption>Pots</caption>\n<tr><th>pot</th><th>heights</th><th>chips</th><th>contended by</th></tr>\n",
+    )?;
     for k in 0..c.pots.n {
         put_pot(w, c, k)?;
     }
@@ -233,13 +238,17 @@ fn put_pots(w: &mut Writer<'_>, c: &Chips) -> fmt::Result {
 
 // Fee, drop and what nobody claims.
 fn put_charged(w: &mut Writer<'_>, charged: Option<Charged>) -> fmt::Result {
-    let Some(Charged {
-        fee,
-        drop,
-        unclaimed,
-    }) = charged
+    let Some(
+        Charged {
+            fee,
+            drop,
+            unclaimed,
+        },
+    ) = charged
     else {
-        return w.write_str("<p class=\"open\"><strong>The log ends inside this hand: nothing of it is paid.</strong></p>\n");
+        return w.write_str(
+            "<p class=\"open\"><strong>The log ends inside this hand: nothing of it is paid.</strong></p>\n",
+        );
     };
     write!(
         w,

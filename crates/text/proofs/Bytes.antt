@@ -1,28 +1,15 @@
 -- Laws of bytes: that each is within a range, byte by byte. Assumes nothing.
 use mathlib.Core.Path.{◌≡◌}
 use mathlib.Core.List.{List, [], ◌∷◌, ◌++◌}
-use mathlib.Core.Bool.{true, false}
+use mathlib.Core.Bool.{true}
 use Prim.Native.Nat.{ℕ, ◌+◌, ◌≤◌, ◌<◌}
 use native.Mathlib.Numerals.{add-one}
-use lib.ListN.{length, get_or, take, drop, drop_of_length-le}
-use lib.Seq.{take-suc, drop-cons}
-use borrow.Author.Tests.{le-leb, lt-leb}
+use lib.ListN.{length, get_or, take}
+use lib.Seq.{take-suc}
+use borrow.Author.Tests.{le-leb}
 use Rattle.laws.proofs.Tests.{both_true}
 use Rattle.paper.specs.SheetAndEntries.{between}
 use Rattle.text.specs.Bytes.{all_within}
-
-module _ (lo hi : ℕ) (w : List ℕ) (i : ℕ) where
-  pub within_end : length w ≤ i → all_within lo hi (drop i w) ≡ true
-  within_end h = rw (drop_of_length-le w h)
-
-  pub within_low : i < length w → get_or w i 0 < lo → all_within lo hi (drop i w) ≡ false
-  within_low h p = rw (drop-cons w i 0, lt-leb lo (get_or w i 0) p)
-
-  pub within_high : i < length w → lo ≤ get_or w i 0 → hi < get_or w i 0 → all_within lo hi (drop i w) ≡ false
-  within_high h q p = rw (drop-cons w i 0, le-leb lo (get_or w i 0) q, lt-leb (get_or w i 0) hi p)
-
-  pub within_on : i < length w → lo ≤ get_or w i 0 → get_or w i 0 ≤ hi → all_within lo hi (drop i w) ≡ all_within lo hi (drop (i + 1) w)
-  within_on h q p = rw (add-one i, drop-cons w i 0, le-leb lo (get_or w i 0) q, le-leb (get_or w i 0) hi p)
 
 -- the bytes at the front that are within the range, one more
 pub within_snoc : (lo hi : ℕ) (bs : List ℕ) (b : ℕ) → all_within lo hi bs ≡ true → between lo hi b ≡ true → all_within lo hi (bs ++ (b ∷ [])) ≡ true

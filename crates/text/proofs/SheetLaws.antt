@@ -5,7 +5,6 @@ use mathlib.Core.Bool.{Bool, true, false}
 use mathlib.Core.Logic.{⊎_elim}
 use native.Mathlib.Nat.{eq-or-lt_of_le, le_of_suc-le-suc}
 use Prim.Native.Nat.{ℕ, zero, suc, ◌+◌, ◌-◌, ◌<◌}
-use native.Mathlib.Numerals.{add-one}
 use native.Mathlib.Omega.{arith}
 use lib.ListN.{get_or}
 use Rattle.std.specs.Prelude.{Ok, Err}
@@ -25,9 +24,6 @@ lines_one l m zero n e = absurd (n refl)
 lines_one l m (suc k) n e = let d : suc k - 1 ≡ k = omega arith in rw (d, e)
 
 -- ---- all lines are good, line by line
-
-pub good_on : (k : ℕ) (l : List ℕ) → all_good k l ≡ true → is_value (sheet_number k l) ≡ true → all_good (k + 1) l ≡ true
-good_on k l p q = rw (add-one k, q) p
 
 pub good_not : (n k : ℕ) (l : List ℕ) → k < n → is_value (sheet_number k l) ≡ false → all_good n l ≡ false
 good_not zero k l h e = absurd (omega arith)

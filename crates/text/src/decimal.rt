@@ -2,30 +2,17 @@
 ghost use Rattle.std.specs.Prelude.{◌≡◌, ◌≤◌, length};
 ghost use Rattle.text.specs.Number.{number_of, digits_from};
 
-// A byte as a number that can grow.
-pub fn wide(b: u8) -> u32
-    ensures { result ≡ b }
-{
-    b as u32
-}
-
 // The value of at most nine digits.
 fn digits_value(part: &[u8]) -> Option<u32>
     requires { length part.now ≤ 9 }
     ensures { result ≡ digits_from 0 part.now }
 {
     let mut v: u32 = 0;
-    let mut i = 0;
-    while i < part.len() {
-        let b = part[i];
-        if b < 48 {
+    for b in part {
+        if *b < 48 || 57 < *b {
             return None;
         }
-        if 57 < b {
-            return None;
-        }
-        v = v * 10 + wide(b - 48);
-        i += 1;
+        v = v * 10 + u32::from(*b - 48);
     }
     Some(v)
 }

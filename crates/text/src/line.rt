@@ -8,14 +8,12 @@ use crate::decimal::number_in;
 pub fn line_end(log: &[u8]) -> usize
     ensures { result ≡ line_len log.now }
 {
-    let mut i = 0;
-    while i < log.len() {
-        if log[i] == 10 {
+    for (i, b) in log.iter().enumerate() {
+        if *b == 10 {
             return i;
         }
-        i += 1;
     }
-    i
+    log.len()
 }
 
 // What follows the first line, which ends at e, and its LF.
@@ -51,17 +49,7 @@ pub fn after_lines(log: &[u8], k: usize) -> &[u8]
 pub fn starts_with(line: &[u8], key: &[u8]) -> bool
     ensures { result ≡ starts_with key.now line.now }
 {
-    let mut i = 0;
-    while i < key.len() {
-        if line.len() <= i {
-            return false;
-        }
-        if key[i] != line[i] {
-            return false;
-        }
-        i += 1;
-    }
-    true
+    line.starts_with(key)
 }
 
 // Where the value starts in the log's first line, which ends at e: behind `key=`, or at e where there is none.

@@ -6,12 +6,12 @@ use native.Mathlib.Omega.{arith}
 use Rattle.blocks.proofs.firsts.two.Goals as goal
 
 pub overflow_mul-result : goal.overflow_mul-result
-overflow_mul-result c = omega (arith, c.shared_slice_known-1.given 1, c.wide.ensures)
+overflow_mul-result c = omega (arith, c.shared_slice_known-1.given 1, c.from.ensures)
 
 pub overflow_add-result : goal.overflow_add-result
-overflow_add-result c = omega (arith, c.shared_slice_known-1.given 1, c.shared_slice_known-1.given 0, c.wide.ensures, c.wide-2.ensures)
+overflow_add-result c = omega (arith, c.shared_slice_known-1.given 1, c.shared_slice_known-1.given 0, c.from.ensures, c.from-2.ensures)
 
 pub returns : goal.returns
 returns c =
     let l = c.args.s.now in
-    (omega (arith, ap pack_of (bytes_at_law 0 2 l c.requires), c.wide.ensures, c.wide-2.ensures), bytes_within 2 l (λ i. omega (arith, c.shared_slice_known-1.given i)))
+    (omega (arith, ap pack_of (bytes_at_law 0 2 l c.requires), c.from.ensures, c.from-2.ensures), bytes_within 2 l (λ i. omega (arith, c.shared_slice_known-1.given i)))

@@ -1,6 +1,5 @@
 -- `do_line` meets its contract.
-use Rattle.blocks.proofs.Fronts.{key_then, unread, kind_read}
-use Rattle.blocks.specs.Block.{line_kind}
+use Rattle.blocks.proofs.Fronts.{key_then, kind_read}
 use Rattle.text.proofs.Parts.{part_is}
 use mathlib.Core.List.{[], ◌∷◌}
 use mathlib.Core.Path.{refl}
@@ -12,10 +11,4 @@ pub returns-then-log-eq61 : goal.returns-then-log-eq61
 returns-then-log-eq61 c =
     let l = c.args.log.now in
     let k = key_then (100 ∷ 111 ∷ []) l (λ x. refl) refl (omega (arith, c.requires)) c.two.ensures c.if-two-eq28516.true c.if-log-eq61.true in
-    let r = kind_read l _ c.word_ended.result k (part_is 3 l) (search rules) c.word_ended.ensures c.line_from.ensures in record { line = r.0; short = r.1 }
-
-pub returns-else-log-eq61 : goal.returns-else-log-eq61
-returns-else-log-eq61 c = let l = c.args.log.now in record { line = unread (line_kind l) l; short = omega arith }
-
-pub returns-else-two-eq28516 : goal.returns-else-two-eq28516
-returns-else-two-eq28516 c = let l = c.args.log.now in record { line = unread (line_kind l) l; short = omega arith }
+    kind_read l _ c.word_ended.result k (part_is 3 l) (search rules) c.word_ended.ensures c.line_from.ensures

@@ -1,6 +1,5 @@
 -- `seat_line` meets its contract.
-use Rattle.blocks.proofs.Fronts.{key_then, unread, number_read}
-use Rattle.text.specs.Line.{line_number}
+use Rattle.blocks.proofs.Fronts.{key_then, number_read}
 use lib.ListN.{drop, length-drop}
 use Prim.Native.Nat.{ℕ}
 use mathlib.Core.List.{List, [], ◌∷◌}
@@ -13,10 +12,4 @@ returns-then-log-eq61 c =
     let l = c.args.log.now in
     let key : List ℕ = 115 ∷ 101 ∷ 97 ∷ 116 ∷ [] in
     let k = key_then key l (λ x. refl) refl (omega (arith, c.requires)) c.four.ensures c.if-four-eq1952540019.true c.if-log-eq61.true in
-    let r = number_read key l (drop 5 l) c.number_behind.result refl (omega arith) k refl (omega (arith, length-drop 5 l, c.requires)) c.number_behind.ensures c.line_from.ensures in record { line = r.0; short = r.1 }
-
-pub returns-else-log-eq61 : goal.returns-else-log-eq61
-returns-else-log-eq61 c = let l = c.args.log.now in record { line = unread (line_number (115 ∷ 101 ∷ 97 ∷ 116 ∷ []) l) l; short = omega arith }
-
-pub returns-else-four-eq1952540019 : goal.returns-else-four-eq1952540019
-returns-else-four-eq1952540019 c = let l = c.args.log.now in record { line = unread (line_number (115 ∷ 101 ∷ 97 ∷ 116 ∷ []) l) l; short = omega arith }
+    number_read key l (drop 5 l) c.number_behind.result refl (omega arith) k refl (omega (arith, length-drop 5 l, c.requires)) c.number_behind.ensures c.line_from.ensures

@@ -7,4 +7,4 @@ use native.Mathlib.Omega.{arith}
 use Rattle.blocks.proofs.runs.digit.Goals as goal
 
 pub returns : goal.returns
-returns c = λ h. digit_told c.args.b (omega arith) (ap (λ (x : ℕ). bit_xor x 48) c.wide.ensures) h
+returns c = λ h. digit_told c.args.b (omega arith) (ap (λ (x : ℕ). bit_xor x 48) c.from.ensures) h
