@@ -1,18 +1,13 @@
 -- Feed after feed: with the bytes that are used up so far the copier has done what they do one by one; and call after call a program's copier hears every byte
 -- of what it read. For the proofs of the functions. Assumes nothing.
 use Prim.Native.Nat.{ℕ, ◌+◌, ◌-◌, ◌≤◌, ◌<◌}
-use mathlib.Core.Bool.{Bool, true, false}
 use mathlib.Core.Path.{◌≡◌, refl, sym, ap, subst, ◌∙◌}
 use mathlib.Core.List.{List}
 use mathlib.Core.Logic.{◌⊎◌, inl, inr, ⊎_elim}
 use native.Mathlib.Omega.{arith}
 use lib.ListN.{length, take, drop, length-drop}
 use lib.Seq.{take-add}
-use lib.Dec.{ltb, leb}
-use borrow.Author.Tests.{ltb-true, leb-true, leb-false, lt-ltb}
 use borrow.Rule.Slice.PartMut.{mid_of, put_mid, same_len_mid}
-use Rattle.laws.specs.Tests.{both}
-use Rattle.laws.proofs.Tests.{test, both_true}
 use Rattle.laws.proofs.Sums.{le_or_lt}
 use Rattle.text.proofs.Parts.{part_is}
 use Rattle.writing.proofs.Sheets.{then}
@@ -23,7 +18,7 @@ use Rattle.logs.specs.FairCopy.{note_most}
 use Rattle.copier.specs.declared.Copier.{Copier}
 use Rattle.copier.specs.declared.Fed.{Fed}
 use Rattle.copier.specs.Onward.{State, Unread, Open, Shut, Given, and_then, onward}
-use Rattle.copier.specs.Feeding.{state_of, kept_by, copier_in, Held, Gave, heard_of, FedOn, HeardTo, room_for, goes_on}
+use Rattle.copier.specs.Feeding.{state_of, kept_by, copier_in, Held, Gave, heard_of, FedOn, HeardTo}
 use Rattle.copier.proofs.Onward.{onward_append}
 
 state_in : (s : State) (m : Fill) → state_of (copier_in s m) ≡ s
@@ -49,22 +44,6 @@ fed_state : {c : Copier} {buf part copy notes buf2 copy2 notes2 : List ℕ} (r :
 fed_state {c} {buf} {part} r f =
     let x : Given = heard_of c buf part r.used in
     ap state_of f.gave.copier ∙ state_in x.state (fill_of x.kept)
-
--- ---- the test
-
-pub goes_when : {b : Bool} (used size copy notes : ℕ) → b ≡ goes_on used size copy notes → b ≡ true → (used < size) × (kept_most ≤ copy) × (note_most ≤ notes)
-goes_when used size copy notes e y =
-    let h = both_true (ltb used size) (room_for copy notes) (sym e ∙ y) in
-    let r = both_true (leb kept_most copy) (leb note_most notes) h.1 in
-    (ltb-true used size h.0, leb-true kept_most copy r.0, leb-true note_most notes r.1)
-
-stays_when : {b : Bool} (used size copy notes : ℕ) → b ≡ goes_on used size copy notes → b ≡ false → used < size → (copy < kept_most) ⊎ (notes < note_most)
-stays_when used size copy notes e n l =
-    let h : room_for copy notes ≡ false = sym (ap (λ (x : Bool). both x (room_for copy notes)) (lt-ltb used size l)) ∙ sym e ∙ n in
-    ⊎_elim
-    (λ y. inr (leb-false note_most notes (sym (ap (λ (x : Bool). both x (leb note_most notes)) y) ∙ h)))
-    (λ y. inl (leb-false kept_most copy y))
-    (test (leb kept_most copy))
 
 -- ---- the loop
 
@@ -148,17 +127,18 @@ module _ {c : Copier} {buf₀ part copy₀ notes₀ buf copy notes : List ℕ} {
         };
       }
 
-  pub on_done : {b : Bool} → b ≡ goes_on used (length part) (length copy - at) (length notes - told) → b ≡ false
+  -- the part is used up, or there is less room than a copy or a note may take
+  pub on_done : (used < length part → (length copy - at < kept_most) ⊎ (length notes - told < note_most))
       → FedOn c buf₀ part copy₀ notes₀ buf copy notes (record { copier = copier; used = used; written = at; noted = told })
       × ((Held copier × (used ≤ length part) × (at ≤ length copy₀) × (told ≤ length notes₀))
       × ((used < length part → (length copy₀ < at + kept_most) ⊎ (length notes₀ < told + note_most))
       × (0 < length part → kept_most ≤ length copy₀ → note_most ≤ length notes₀ → 0 < used)))
-  on_done e n =
+  on_done n =
       let stays : used < length part → (length copy₀ < at + kept_most) ⊎ (length notes₀ < told + note_most) =
       λ l. ⊎_elim
       (λ y. inl (omega (arith, g.within, g.same)))
       (λ y. inr (omega (arith, g.among, g.even)))
-      (stays_when used (length part) (length copy - at) (length notes - told) e n l) in (
+      (n l) in (
         g.fed,
         (
           (g.held, g.inside, g.within, g.among),

@@ -1,12 +1,11 @@
 -- What the copier keeps between two calls, how far a call goes, and what it does with the bytes that it uses up: what they do one by one. Assumes nothing.
-use Rattle.std.specs.Prelude.{ℕ, ◌-◌, ◌≤◌, ◌<◌, ◌≡◌, List, Bool, true, false, length, take, drop, ltb, leb}
-use Rattle.laws.specs.Tests.{pick, both}
+use Rattle.std.specs.Prelude.{ℕ, ◌-◌, ◌≤◌, ◌<◌, ◌≡◌, List, Bool, true, false, length, take, drop}
+use Rattle.laws.specs.Tests.{pick}
 use Rattle.writing.specs.AnswerSheet.{over, Wrote}
 use Rattle.paper.specs.Paper.{stand_in}
 use Rattle.paper.specs.declared.Sheet.{Sheet}
 use Rattle.lines.specs.declared.Fill.{Fill}
-use Rattle.lines.specs.Kept.{Kept, nothing, Gathered, gather_of, kept_in, fill_of, Room, kept_most, lines_of}
-use Rattle.logs.specs.FairCopy.{note_most}
+use Rattle.lines.specs.Kept.{Kept, nothing, Gathered, gather_of, kept_in, fill_of, Room, lines_of}
 use Rattle.copier.specs.declared.Copier.{Copier}
 use Rattle.copier.specs.declared.Fed.{Fed}
 use Rattle.copier.specs.Onward.{State, Unread, Open, Shut, Given, onward}
@@ -75,11 +74,3 @@ used_of c buf part = pick c.shut (length part) (gathered_by c buf part).used
 -- the buffer then
 unfoldable pub buffer_of : Copier → List ℕ → List ℕ → List ℕ
 buffer_of c buf part = pick c.shut buf (over (gathered_by c buf part).kept.bytes buf)
-
--- room for any copy, which is no longer than its lines, and for any note
-abbrev pub room_for : ℕ → ℕ → Bool
-room_for copy notes = both (leb kept_most copy) (leb note_most notes)
-
--- bytes of the part are left, and there is room
-abbrev pub goes_on : ℕ → ℕ → ℕ → ℕ → Bool
-goes_on used size copy notes = both (ltb used size) (room_for copy notes)

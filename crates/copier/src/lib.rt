@@ -7,9 +7,8 @@ ghost use Rattle.text.specs.Codes.{eleven};
 ghost use Rattle.lines.specs.Kept.{nothing, fill_of, kept_most};
 ghost use Rattle.logs.specs.FairCopy.{note_most};
 ghost use Rattle.copier.specs.Onward.{Unread, Open, Shut, lines_done, closing};
-ghost use Rattle.copier.specs.Feeding.{state_at, state_of, kept_by, copier_in, Held, start_of, Gave, FedOn, used_of, buffer_of, room_for, goes_on};
+ghost use Rattle.copier.specs.Feeding.{state_at, state_of, kept_by, copier_in, Held, start_of, Gave, FedOn, used_of, buffer_of};
 
-use laws::both;
 use lines::{Fill, empty, gather, lines_of};
 use logs::copy::{NOTE, copy_block, copy_sheet, next_number, write_note};
 use paper::{STAND_IN, Sheet};
@@ -224,20 +223,6 @@ pub fn feed(c: Copier, buf: &mut [u8], part: &[u8], copy: &mut [u8], notes: &mut
     feed_kept(c.opened, s, c.count, m, buf, part, copy, notes)
 }
 
-// Whether there is room for any copy and any note.
-fn room_for(copy: usize, notes: usize) -> bool
-    ensures { result ≡ room_for copy notes }
-{
-    both(ROOM <= copy, NOTE <= notes)
-}
-
-// Whether bytes of the part are left, and there is room for any copy and any note.
-fn goes_on(used: usize, size: usize, copy: usize, notes: usize) -> bool
-    ensures { result ≡ goes_on used size copy notes }
-{
-    both(used < size, room_for(copy, notes))
-}
-
 // A part of the log, block after block, until it is used up, or until there is less room than a copy or a note may take.
 pub fn copy_on(c: Copier, buf: &mut [u8], part: &[u8], copy: &mut [u8], notes: &mut [u8]) -> Fed
     requires { Held c × (kept_most ≤ length buf.old) }
@@ -249,7 +234,7 @@ pub fn copy_on(c: Copier, buf: &mut [u8], part: &[u8], copy: &mut [u8], notes: &
     let mut used: usize = 0;
     let mut at: usize = 0;
     let mut said: usize = 0;
-    while goes_on(used, part.len(), copy.len() - at, notes.len() - said) {
+    while used < part.len() && ROOM <= copy.len() - at && NOTE <= notes.len() - said {
         let f = feed(
             copier,
             buf,
@@ -257,8 +242,7 @@ pub fn copy_on(c: Copier, buf: &mut [u8], part: &[u8], copy: &mut [u8], notes: &
             &mut copy[at..],
             &mut notes[said..],
         );
-        let d = f.copier;
-        copier = d;
+        copier = f.copier;
         used += f.used;
         at += f.written;
         said += f.noted;

@@ -7,11 +7,10 @@ use mathlib.Core.Logic.{⊎_elim}
 use native.Mathlib.Omega.{arith}
 use lib.ListN.{length, take, drop, length-drop}
 use lib.Seq.{take-add}
-use lib.Dec.{ltb, leb}
-use borrow.Author.Tests.{ltb-true, leb-true, leb-false, lt-ltb}
+use lib.Dec.{leb}
 use borrow.Rule.Slice.PartMut.{mid_of, put_mid, same_len_mid}
-use Rattle.laws.specs.Tests.{pick, both}
-use Rattle.laws.proofs.Tests.{test, both_true}
+use Rattle.laws.specs.Tests.{pick}
+use Rattle.laws.proofs.Tests.{test}
 use Rattle.laws.proofs.Sums.{le_or_lt}
 use Rattle.text.proofs.Parts.{part_is}
 use Rattle.writing.proofs.Sheets.{then}
@@ -22,7 +21,7 @@ use Rattle.table.specs.declared.table.Table.{Table}
 use Rattle.stream.specs.declared.Clerk.{Clerk}
 use Rattle.stream.specs.declared.Fed.{Fed}
 use Rattle.stream.specs.Onward.{State, Unread, Open, Shut, Given, still, and_then, lines_done, wanted, byte_of, onward}
-use Rattle.stream.specs.Feeding.{longest_answer, state_at, state_of, kept_by, clerk_in, Held, Gave, heard_of, FedOn, goes_on}
+use Rattle.stream.specs.Feeding.{longest_answer, state_at, state_of, kept_by, clerk_in, Held, Gave, heard_of, FedOn}
 use Rattle.stream.proofs.Onward.{onward_append}
 use Rattle.stream.proofs.Enough.{held_sound, onward_enough, never_short, any_append}
 use Rattle.stream.proofs.Steps.{state_shut, state_else}
@@ -92,17 +91,6 @@ heard_on room c buf part used u clerk buf2 e f =
     ∙ onward_append room (state_of c) (kept_by c buf) (take used part) (take u (drop used part))
     ∙ ap (λ (s : State). and_then x (onward room s x.kept (take u (drop used part)))) (sym e)
     ∙ ap (λ (k : Kept). and_then x (onward room (state_of clerk) k (take u (drop used part)))) (sym f)
-
--- ---- the test
-
-pub goes_when : {b : Bool} (used size at room : ℕ) → b ≡ goes_on used size at room → b ≡ true → (used < size) × (longest_answer ≤ room - at)
-goes_when used size at room e y =
-    let h = both_true (ltb used size) (leb longest_answer (room - at)) (sym e ∙ y) in
-    (ltb-true used size h.0, leb-true longest_answer (room - at) h.1)
-
-pub stays_when : {b : Bool} (used size at room : ℕ) → b ≡ goes_on used size at room → b ≡ false → used < size → room - at < longest_answer
-stays_when used size at room e n l =
-    leb-false longest_answer (room - at) (sym (ap (λ (x : Bool). both x (leb longest_answer (room - at))) (lt-ltb used size l)) ∙ sym e ∙ n)
 
 -- ---- the loop
 
@@ -179,18 +167,19 @@ module _ {c : Clerk} {buf₀ part out₀ buf out : List ℕ} {clerk : Clerk} {us
   pub on_moves : {u : ℕ} → used < length part → (0 < length (mid_of used (length part - used) part) → 0 < u) → (0 < u) × (length part - (used + u) < length part - used)
   on_moves {u} l h = let m : 0 < u = h (omega (arith, ap length (part_is used part), length-drop used part)) in (m, omega arith)
 
-  pub on_done : {b : Bool} → b ≡ goes_on used (length part) at (length out) → b ≡ false
+  -- the part is used up, or there is less room than the longest answer takes
+  pub on_done : (used < length part → length out - at < longest_answer)
       → FedOn longest_answer c buf₀ part out₀ buf out (record { clerk = clerk; used = used; written = at; short = false })
       × ((Held clerk × (used ≤ length part) × (at ≤ length out₀))
       × ((used < length part → length out₀ < at + longest_answer) × (0 < length part → longest_answer ≤ length out₀ → 0 < used)))
-  on_done e n = (
+  on_done n = (
     g.fed,
     (
       (g.held, g.inside, g.within),
       (
-        λ l. omega (arith, g.within, g.same, stays_when used (length part) at (length out) e n l),
+        λ l. omega (arith, g.within, g.same, n l),
         λ l m. ⊎_elim
-            (λ z. let k : used ≡ 0 = omega arith in absurd (omega (arith, g.same, g.first k, stays_when used (length part) at (length out) e n (omega arith))))
+            (λ z. let k : used ≡ 0 = omega arith in absurd (omega (arith, g.same, g.first k, n (omega arith))))
             (λ z. z)
             (le_or_lt used 0),
       ),

@@ -1,5 +1,5 @@
 -- What the clerk keeps between two calls, how far a call goes, and what it does with the bytes that it uses up: what they do one by one. Assumes nothing.
-use Rattle.std.specs.Prelude.{ℕ, ◌-◌, ◌≤◌, ◌<◌, ◌≡◌, List, Bool, true, false, length, take, drop, ltb, leb}
+use Rattle.std.specs.Prelude.{ℕ, ◌-◌, ◌≤◌, ◌<◌, ◌≡◌, List, Bool, true, false, length, take, drop}
 use Rattle.laws.specs.Tests.{pick, both}
 use Rattle.writing.specs.AnswerSheet.{over, Wrote}
 use Rattle.lines.specs.declared.Fill.{Fill}
@@ -88,7 +88,3 @@ used_of c buf part room =
 -- the buffer then
 unfoldable pub buffer_of : Clerk → List ℕ → List ℕ → ℕ → List ℕ
 buffer_of c buf part room = pick c.shut buf (pick (goes_in_place c part room) buf (over (gathered_by c buf part).kept.bytes buf))
-
--- bytes of the part are left, and there is room for any answer
-abbrev pub goes_on : ℕ → ℕ → ℕ → ℕ → Bool
-goes_on used size at room = both (ltb used size) (leb longest_answer (room - at))

@@ -8,7 +8,7 @@ ghost use Rattle.lines.specs.Kept.{gather_of, kept_in, nothing, fill_of, Room, k
 ghost use Rattle.table.specs.Take.{Sound};
 ghost use Rattle.stream.specs.Onward.{lines_of, lines_done, closing, any_short};
 ghost use Rattle.stream.specs.InPlace.{awaits_block};
-ghost use Rattle.stream.specs.Feeding.{longest_answer, state_of, state_at, kept_by, Held, start_of, Gave, FedOn, used_of, buffer_of, goes_on};
+ghost use Rattle.stream.specs.Feeding.{longest_answer, state_of, state_at, kept_by, Held, start_of, Gave, FedOn, used_of, buffer_of};
 
 use answers::LONGEST;
 use blocks::rest;
@@ -242,17 +242,6 @@ pub fn feed(c: Clerk, buf: &mut [u8], part: &[u8], out: &mut [u8]) -> Fed
     feed_kept(c.opened, t, m, buf, part, out)
 }
 
-// Whether bytes of the part are left, and there is room for any answer.
-fn goes_on(used: usize, size: usize, at: usize, room: usize) -> bool
-    requires { at ≤ room }
-    ensures { result ≡ goes_on used size at room }
-{
-    if used < size {
-        return LONGEST <= room - at;
-    }
-    false
-}
-
 // A part of the log, block after block, until it is used up, or until there is less room than the longest answer takes.
 pub fn feed_on(c: Clerk, buf: &mut [u8], part: &[u8], out: &mut [u8]) -> Fed
     requires { Held c × (kept_most ≤ length buf.old) }
@@ -263,10 +252,9 @@ pub fn feed_on(c: Clerk, buf: &mut [u8], part: &[u8], out: &mut [u8]) -> Fed
     let mut clerk = c;
     let mut used: usize = 0;
     let mut at: usize = 0;
-    while goes_on(used, part.len(), at, out.len()) {
+    while used < part.len() && LONGEST <= out.len() - at {
         let f = feed(clerk, buf, &part[used..], &mut out[at..]);
-        let d = f.clerk;
-        clerk = d;
+        clerk = f.clerk;
         used += f.used;
         at += f.written;
     }

@@ -4,8 +4,8 @@ use lib.ListN.{length}
 use Prim.Native.Nat.{◌-◌}
 use Rattle.copier.proofs.copy_on.Given as goal
 
-abbrev pub invariant-loop-buf : goal.invariant-loop-buf
-invariant-loop-buf l = Feeding l.initial.copier l.initial.buf l.part l.initial.copy l.initial.notes l.buf l.copy l.notes l.copier l.used l.at l.said
+abbrev pub invariant-loop-used : goal.invariant-loop-used
+invariant-loop-used l = Feeding l.initial.copier l.initial.buf l.part l.initial.copy l.initial.notes l.buf l.copy l.notes l.copier l.used l.at l.said
 
-abbrev pub decreases-loop-buf : goal.decreases-loop-buf
-decreases-loop-buf l = length l.part - l.used
+abbrev pub decreases-loop-used : goal.decreases-loop-used
+decreases-loop-used l = length l.part - l.used

@@ -4,8 +4,8 @@ use lib.ListN.{length}
 use Rattle.stream.proofs.On.{Feeding}
 use Rattle.stream.proofs.feed_on.Given as goal
 
-abbrev pub invariant-loop-buf : goal.invariant-loop-buf
-invariant-loop-buf l = Feeding l.initial.clerk l.initial.buf l.part l.initial.out l.buf l.out l.clerk l.used l.at
+abbrev pub invariant-loop-used : goal.invariant-loop-used
+invariant-loop-used l = Feeding l.initial.clerk l.initial.buf l.part l.initial.out l.buf l.out l.clerk l.used l.at
 
-abbrev pub decreases-loop-buf : goal.decreases-loop-buf
-decreases-loop-buf l = length l.part - l.used
+abbrev pub decreases-loop-used : goal.decreases-loop-used
+decreases-loop-used l = length l.part - l.used
