@@ -3,7 +3,6 @@
 #![tactic(auto)]
 
 ghost use Rattle.std.specs.Prelude.{◌≡◌, ◌++◌, ◌+◌, ◌*◌, ◌≤◌, ◌<◌, ◌^◌, length, drop};
-ghost use Rattle.laws.specs.Tests.{one};
 ghost use Rattle.laws.specs.Lists.{All};
 ghost use Rattle.writing.specs.AnswerSheet.{Wrote};
 ghost use Rattle.lines.specs.Kept.{Room};
@@ -22,12 +21,6 @@ use writing::put_bytes;
 pub const FIELDS: usize = 362;
 
 // ---- bytes and words
-
-fn flag(b: bool) -> u8
-    ensures { result ≡ one b }
-{
-    if b { 1 } else { 0 }
-}
 
 fn is_set(x: u8) -> bool
     ensures { result ≡ is_set x }
@@ -81,9 +74,9 @@ fn chair_singles(d: Dealt, count: u8, cards: [u8; 4]) -> [u8; 8]
     ensures all { cards ≡ cards_four cards }
 {
     [
-        flag(d.live),
-        flag(d.acted),
-        flag(d.spent),
+        u8::from(d.live),
+        u8::from(d.acted),
+        u8::from(d.spent),
         count,
         cards[0],
         cards[1],
@@ -192,10 +185,10 @@ fn head_singles(c: Clerk, count: u8, cards: [u8; 5]) -> [u8; 10]
     ensures all { cards ≡ cards_five cards }
 {
     [
-        flag(c.opened),
-        flag(c.shut),
-        flag(c.table.play.opened),
-        flag(c.fill.bad),
+        u8::from(c.opened),
+        u8::from(c.shut),
+        u8::from(c.table.play.opened),
+        u8::from(c.fill.bad),
         count,
         cards[0],
         cards[1],

@@ -6,4 +6,4 @@ use borrow.Author.Rules.{rules}
 use Rattle.packed.proofs.chair_singles.Goals as goal
 
 pub returns : goal.returns
-returns c = record { is = cc; all = let n : length c.args.cards ≡ 4 = search rules in spelled 4 c.args.cards n }
+returns c = record { is = search rules; all = let n : length c.args.cards ≡ 4 = search rules in spelled 4 c.args.cards n }
