@@ -1,14 +1,11 @@
 // What is written in the picture: its opening, what stands below a column, a label for each pot and for what goes back, and what the looks mean.
 #![tactic(auto)]
 
-use std::fmt;
-use std::fmt::Write;
-
 use columns::{height, in_mask, reach, tallest};
 use page::pen::Writer;
-use spots::{
-    Chips, apart, label_y, more, number_of, pot_at, reach_of_first, right_of, wide, y_at,
-};
+use spots::{Chips, apart, label_y, more, number_of, pot_at, reach_of_first, right_of, wide, y_at};
+use std::fmt;
+use std::fmt::Write;
 
 // A column of the picture: its place among the seats from 0, its sitting with what that put in, and its left side.
 #[derive(Clone, Copy)]
@@ -33,21 +30,25 @@ pub fn put_opening(w: &mut Writer<'_>, hand: u64, columns: u32) -> fmt::Result {
         w,
         r##"<defs><pattern id="hatch-{hand}" width="80" height="80" patternUnits="userSpaceOnUse" patternTransform="rotate(45)">"##
     )?;
-    w.write_str("<rect width=\"80\" height=\"80\" fill=\"#fff\"/><rect width=\"26\" height=\"80\" fill=\"#555\"/></pattern></defs>\n<g font-family=\"Georgia,'DejaVu Serif',serif\" font-size=\"130\" text-anchor=\"middle\">\n")
+    w.write_str(
+        "<rect width=\"80\" height=\"80\" fill=\"#fff\"/><rect width=\"26\" height=\"80\" fill=\"#555\"/></pattern></defs>\n<g font-family=\"Georgia,'DejaVu Serif',serif\" font-size=\"130\" text-anchor=\"middle\">\n",
+    )
 }
 
 // Below a column: its seat, its sitting, what it has put in, and whether it is out of the hand or has left.
 pub fn put_foot(w: &mut Writer<'_>, c: &Chips, q: &Column) -> fmt::Result {
     let x = more(q.x, 260);
-    let seat = q.seat;
-    let sitting = q.sitting;
-    let total = q.total;
     writeln!(
         w,
-        r##"<text font-weight="bold" x="{x}" y="3660">seat {seat}</text>"##
+        r##"<text font-weight="bold" x="{x}" y="3660">seat {}</text>"##,
+        q.seat
     )?;
-    writeln!(w, r##"<text x="{x}" y="3810">sitting {sitting}</text>"##)?;
-    writeln!(w, r##"<text x="{x}" y="3960">{total} in</text>"##)?;
+    writeln!(
+        w,
+        r##"<text x="{x}" y="3810">sitting {}</text>"##,
+        q.sitting
+    )?;
+    writeln!(w, r##"<text x="{x}" y="3960">{} in</text>"##, q.total)?;
     let word = if !in_mask(c.here, q.place) {
         "out, left"
     } else if !in_mask(c.live, q.place) {
@@ -141,10 +142,14 @@ pub fn put_labels(w: &mut Writer<'_>, c: &Chips) -> fmt::Result {
 
 // What the looks mean, and the picture's end.
 fn put_legend(w: &mut Writer<'_>, hand: u64) -> fmt::Result {
-    w.write_str("<rect fill=\"#456b94\" stroke=\"#000\" stroke-width=\"8\" x=\"200\" y=\"4330\" width=\"160\" height=\"130\"/>\n<text text-anchor=\"start\" x=\"420\" y=\"4440\">contends</text>\n")?;
+    w.write_str(
+        "<rect fill=\"#456b94\" stroke=\"#000\" stroke-width=\"8\" x=\"200\" y=\"4330\" width=\"160\" height=\"130\"/>\n<text text-anchor=\"start\" x=\"420\" y=\"4440\">contends</text>\n",
+    )?;
     writeln!(
         w,
         r##"<rect fill="url(#hatch-{hand})" stroke="#000" stroke-width="8" x="1250" y="4330" width="160" height="130"/>"##
     )?;
-    w.write_str("<text text-anchor=\"start\" x=\"1470\" y=\"4440\">out of the hand: stays in the pots</text>\n<rect fill=\"#fff\" stroke=\"#000\" stroke-width=\"12\" stroke-dasharray=\"40 30\" x=\"3900\" y=\"4330\" width=\"160\" height=\"130\"/>\n<text text-anchor=\"start\" x=\"4120\" y=\"4440\">goes back</text>\n</g>\n</svg>\n")
+    w.write_str(
+        "<text text-anchor=\"start\" x=\"1470\" y=\"4440\">out of the hand: stays in the pots</text>\n<rect fill=\"#fff\" stroke=\"#000\" stroke-width=\"12\" stroke-dasharray=\"40 30\" x=\"3900\" y=\"4330\" width=\"160\" height=\"130\"/>\n<text text-anchor=\"start\" x=\"4120\" y=\"4440\">goes back</text>\n</g>\n</svg>\n",
+    )
 }

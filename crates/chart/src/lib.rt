@@ -2,9 +2,6 @@
 // those of crate `columns`; lengths are in tenths of a pixel. It needs nothing of the page around it, so that it can stand alone.
 #![tactic(auto)]
 
-use std::fmt;
-use std::fmt::Write;
-
 use captions::Column;
 use columns::{height, in_mask, reach, slab, tallest};
 use page::pen::Writer;
@@ -12,6 +9,8 @@ use spots::{
     BAND, Chips, apart, column_x, less, more, number_of, pot_at, reach_of_first, right_of, sum,
     y_at,
 };
+use std::fmt;
+use std::fmt::Write;
 
 // The band of the k-th pot, from 0.
 fn put_band(w: &mut Writer<'_>, c: &Chips, k: usize) -> fmt::Result {
@@ -42,19 +41,19 @@ struct Piece {
 
 // The place and size of a piece.
 fn put_box(w: &mut Writer<'_>, x: u64, d: Piece) -> fmt::Result {
-    let y = d.top;
-    let tall = d.tall;
-    write!(w, r##" x="{x}" y="{y}" width="520" height="{tall}""##)
+    write!(
+        w,
+        r##" x="{x}" y="{}" width="520" height="{}""##,
+        d.top, d.tall
+    )
 }
 
 // Whose a piece is, and how many chips lie in it; the number is written inside where the piece is high enough for it.
 fn put_data(w: &mut Writer<'_>, q: &Column, d: Piece) -> fmt::Result {
-    let seat = q.seat;
-    let sitting = q.sitting;
-    let chips = d.chips;
     writeln!(
         w,
-        r##" data-seat="{seat}" data-sitting="{sitting}" data-chips="{chips}"/>"##
+        r##" data-seat="{}" data-sitting="{}" data-chips="{}"/>"##,
+        q.seat, q.sitting, d.chips
     )?;
     if d.tall < 130 {
         return Ok(());
@@ -63,7 +62,8 @@ fn put_data(w: &mut Writer<'_>, q: &Column, d: Piece) -> fmt::Result {
     let y = more(d.top, d.tall / 2 + 45);
     writeln!(
         w,
-        r##"<text stroke="#fff" stroke-width="36" paint-order="stroke" x="{x}" y="{y}">{chips}</text>"##
+        r##"<text stroke="#fff" stroke-width="36" paint-order="stroke" x="{x}" y="{y}">{}</text>"##,
+        d.chips
     )
 }
 
@@ -110,7 +110,9 @@ fn put_returned(w: &mut Writer<'_>, c: &Chips, q: &Column) -> fmt::Result {
         tall: less(high, height(low, most)),
         chips,
     };
-    w.write_str("<rect class=\"back\" fill=\"#fff\" stroke=\"#000\" stroke-width=\"12\" stroke-dasharray=\"40 30\"")?;
+    w.write_str(
+        "<rect class=\"back\" fill=\"#fff\" stroke=\"#000\" stroke-width=\"12\" stroke-dasharray=\"40 30\"",
+    )?;
     put_box(w, q.x, d)?;
     put_data(w, q, d)
 }

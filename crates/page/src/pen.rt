@@ -2,9 +2,8 @@
 // long as it likes, and the memory stays. Where a write fails, nothing more of the page is written.
 ghost use Rattle.std.specs.Prelude.{◌≡◌, ◌≤◌, length};
 
-use std::fmt;
-
 use output::STDOUT_FILENO;
+use std::fmt;
 use writing::put_bytes;
 
 // Where a page stands between two buffers: how much of the buffer is written, and whether all that was written out could be.
@@ -53,7 +52,10 @@ impl<'a> Writer<'a> {
         ensures within { self.new.pen.at ≤ length self.old.out.now }
     {
         let at = filled(self.pen.at, self.out.len());
-        let pen = Pen { at, ok: self.pen.ok };
+        let pen = Pen {
+            at,
+            ok: self.pen.ok,
+        };
         self.pen = if self.out.len() - at < n {
             written_out(self.out, pen)
         } else {

@@ -1,8 +1,7 @@
 // The page's fixed texts: its head with the style, the words of the kinds of entry and of the refusals, cards, ranks and classes of hands.
+use crate::pen::{Pen, Writer};
 use std::fmt;
 use std::fmt::Write;
-
-use crate::pen::{Pen, Writer};
 
 // Up to the style's end. The evening and the sittings come last in the bytes, and first on the page by `order`.
 pub fn put_head(out: &mut [u8], p: Pen) -> Pen {
@@ -13,23 +12,39 @@ pub fn put_head(out: &mut [u8], p: Pen) -> Pen {
 }
 
 fn write_head(w: &mut Writer<'_>) -> fmt::Result {
-    w.write_str("<!DOCTYPE html>\n<html lang=\"en\">\n<head>\n<meta charset=\"utf-8\">\n<meta name=\"viewport\" content=\"width=device-width\">\n<title>The clerk's box: an evening</title>\n<style>\n")?;
+    w.write_str(
+        "<!DOCTYPE html>\n<html lang=\"en\">\n<head>\n<meta charset=\"utf-8\">\n<meta name=\"viewport\" content=\"width=device-width\">\n<title>The clerk's box: an evening</title>\n<style>\n",
+    )?;
     write_style(w)?;
     write_style_of_rows(w)?;
     w.write_str("</style>\n</head>\n<body>\n<h1>The evening at the table</h1>\n")
 }
 
 fn write_style(w: &mut Writer<'_>) -> fmt::Result {
-    w.write_str("body{font:15px/1.4 Georgia,'DejaVu Serif',serif;color:#111;background:#fff;max-width:960px;margin:1rem auto;padding:0 16px;display:flex;flex-direction:column}\n")?;
-    w.write_str("body>*,section>*{order:3}h1,.sheet,.note{order:0}#evening{order:1}body .row,body .sums{order:2}section{display:contents}p{margin:.15rem 0}table{align-self:flex-start}\n")?;
-    w.write_str("h1{margin:.5rem 0}h2{margin:2rem 0 .4rem;border-top:3px double #111;padding-top:.6rem}.note{border:2px solid #111;padding:.4rem .6rem;font-weight:bold}\n")?;
-    w.write_str("table{border-collapse:collapse;margin:.6rem 0;font-size:13px}caption{text-align:left;font-weight:bold}th,td{border:1px solid #777;padding:.15rem .45rem;text-align:right;vertical-align:top}.why{text-align:left}\n")
+    w.write_str(
+        "body{font:15px/1.4 Georgia,'DejaVu Serif',serif;color:#111;background:#fff;max-width:960px;margin:1rem auto;padding:0 16px;display:flex;flex-direction:column}\n",
+    )?;
+    w.write_str(
+        "body>*,section>*{order:3}h1,.sheet,.note{order:0}#evening{order:1}body .row,body .sums{order:2}section{display:contents}p{margin:.15rem 0}table{align-self:flex-start}\n",
+    )?;
+    w.write_str(
+        "h1{margin:.5rem 0}h2{margin:2rem 0 .4rem;border-top:3px double #111;padding-top:.6rem}.note{border:2px solid #111;padding:.4rem .6rem;font-weight:bold}\n",
+    )?;
+    w.write_str(
+        "table{border-collapse:collapse;margin:.6rem 0;font-size:13px}caption{text-align:left;font-weight:bold}th,td{border:1px solid #777;padding:.15rem .45rem;text-align:right;vertical-align:top}.why{text-align:left}\n",
+    )
 }
 
 fn write_style_of_rows(w: &mut Writer<'_>) -> fmt::Result {
-    w.write_str(".row{display:grid;grid-template-columns:1fr 1fr 2fr 2fr 2fr 2fr 3fr;font-size:13px;border-bottom:1px solid #777;text-align:right}.row.top{font-weight:bold;margin-top:1rem;border-bottom:2px solid #111}.row.sums{border-bottom:0;margin:0 0 .5rem}\n")?;
-    w.write_str("p b{display:inline-block;min-width:3rem}figure{margin:.6rem 0}svg{max-width:100%;height:auto}details{margin:.15rem 0 .15rem 3rem;border-left:3px solid #777;padding-left:.6rem}summary{cursor:pointer}\n")?;
-    w.write_str("@media print{body{max-width:none;margin:0;font-size:11pt}h2,figure,table{break-inside:avoid}h2{break-after:avoid}details>summary{list-style:none}}\n")
+    w.write_str(
+        ".row{display:grid;grid-template-columns:1fr 1fr 2fr 2fr 2fr 2fr 3fr;font-size:13px;border-bottom:1px solid #777;text-align:right}.row.top{font-weight:bold;margin-top:1rem;border-bottom:2px solid #111}.row.sums{border-bottom:0;margin:0 0 .5rem}\n",
+    )?;
+    w.write_str(
+        "p b{display:inline-block;min-width:3rem}figure{margin:.6rem 0}svg{max-width:100%;height:auto}details{margin:.15rem 0 .15rem 3rem;border-left:3px solid #777;padding-left:.6rem}summary{cursor:pointer}\n",
+    )?;
+    w.write_str(
+        "@media print{body{max-width:none;margin:0;font-size:11pt}h2,figure,table{break-inside:avoid}h2{break-after:avoid}details>summary{list-style:none}}\n",
+    )
 }
 
 // Document 01's table of entries.
@@ -44,7 +59,12 @@ pub struct Kind(pub u32);
 
 impl fmt::Display for Kind {
     fn fmt<W: fmt::Write>(&self, f: &mut fmt::Formatter<W>) -> fmt::Result {
-        f.write_str(KINDS.get(self.0 as usize).copied().unwrap_or("an unknown kind"))
+        f.write_str(
+            KINDS
+                .get(self.0 as usize)
+                .copied()
+                .unwrap_or("an unknown kind"),
+        )
     }
 }
 
@@ -124,7 +144,12 @@ struct Class(u8);
 
 impl fmt::Display for Class {
     fn fmt<W: fmt::Write>(&self, f: &mut fmt::Formatter<W>) -> fmt::Result {
-        f.write_str(CLASSES.get(self.0 as usize).copied().unwrap_or("five odd cards"))
+        f.write_str(
+            CLASSES
+                .get(self.0 as usize)
+                .copied()
+                .unwrap_or("five odd cards"),
+        )
     }
 }
 

@@ -1,9 +1,6 @@
 // A hand's section: its heading and who is dealt in, and when it is settled, or the log ends, the picture of its chips, its tables and what it paid and why.
 #![tactic(auto)]
 
-use std::fmt;
-use std::fmt::Write;
-
 use captions::put_seats;
 use chart::put_chart;
 use columns::{in_mask, reach, wins};
@@ -11,6 +8,8 @@ use notes::Ending;
 use page::pen::Writer;
 use page::words::{Card, put_hand};
 use spots::{Chips, pot_at, reach_of_first};
+use std::fmt;
+use std::fmt::Write;
 
 // The best hand of a sitting: its class, its ranks, and the number that hands are compared by.
 #[derive(Clone, Copy)]
@@ -84,18 +83,15 @@ struct Row {
 impl Part {
     // Who it is, its stack before, and what it put in, by round and together.
     fn put_numbers(&self, w: &mut Writer<'_>, r: Row) -> fmt::Result {
-        let seat = r.seat;
-        let sitting = self.sitting;
-        let before = self.before;
         write!(
             w,
-            r#"<tr class="part"><td>{seat}</td><td>{sitting}</td><td>{before}</td>"#
+            r#"<tr class="part"><td>{}</td><td>{}</td><td>{}</td>"#,
+            r.seat, self.sitting, self.before
         )?;
         for chips in &self.rounds {
             write!(w, "<td>{chips}</td>")?;
         }
-        let total = r.total;
-        write!(w, "<td>{total}</td>")
+        write!(w, "<td>{}</td>", r.total)
     }
 
     // How its hand stands, whether it has left, and who sits there now.
@@ -109,8 +105,7 @@ impl Part {
         if !self.here {
             w.write_str(", left")?;
             if self.now != 0 {
-                let now = self.now;
-                write!(w, "; now sitting {now}")?;
+                write!(w, "; now sitting {}", self.now)?;
             }
         }
         w.write_str("</td><td>")
@@ -119,8 +114,7 @@ impl Part {
     // Its cards that were entered, and its best five, where its hand is looked at.
     fn put_cards(&self, w: &mut Writer<'_>) -> fmt::Result {
         for k in self.cards.iter().take(self.held as usize) {
-            let card = Card(*k);
-            write!(w, " {card}")?;
+            write!(w, " {}", Card(*k))?;
         }
         w.write_str("</td><td>")?;
         if let Some(b) = self.best {
@@ -132,8 +126,7 @@ impl Part {
     // What goes back, to whom: to the sitting, or to nobody where it has left.
     fn put_back(&self, w: &mut Writer<'_>) -> fmt::Result {
         if self.back != 0 {
-            let back = self.back;
-            write!(w, "{back} go back")?;
+            write!(w, "{} go back", self.back)?;
             if !self.here {
                 w.write_str(" and are unclaimed")?;
             }
@@ -143,13 +136,11 @@ impl Part {
 
     // What it is paid, and why.
     fn put_paid(&self, w: &mut Writer<'_>, h: &Hand, r: Row) -> fmt::Result {
-        let back = self.back;
-        write!(w, "</td><td>{back}</td><td")?;
+        write!(w, "</td><td>{}</td><td", self.back)?;
         if h.charged.is_none() {
             return w.write_str("></td><td></td></tr>\n");
         }
-        let paid = self.paid;
-        write!(w, r#" class="paid">{paid}</td><td class="why">"#)?;
+        write!(w, r#" class="paid">{}</td><td class="why">"#, self.paid)?;
         put_reasons(w, h, r)?;
         self.put_back(w)
     }
@@ -180,8 +171,12 @@ fn put_reasons(w: &mut Writer<'_>, h: &Hand, r: Row) -> fmt::Result {
 
 // The head of the sittings' table.
 fn put_parts_head(w: &mut Writer<'_>) -> fmt::Result {
-    w.write_str("<table class=\"parts\">\n<caption>Who was dealt in</caption>\n<tr><th>seat</th><th>sitting</th><th>stack before</th><th>before the flop</th><th>flop</th><th>turn</th><th>river</th><th>put in</th>")?;
-    w.write_str("<th>hand</th><th>cards</th><th>best five</th><th>goes back</th><th>paid</th><th class=\"why\">why</th></tr>\n")
+    w.write_str(
+        "<table class=\"parts\">\n<caption>Who was dealt in</caption>\n<tr><th>seat</th><th>sitting</th><th>stack before</th><th>before the flop</th><th>flop</th><th>turn</th><th>river</th><th>put in</th>",
+    )?;
+    w.write_str(
+        "<th>hand</th><th>cards</th><th>best five</th><th>goes back</th><th>paid</th><th class=\"why\">why</th></tr>\n",
+    )
 }
 
 // A row for each seat where somebody was dealt in.
@@ -219,27 +214,33 @@ fn put_pot(w: &mut Writer<'_>, c: &Chips, k: usize) -> fmt::Result {
 
 // The table of the pots, with what goes back.
 fn put_pots(w: &mut Writer<'_>, c: &Chips) -> fmt::Result {
-    w.write_str("<table class=\"pots\">\n<caption>Pots</caption>\n<tr><th>pot</th><th>heights</th><th>chips</th><th>contended by</th></tr>\n")?;
+    w.write_str(
+        "<table class=\"pots\">\n<caption>Pots</caption>\n<tr><th>pot</th><th>heights</th><th>chips</th><th>contended by</th></tr>\n",
+    )?;
     for k in 0..c.pots.n {
         put_pot(w, c, k)?;
     }
-    let back = c.back;
     writeln!(
         w,
-        r#"<tr><td colspan="2">back</td><td class="back">{back}</td><td></td></tr>"#
+        r#"<tr><td colspan="2">back</td><td class="back">{}</td><td></td></tr>"#,
+        c.back
     )?;
     w.write_str("</table>\n")
 }
 
 // Fee, drop and what nobody claims.
 fn put_charged(w: &mut Writer<'_>, charged: Option<Charged>) -> fmt::Result {
-    let Some(Charged {
-        fee,
-        drop,
-        unclaimed,
-    }) = charged
+    let Some(
+        Charged {
+            fee,
+            drop,
+            unclaimed,
+        },
+    ) = charged
     else {
-        return w.write_str("<p class=\"open\"><strong>The log ends inside this hand: nothing of it is paid.</strong></p>\n");
+        return w.write_str(
+            "<p class=\"open\"><strong>The log ends inside this hand: nothing of it is paid.</strong></p>\n",
+        );
     };
     write!(
         w,
