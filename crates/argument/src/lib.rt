@@ -7,6 +7,7 @@ ghost use Rattle.laws.specs.Listing.{same_list};
 use std::env::Env;
 
 // Whether what was given is this word, and no more.
+#[tactic(auto, using(crate::proofs::Words::pointwise_same))]
 fn is_word(given: &[u8], word: &[u8]) -> bool
     ensures { result ≡ same_list given.now word.now }
 {

@@ -38,15 +38,17 @@ pub fn put_opening(w: &mut Writer<'_>, hand: u64, columns: u32) -> fmt::Result {
 // Below a column: its seat, its sitting, what it has put in, and whether it is out of the hand or has left.
 pub fn put_foot(w: &mut Writer<'_>, c: &Chips, q: &Column) -> fmt::Result {
     let x = more(q.x, 260);
-    let seat = q.seat;
-    let sitting = q.sitting;
-    let total = q.total;
     writeln!(
         w,
-        r##"<text font-weight="bold" x="{x}" y="3660">seat {seat}</text>"##
+        r##"<text font-weight="bold" x="{x}" y="3660">seat {}</text>"##,
+        q.seat
     )?;
-    writeln!(w, r##"<text x="{x}" y="3810">sitting {sitting}</text>"##)?;
-    writeln!(w, r##"<text x="{x}" y="3960">{total} in</text>"##)?;
+    writeln!(
+        w,
+        r##"<text x="{x}" y="3810">sitting {}</text>"##,
+        q.sitting
+    )?;
+    writeln!(w, r##"<text x="{x}" y="3960">{} in</text>"##, q.total)?;
     let word = if !in_mask(c.here, q.place) {
         "out, left"
     } else if !in_mask(c.live, q.place) {

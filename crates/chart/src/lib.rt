@@ -41,19 +41,19 @@ struct Piece {
 
 // The place and size of a piece.
 fn put_box(w: &mut Writer<'_>, x: u64, d: Piece) -> fmt::Result {
-    let y = d.top;
-    let tall = d.tall;
-    write!(w, r##" x="{x}" y="{y}" width="520" height="{tall}""##)
+    write!(
+        w,
+        r##" x="{x}" y="{}" width="520" height="{}""##,
+        d.top, d.tall
+    )
 }
 
 // Whose a piece is, and how many chips lie in it; the number is written inside where the piece is high enough for it.
 fn put_data(w: &mut Writer<'_>, q: &Column, d: Piece) -> fmt::Result {
-    let seat = q.seat;
-    let sitting = q.sitting;
-    let chips = d.chips;
     writeln!(
         w,
-        r##" data-seat="{seat}" data-sitting="{sitting}" data-chips="{chips}"/>"##
+        r##" data-seat="{}" data-sitting="{}" data-chips="{}"/>"##,
+        q.seat, q.sitting, d.chips
     )?;
     if d.tall < 130 {
         return Ok(());
@@ -62,7 +62,8 @@ fn put_data(w: &mut Writer<'_>, q: &Column, d: Piece) -> fmt::Result {
     let y = more(d.top, d.tall / 2 + 45);
     writeln!(
         w,
-        r##"<text stroke="#fff" stroke-width="36" paint-order="stroke" x="{x}" y="{y}">{chips}</text>"##
+        r##"<text stroke="#fff" stroke-width="36" paint-order="stroke" x="{x}" y="{y}">{}</text>"##,
+        d.chips
     )
 }
 

@@ -83,18 +83,15 @@ struct Row {
 impl Part {
     // Who it is, its stack before, and what it put in, by round and together.
     fn put_numbers(&self, w: &mut Writer<'_>, r: Row) -> fmt::Result {
-        let seat = r.seat;
-        let sitting = self.sitting;
-        let before = self.before;
         write!(
             w,
-            r#"<tr class="part"><td>{seat}</td><td>{sitting}</td><td>{before}</td>"#
+            r#"<tr class="part"><td>{}</td><td>{}</td><td>{}</td>"#,
+            r.seat, self.sitting, self.before
         )?;
         for chips in &self.rounds {
             write!(w, "<td>{chips}</td>")?;
         }
-        let total = r.total;
-        write!(w, "<td>{total}</td>")
+        write!(w, "<td>{}</td>", r.total)
     }
 
     // How its hand stands, whether it has left, and who sits there now.
@@ -108,8 +105,7 @@ impl Part {
         if !self.here {
             w.write_str(", left")?;
             if self.now != 0 {
-                let now = self.now;
-                write!(w, "; now sitting {now}")?;
+                write!(w, "; now sitting {}", self.now)?;
             }
         }
         w.write_str("</td><td>")
@@ -118,8 +114,7 @@ impl Part {
     // Its cards that were entered, and its best five, where its hand is looked at.
     fn put_cards(&self, w: &mut Writer<'_>) -> fmt::Result {
         for k in self.cards.iter().take(self.held as usize) {
-            let card = Card(*k);
-            write!(w, " {card}")?;
+            write!(w, " {}", Card(*k))?;
         }
         w.write_str("</td><td>")?;
         if let Some(b) = self.best {
@@ -131,8 +126,7 @@ impl Part {
     // What goes back, to whom: to the sitting, or to nobody where it has left.
     fn put_back(&self, w: &mut Writer<'_>) -> fmt::Result {
         if self.back != 0 {
-            let back = self.back;
-            write!(w, "{back} go back")?;
+            write!(w, "{} go back", self.back)?;
             if !self.here {
                 w.write_str(" and are unclaimed")?;
             }
@@ -142,13 +136,11 @@ impl Part {
 
     // What it is paid, and why.
     fn put_paid(&self, w: &mut Writer<'_>, h: &Hand, r: Row) -> fmt::Result {
-        let back = self.back;
-        write!(w, "</td><td>{back}</td><td")?;
+        write!(w, "</td><td>{}</td><td", self.back)?;
         if h.charged.is_none() {
             return w.write_str("></td><td></td></tr>\n");
         }
-        let paid = self.paid;
-        write!(w, r#" class="paid">{paid}</td><td class="why">"#)?;
+        write!(w, r#" class="paid">{}</td><td class="why">"#, self.paid)?;
         put_reasons(w, h, r)?;
         self.put_back(w)
     }
@@ -228,10 +220,10 @@ fn put_pots(w: &mut Writer<'_>, c: &Chips) -> fmt::Result {
     for k in 0..c.pots.n {
         put_pot(w, c, k)?;
     }
-    let back = c.back;
     writeln!(
         w,
-        r#"<tr><td colspan="2">back</td><td class="back">{back}</td><td></td></tr>"#
+        r#"<tr><td colspan="2">back</td><td class="back">{}</td><td></td></tr>"#,
+        c.back
     )?;
     w.write_str("</table>\n")
 }

@@ -32,31 +32,27 @@ fn card_of(a: u32) -> Card {
 impl Event {
     // The entry's number and its seat.
     fn put_who(&self, w: &mut Writer<'_>) -> fmt::Result {
-        let n = self.n;
-        let seat = self.seat;
-        let sitting = self.sitting;
-        write!(w, "<p><b>{n}</b> seat {seat} (sitting {sitting}) ")
+        write!(
+            w,
+            "<p><b>{}</b> seat {} (sitting {}) ",
+            self.n, self.seat, self.sitting
+        )
     }
 
     fn put_sat(&self, w: &mut Writer<'_>) -> fmt::Result {
-        let n = self.n;
-        let seat = self.seat;
-        let sitting = self.after;
-        let stack = self.left;
         writeln!(
             w,
-            "<p><b>{n}</b> seat {seat}: sitting {sitting} sits down with {stack}</p>"
+            "<p><b>{}</b> seat {}: sitting {} sits down with {}</p>",
+            self.n, self.seat, self.after, self.left
         )
     }
 
     // A sitting leaves: with what it has, and of the open hand it leaves what it put in.
     pub fn put_left(&self, w: &mut Writer<'_>) -> fmt::Result {
         self.put_who(w)?;
-        let stack = self.stack;
-        write!(w, "leaves with {stack}")?;
+        write!(w, "leaves with {}", self.stack)?;
         if self.inside {
-            let put = self.put;
-            write!(w, "; its {put} stay in this hand")?;
+            write!(w, "; its {} stay in this hand", self.put)?;
         }
         w.write_str("</p>\n")
     }
@@ -64,8 +60,7 @@ impl Event {
     // A hand is given up, or a turn passed on: what was put in stays.
     fn put_in(&self, w: &mut Writer<'_>, word: &str) -> fmt::Result {
         self.put_who(w)?;
-        let put = self.put;
-        writeln!(w, "{word} with {put} in</p>")
+        writeln!(w, "{word} with {} in</p>", self.put)
     }
 
     // What a call or a wager puts in, and whether it is the whole stack.
@@ -89,15 +84,11 @@ impl Event {
 
     fn put_hole(&self, w: &mut Writer<'_>, a: u32, b: u32) -> fmt::Result {
         self.put_who(w)?;
-        let first = card_of(a);
-        let second = card_of(b);
-        writeln!(w, "holds {first} {second}</p>")
+        writeln!(w, "holds {} {}</p>", card_of(a), card_of(b))
     }
 
     fn put_board(&self, w: &mut Writer<'_>, a: u32) -> fmt::Result {
-        let n = self.n;
-        let card = card_of(a);
-        writeln!(w, "<p><b>{n}</b> board: {card}</p>")
+        writeln!(w, "<p><b>{}</b> board: {}</p>", self.n, card_of(a))
     }
 
     // A line for an entry that was taken; a `leave`, a `hand` and a `settle` have their own.
@@ -120,24 +111,25 @@ impl Event {
         if first {
             w.write_str("<details>\n<summary>refused</summary>\n")?;
         }
-        let n = self.n;
-        write!(w, "<p class=\"refused\"><b>{n}</b> ")?;
+        write!(w, "<p class=\"refused\"><b>{}</b> ", self.n)?;
         if code == MALFORMED {
             w.write_str("a block")?;
         } else {
             self.put_numbers(w)?;
         }
-        let why = Refused(code);
-        writeln!(w, ": {code}, {why}</p>")
+        writeln!(w, ": {code}, {}</p>", Refused(code))
     }
 
     // The numbers of a refused block, as they were read.
     fn put_numbers(&self, w: &mut Writer<'_>) -> fmt::Result {
-        let kind = Kind(self.kind);
-        let seat = self.seat;
-        let a = self.a;
-        let b = self.b;
-        write!(w, "{kind} seat {seat}, a {a}, b {b}")
+        write!(
+            w,
+            "{} seat {}, a {}, b {}",
+            Kind(self.kind),
+            self.seat,
+            self.a,
+            self.b
+        )
     }
 }
 
