@@ -14,15 +14,14 @@ use logs::copy::{next_number, write_note};
 use paper::{STAND_IN, Sheet};
 use text::sheet::read_sheet;
 
-// The book between two bytes: whether the log is asked for in place of the answers, whether the sheet was read, whether to go on, whether reading or writing
-// failed, the sheet, the book, how many blocks were read, what is kept of the unfinished lines, and how many bytes the last step used up and wrote.
+// The book between two bytes: whether the log is asked for in place of the answers, whether the sheet was read, whether to go on, the sheet, the book, how
+// many blocks were read, what is kept of the unfinished lines, and how many bytes the last step used up and wrote.
 // One struct goes from step to step: a struct in another, taken out and put back at each step, made the check longer (docs/BENCHMARKS.md).
 #[derive(Clone, Copy)]
 pub struct Keeper {
     pub as_log: bool,
     pub opened: bool,
     pub more: bool,
-    pub failed: bool,
     pub sheet: Sheet,
     pub book: Book,
     pub count: u32,
@@ -42,7 +41,6 @@ pub fn start(as_log: bool) -> Keeper
         as_log,
         opened: false,
         more: true,
-        failed: false,
         sheet: s,
         book: b,
         count: 0,

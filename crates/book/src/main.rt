@@ -4,7 +4,7 @@
 
 mod keeper;
 
-ghost use Rattle.std.specs.Prelude.{◌≡◌, ◌+◌, ◌≤◌, ◌<◌, length};
+ghost use Rattle.std.specs.Prelude.{◌≡◌, ◌≤◌, ◌<◌, ⊤, length};
 ghost use Rattle.lines.specs.Kept.{kept_most};
 ghost use Rattle.ledger.specs.Keeping.{Held};
 ghost use Rattle.book.specs.Ready.{Ready};
@@ -13,9 +13,10 @@ use argument::is_argument;
 use keeper::{Keeper, start, take_lines, take_one};
 use logs::copy::copy_sheet;
 use logs::write_entry;
-use output::{STDERR_FILENO, STDOUT_FILENO, flush, read_part};
+use output::{Failed, Listener, STDERR_FILENO, STDOUT_FILENO, flush, read_all, write_out};
 use paper::Sheet;
 use records::entry_in;
+use std::ops::ControlFlow;
 use text::sheet::ROOM;
 
 // What is said is written out where more than so many bytes of it lie in its buffer: any answer and any entry has room behind them.
@@ -40,93 +41,74 @@ fn voice(as_log: bool) -> i32 {
     if as_log { STDERR_FILENO } else { STDOUT_FILENO }
 }
 
-// Where a part goes on: behind what was used up of it, or, where nothing more is to be read, at its end.
-fn next_place(more: bool, from: usize, used: usize, part: &[u8]) -> usize
-    requires { (0 < used) × (from + used ≤ length part.now) }
-    ensures { (from < result) × (result ≤ length part.now) }
-{
-    if more {
-        return from + used;
-    }
-    part.len()
+// The keeper, the unfinished lines and the lent buffers of the stored log; what is still to be written, and whether what was written out could be. The log has
+// room for 4,096 records, its index for 1,365 rows of 44 bytes, which is as many hands as so many entries can open.
+#[derive(Drop)]
+struct Desk {
+    keeper: Keeper,
+    buf: [u8; ROOM],
+    log: [u8; 32768],
+    index: [u8; 65536],
+    out: [u8; 16384],
+    at: usize,
+    wrote: Result<(), Failed>,
 }
 
-// Takes every block that ends in this part of the input, in one write where the answers fit.
-fn take_part(mut k: Keeper, buf: &mut [u8], log: &mut [u8], index: &mut [u8], part: &[u8]) -> Keeper
-    requires { Ready k × (kept_most ≤ length buf.old) }
-    ensures { Ready result }
-{
-    let mut out = buffer();
-    let fd = voice(k.as_log);
-    let mut ok = true;
-    let mut from: usize = 0;
-    let mut at: usize = 0;
-    while from < part.len() {
-        let w = flush(fd, &out[0..at], ENOUGH);
-        ok = laws::both(ok, w.ok);
-        let e = w.at;
-        k = take_one(k, buf, log, index, &part[from..], &mut out[e..]);
-        at = e + k.written;
-        from = next_place(k.more, from, k.used, part);
+impl Desk {
+    // Where the next answer goes: what lies before it is written out where it leaves too little room. Where that fails, the rest of the part is taken all the same.
+    fn room(&mut self) -> usize
+        requires { (self.old.at ≤ 16384) × (length self.old.out ≡ 16384) }
+        ensures same { self.new ≡ record self.old { wrote = self.new.wrote } }
+        ensures within { result ≤ 15000 }
+    {
+        match flush(voice(self.keeper.as_log), &self.out[..self.at], ENOUGH) {
+            Ok(at) => at,
+            Err(e) => {
+                self.wrote = Err(e);
+                0
+            }
+        }
     }
-    let last = io::write_all(fd, &out[0..at]);
-    let wrote = laws::both(ok, last);
-    k.failed = !wrote;
-    k.more = laws::both(k.more, wrote);
-    k
 }
 
-// One read, and the answers to it. A read that fails is no end of the input: then nothing more is said.
-fn read_some(
-    rt: &HostRuntime,
-    mut k: Keeper,
-    buf: &mut [u8],
-    log: &mut [u8],
-    index: &mut [u8],
-) -> Keeper
-    requires { Ready k × (kept_most ≤ length buf.old) }
-    ensures { Ready result }
-{
-    let mut input = buffer();
-    let got = read_part(rt, &mut input);
-    if got.count == 0 {
-        k.failed = got.failed;
-        k.more = false;
-        return k;
-    }
-    let n = got.count;
-    take_part(k, buf, log, index, &input[..n])
-}
+impl Listener for Desk {
+    ghost Held = { λ d. Ready d.keeper × (kept_most ≤ length d.buf) × (length d.out ≡ 16384) × (d.at ≤ 16384) };
 
-// How many turns are left after one: none where nothing more is to be read.
-fn turns_left(more: bool, turns: u64) -> u64
-    requires { 0 < turns }
-    ensures { result < turns }
-{
-    if more {
-        return turns - 1;
-    }
-    0
-}
+    ghost Heard = { λ _ _ _ _. ⊤ };
 
-// Reads to the end of the input, or of a bad sheet. A proved loop has to end, so it counts its turns down from a number that no run uses up.
-fn read_all(
-    rt: &HostRuntime,
-    as_log: bool,
-    buf: &mut [u8],
-    log: &mut [u8],
-    index: &mut [u8],
-) -> Keeper
-    requires { kept_most ≤ length buf.old }
-    ensures { Ready result }
-{
-    let mut k = start(as_log);
-    let mut turns = u64::MAX;
-    while turns > 0 {
-        k = read_some(rt, k, buf, log, index);
-        turns = turns_left(k.more, turns);
+    ghost none = { λ _ _. tt };
+
+    ghost on = { λ _ _ _ _ _ _ _ _. tt };
+
+    // The bytes of a part up to the end of a block, which is answered; all of it where nothing more is to be read.
+    fn hear(&mut self, part: &[u8]) -> Result<usize, Failed> {
+        let at = self.room();
+        self.keeper = take_one(
+            self.keeper,
+            &mut self.buf,
+            &mut self.log,
+            &mut self.index,
+            part,
+            &mut self.out[at..],
+        );
+        self.at = at + self.keeper.written;
+        Ok(if self.keeper.more {
+            self.keeper.used
+        } else {
+            part.len()
+        })
     }
-    k
+
+    fn pause(&mut self) -> Result<ControlFlow<()>, Failed> {
+        let last = write_out(voice(self.keeper.as_log), &self.out[..self.at]);
+        self.at = 0;
+        self.wrote.and(last)?;
+        Ok(if self.keeper.more {
+            ControlFlow::Continue(())
+        } else {
+            ControlFlow::Break(())
+        })
+    }
 }
 
 // ---- the end of the input
@@ -143,7 +125,7 @@ fn end_block(mut k: Keeper, buf: &[u8], log: &mut [u8], index: &mut [u8]) -> Kee
     let mut out = [0u8; answers::LONGEST];
     k = take_lines(k, &buf[0..e], log, index, &mut out);
     let n = k.written;
-    io::write_all(voice(k.as_log), &out[0..n]);
+    io::write_all(voice(k.as_log), &out[..n]);
     k
 }
 
@@ -170,13 +152,11 @@ fn write_log(s: Sheet, count: u32, log: &[u8])
     let mut out = buffer();
     let c = copy_sheet(s, &mut out);
     let mut at = c.written;
-    let mut k: u32 = 0;
-    while k < count {
-        let w = flush(STDOUT_FILENO, &out[0..at], ENOUGH);
-        at = put_behind(s, log, k, &mut out, w.at);
-        k += 1;
+    for k in 0..count {
+        let from = flush(STDOUT_FILENO, &out[..at], ENOUGH).unwrap_or(0);
+        at = put_behind(s, log, k, &mut out, from);
     }
-    io::write_all(STDOUT_FILENO, &out[0..at]);
+    io::write_all(STDOUT_FILENO, &out[..at]);
 }
 
 // The input has ended: a sheet that is not whole is bad; a block that is not whole is answered; and the log is written where it is asked for.
@@ -199,13 +179,17 @@ fn asked_for_log(rt: &HostRuntime) -> bool {
     is_argument(rt, 1, b"--log")
 }
 
-// The two lent buffers of the stored log: room for 4,096 records, and for 1,365 rows of 44 bytes, which is as many hands as so many entries can open.
 fn main(rt: HostRuntime) {
-    let mut buf = [0u8; ROOM];
-    let mut log = log_buffer();
-    let mut index = io::large_buffer();
-    let k = read_all(&rt, asked_for_log(&rt), &mut buf, &mut log, &mut index);
-    if !k.failed {
-        end(k, &buf, &mut log, &mut index);
+    let mut d = Desk {
+        keeper: start(asked_for_log(&rt)),
+        buf: [0; ROOM],
+        log: log_buffer(),
+        index: io::large_buffer(),
+        out: buffer(),
+        at: 0,
+        wrote: Ok(()),
+    };
+    if read_all(&rt, &mut d, &mut buffer()).is_ok() {
+        end(d.keeper, &d.buf, &mut d.log, &mut d.index);
     }
 }
