@@ -9,8 +9,8 @@ ghost use Rattle.lines.specs.Kept.{nothing, fill_of, gather_of, kept_in, kept_mo
 ghost use Rattle.frames.specs.Frames.{table_in, table_of, wanted, in_opening, after_part, kept_next, table_next, other_next, line_next, end_what, start_of, Held, heard_as};
 
 use lines::{Fill, empty, gather};
-use text::sheet::LINES;
 use text::read_key_number;
+use text::sheet::LINES;
 
 // Table 1, or table 2.
 #[derive(Clone, Copy)]
