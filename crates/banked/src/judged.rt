@@ -132,7 +132,10 @@ fn wrong_number(r: Round) -> bool
 {
     let side = either(
         100000 < r.jackpot,
-        either(100000 < r.extra, either(100000 < r.dealer, r.deal.high_card())),
+        either(
+            100000 < r.extra,
+            either(100000 < r.dealer, r.deal.high_card()),
+        ),
     );
     either(r.ante == 0, either(100000 < r.ante, side))
 }

@@ -150,8 +150,5 @@ pub(crate) fn better(ranking: Ranking, so_far: u64, chosen: u64) -> u64
     if (place(ranking, (row / 1048576 % 16) as u8) as u64) < so_far / 281474976710656 {
         return so_far;
     }
-    so_far.max(number_of(
-        ranking,
-        hand_at(row, ranks_of(cards_in(chosen)), false),
-    ))
+    so_far.max(number_of(ranking, hand_at(row, ranks_of(cards_in(chosen)), false)))
 }

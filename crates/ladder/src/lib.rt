@@ -159,7 +159,11 @@ fn odd_place(under: u32, h: Hand) -> u32
 {
     let all = five_below(up(h.r1), up(h.r2), up(h.r3), up(h.r4), up(h.r5));
     let n = under + short_of(all + 1, rows_below(h.r1));
-    chosen(is_straight(h), 0, chosen(falling(&[h.r1, h.r2, h.r3, h.r4, h.r5]), n, 0))
+    chosen(
+        is_straight(h),
+        0,
+        chosen(falling(&[h.r1, h.r2, h.r3, h.r4, h.r5]), n, 0),
+    )
 }
 
 fn three_place(under: u32, h: Hand) -> u32
