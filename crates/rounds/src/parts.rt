@@ -16,6 +16,15 @@ pub struct Fill {
     pub width: usize,
 }
 
+impl Fill {
+    // Whether nothing is kept.
+    fn is_empty(self) -> bool
+        ensures { result ≡ both (eqb self.count 0) (both (eqb self.lines 0) (eqb self.width 0)) }
+    {
+        both(self.count == 0, both(self.lines == 0, self.width == 0))
+    }
+}
+
 // Nothing is kept.
 pub fn empty() -> Fill
     ensures { Held result × (result.count ≡ 0) × (result.lines ≡ 0) × (result.width ≡ 0) }
@@ -109,13 +118,6 @@ fn feed_kept(m: Fill, buf: &mut [u8], part: &[u8], out: &mut [u8]) -> Fed
     }
 }
 
-// Whether nothing is kept.
-fn is_empty(m: Fill) -> bool
-    ensures { result ≡ both (eqb m.count 0) (both (eqb m.lines 0) (eqb m.width 0)) }
-{
-    both(m.count == 0, both(m.lines == 0, m.width == 0))
-}
-
 // The bytes of a part up to the end of a block, which is answered, or all of them, which are kept. A well-formed block that lies whole at the front of the
 // part, behind nothing that is kept, is answered where it lies.
 pub fn feed(m: Fill, buf: &mut [u8], part: &[u8], out: &mut [u8]) -> Fed
@@ -125,7 +127,7 @@ pub fn feed(m: Fill, buf: &mut [u8], part: &[u8], out: &mut [u8]) -> Fed
     ensures wrote { Wrote (bytes_after (gather_of (state_of m buf.old) part.now).kept) out.old out.new result.written }
     ensures held { Held result.fill × (result.used ≤ length part.now) × (0 < length part.now → 0 < result.used) × (result.written ≤ 216) }
 {
-    if is_empty(m) {
+    if m.is_empty() {
         if let Some(s) = read_numbers(part) {
             let written = put_outcome(out, judge(s.numbers));
             return Fed {

@@ -97,7 +97,7 @@ fn choice_of(fold: u32, turn: u32, river: u32) -> Choice
 fn card_in(n: u32) -> u8
     ensures { result ≡ card_in n }
 {
-    if n < 255 { n as u8 } else { 255 }
+    u8::try_from(n).unwrap_or(255)
 }
 
 fn deal_of(n: [u32; 16]) -> Deal

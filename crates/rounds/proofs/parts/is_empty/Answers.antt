@@ -1,5 +1,0 @@
--- `is_empty` meets its contract.
-use Rattle.rounds.proofs.parts.is_empty.Goals as goal
-
-pub returns : goal.returns
-returns c = cc
