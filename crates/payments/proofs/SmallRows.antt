@@ -2,7 +2,7 @@
 --     take_each, drop_each, append_each    a fact of every place of a list, for a part of it and for two lists joined
 --     proposal_small    the proposer takes no more of a row than it holds
 --     after_small       rows after an answer
---     judged_small, proposing_small        the codes
+--     judged_small      the checker's code
 use Prim.Native.Nat.{ℕ, zero, suc, ◌+◌, ◌-◌, ◌≤◌, ◌<◌, ◌^◌}
 use mathlib.Core.Path.{◌≡◌, sym, ap, ◌∙◌, subst}
 use mathlib.Core.Bool.{Bool, true, false}
@@ -20,10 +20,10 @@ use Rattle.tray.specs.Counting.{list_to}
 use Rattle.tray.specs.Proposal.{judged, taken_from, fits, pays_all, holds_all}
 use Rattle.tray.proofs.Front.{each_at, each_long}
 use Rattle.tray.proofs.Sums.{list_at, list_long}
-use Rattle.proposer.specs.Proposer.{proposal, proposal_to, takes, left_to, all_paid, served, order_of, proposing}
+use Rattle.proposer.specs.Proposer.{proposal, proposal_to, takes, left_to, served, order_of}
 use Rattle.proposer.proofs.Worths.{served_less}
 use Rattle.rows.specs.declared.Row.{Row}
-use Rattle.rows.specs.Rows.{no_row, worths_of, counts_of, lower, lower_all, judged_rows, rows_after, proposing_rows}
+use Rattle.rows.specs.Rows.{no_row, worths_of, counts_of, lower, lower_all, judged_rows, rows_after}
 use Rattle.teller.specs.Keeping.{SmallRow}
 
 module _ {A : Type 0} (P : A → Type 0) (d : A) where
@@ -105,15 +105,6 @@ unfolding judged_rows judged
 judged_small rows paid p = go (fits (worths_of rows) (counts_of rows) (length paid) (length p)) (both (pays_all (worths_of rows) paid p) (holds_all (counts_of rows) (length paid) p))
   where
     go : (f t : Bool) → pick f (pick t 0 16) 2 < 10 ^ 9
-    go true true = lit< tt
-    go true false = lit< tt
-    go false t = lit< tt
-
-pub proposing_small : (rows : List Row) (paid : List ℕ) (long : ℕ) → proposing_rows rows paid long < 10 ^ 9
-unfolding proposing_rows proposing
-proposing_small rows paid long = go (fits (worths_of rows) (counts_of rows) (length paid) long) (all_paid (worths_of rows) (counts_of rows) paid)
-  where
-    go : (f t : Bool) → pick f (pick t 0 17) 2 < 10 ^ 9
     go true true = lit< tt
     go true false = lit< tt
     go false t = lit< tt

@@ -11,12 +11,13 @@ ghost use Rattle.payments.specs.Payments.{Does};
 ghost use Rattle.payments.specs.Answering.{answers_line, proposal_line, tray_answer, heard_line, is_over, end_text, line_room, end_room};
 
 use laws::both;
+use paper::Refusal;
 pub use paying::Answered;
 use paying::{check_out, pay_out};
 use teller::{
     ANSWERS_DUE, FAULT, GIVE, Line, PROPOSAL_DUE, Teller, answer_line, give_line, put, tray_line,
 };
-use writer::{put_code, put_tray};
+use writer::{put_refusal, put_tray};
 
 // A line where answers are due: without `--check` a payment that is due is made at once.
 fn answers_line(check: bool, s: Teller, l: Line, gives: &mut [u32], out: &mut [u8]) -> Answered
@@ -66,7 +67,7 @@ fn tray_answer(s: Teller, l: Line, gives: &[u32], out: &mut [u8]) -> Answered
     if t.due == FAULT {
         return Answered {
             teller: t,
-            written: put_code(out, 2),
+            written: put_refusal(out, Refusal::OutOfRange),
         };
     }
     Answered {
@@ -112,7 +113,7 @@ pub fn close(s: Teller, gives: &[u32], out: &mut [u8]) -> usize
         return 0;
     }
     if s.due < ANSWERS_DUE {
-        return put_code(out, 2);
+        return put_refusal(out, Refusal::OutOfRange);
     }
     if s.due == PROPOSAL_DUE {
         let a = check_out(s, gives, out);

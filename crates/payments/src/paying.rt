@@ -6,7 +6,7 @@ ghost use Rattle.tray.specs.Proposal.{accepted, code_of};
 ghost use Rattle.teller.specs.Keeping.{Sound, anew};
 ghost use Rattle.payments.specs.Payments.{code_text, paid_out, checked, payment, proposed, proposing, Does};
 
-use crate::writer::{put_code, put_sittings};
+use crate::writer::{put_code, put_refusal, put_sittings};
 use laws::either;
 use paper::Refusal;
 use rows::{accept_from, propose_from};
@@ -39,7 +39,7 @@ fn refuse(s: Teller, out: &mut [u8], e: Refusal) -> Answered
     let teller = anew(s, row);
     Answered {
         teller,
-        written: put_code(out, u32::from(e.number())),
+        written: put_refusal(out, e),
     }
 }
 

@@ -1,11 +1,13 @@
 // Texts at the front of a lent sheet: a code, a payment, the tray.
 ghost use Rattle.std.specs.Prelude.{◌≡◌, ℕ, ◌*◌, ◌≤◌, ◌<◌, ◌^◌, length, get_or, take};
+ghost use Rattle.paper.specs.Refusals.{number_of};
 ghost use Rattle.writing.specs.AnswerSheet.{Wrote};
 ghost use Rattle.answers.specs.Answer.{joined};
 ghost use Rattle.rows.specs.Rows.{no_row};
 ghost use Rattle.teller.specs.Keeping.{SmallRow};
 ghost use Rattle.payments.specs.Payments.{give_text, code_text, sitting_text, sittings_text, row_text, tray_text};
 
+use paper::Refusal;
 use rows::Row;
 use teller::Tray;
 use writing::write_number_line;
@@ -92,4 +94,12 @@ pub fn put_code(out: &mut [u8], code: u32) -> usize
     ensures { Wrote (code_text code) out.old out.new result × (result ≤ 15) }
 {
     write_number_line(out, b"code", code)
+}
+
+// The number of a refusal.
+pub fn put_refusal(out: &mut [u8], e: Refusal) -> usize
+    requires { 15 ≤ length out.old }
+    ensures { Wrote (code_text (number_of e)) out.old out.new result × (result ≤ 15) }
+{
+    put_code(out, u32::from(e.number()))
 }

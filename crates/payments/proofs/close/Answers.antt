@@ -7,7 +7,6 @@ use Rattle.teller.specs.Keeping.{Sound}
 use Rattle.teller.specs.declared.state.Teller.{Teller}
 use Rattle.writing.proofs.Sheets.{then}
 use borrow.Author.Tests.{eq-eqb, ne_eqb, lt-ltb, le-ltb}
-use lib.Dec.{lit<}
 use native.Mathlib.Omega.{arith}
 use mathlib.Core.List.{◌++◌}
 use mathlib.Core.Path.{refl, sym, ap, ◌∙◌, subst}
@@ -17,12 +16,12 @@ pub returns-then-ended : goal.returns-then-ended
 unfolding end_text
 returns-then-ended c = rw (sym c.ended.ensures ∙ c.if-ended.true) (record { count = refl; sheet = refl }, omega arith)
 
-pub put_code-requires : goal.put_code-requires
-put_code-requires c = (lit< tt, omega (arith, c.requires.2))
+pub put_refusal-requires : goal.put_refusal-requires
+put_refusal-requires c = omega (arith, c.requires.2)
 
 pub returns-then-s-lt-ANSWERS_DUE : goal.returns-then-s-lt-ANSWERS_DUE
 unfolding end_text
-returns-then-s-lt-ANSWERS_DUE c = rw (sym c.ended.ensures ∙ c.if-ended.false, lt-ltb c.args.s.due 3 c.if-s-lt-ANSWERS_DUE.true) (c.put_code.ensures.0, omega (arith, c.put_code.ensures.1))
+returns-then-s-lt-ANSWERS_DUE c = rw (sym c.ended.ensures ∙ c.if-ended.false, lt-ltb c.args.s.due 3 c.if-s-lt-ANSWERS_DUE.true) (c.put_refusal.ensures.0, omega (arith, c.put_refusal.ensures.1))
 
 pub check_out-a-requires : goal.check_out-a-requires
 check_out-a-requires c = (c.requires.0, c.requires.1, omega (arith, c.requires.2))

@@ -10,7 +10,7 @@ use Rattle.payments.proofs.tray_answer.Goals as goal
 pub returns-then-t-eq-FAULT : goal.returns-then-t-eq-FAULT
 unfolding tray_answer
 returns-then-t-eq-FAULT c = let t : (tray_line c.args.s c.args.l).due ≡ 5 = ap (λ (u : Teller). u.due) (sym c.tray_line-t.ensures) ∙ c.if-t-eq-FAULT.true in
-    record { teller = c.tray_line-t.ensures; lent = refl; wrote = rw (eq-eqb (tray_line c.args.s c.args.l).due 5 t) c.put_code.ensures.0; most = c.put_code.ensures.1 }
+    record { teller = c.tray_line-t.ensures; lent = refl; wrote = rw (eq-eqb (tray_line c.args.s c.args.l).due 5 t) c.put_refusal.ensures.0; most = c.put_refusal.ensures.1 }
 
 pub returns : goal.returns
 unfolding tray_answer
