@@ -1,11 +1,10 @@
 -- Laws of writing into a sheet: writers one behind the other, and with too little room. Assumes nothing.
-use mathlib.Core.Path.{◌≡◌, refl, sym, ap, ◌∙◌}
+use mathlib.Core.Path.{◌≡◌, refl, sym, ◌∙◌}
 use mathlib.Core.List.{List, [], ◌∷◌, ◌++◌, append_assoc}
 use Prim.Native.Nat.{ℕ, suc, ◌+◌, ◌-◌, ◌≤◌, ◌<◌}
 use native.Mathlib.Numerals.{add-one}
-use native.Mathlib.Omega.{arith}
-use lib.ListN.{length, get_or, take, drop, set, length-append}
-use lib.Seq.{take-append_seam, drop-append_seam, drop-drop, drop-cons, set-append_seam, length-take-le, take-suc, set_split}
+use lib.ListN.{length, take, drop, set, length-append}
+use lib.Seq.{take-append_seam, drop-append_seam, drop-drop, drop-cons, set-append_seam, set_split}
 use borrow.Rule.Slice.PartMut.{mid_of, put_mid}
 use Rattle.std.specs.Prelude.{Ok, Err}
 use Rattle.paper.specs.declared.refusal.Refusal.TheVariants.{NoRoom}
@@ -33,14 +32,6 @@ pub over_set : (xs l : List ℕ) (b : ℕ) → length xs < length l → set (ove
 over_set xs l b h =
     rw (length-append xs (b ∷ []), add-one (length xs), drop-cons l (length xs) 0)
     (set-append_seam xs _ (drop (suc (length xs)) l) b ∙ sym (append_assoc xs (b ∷ []) (drop (suc (length xs)) l)))
-
--- a copy of one byte more
-pub copy_on : (bs l : List ℕ) (i : ℕ) → i < length bs → length bs ≤ length l → set (over (take i bs) l) i (get_or bs i 0) ≡ over (take (i + 1) bs) l
-copy_on bs l i h k =
-    let e : length (take i bs) ≡ i = length-take-le i bs (omega arith) in
-    ap (λ (j : ℕ). set (over (take i bs) l) j (get_or bs i 0)) (sym e)
-    ∙ over_set (take i bs) l (get_or bs i 0) (rw e (omega arith))
-    ∙ rw (add-one i, take-suc bs i 0)
 
 -- a store just behind what was written
 pub push : {xs l s : List ℕ} {a : ℕ} (b : ℕ) → length xs < length l → Wrote xs l s a → Wrote (xs ++ (b ∷ [])) l (set s a b) (a + 1)
