@@ -15,7 +15,7 @@ pub returns-then-renewal-clause-far : goal.returns-then-renewal-clause-far
 returns-then-renewal-clause-far c d l m =
     let n : c.loop-i.renewal.done ≡ false → length c.loop-i.out - c.loop-i.at < given_most =
     λ e. elim c.then-renewal.branch [
-      then-renewal-via-then-renewal w ↦ absurd (true_false (sym w.if-renewal.true ∙ e))
+      | then-renewal-via-then-renewal w ↦ absurd (true_false (sym w.if-renewal.true ∙ e))
       | then-renewal-via-else-renewal+then-out-at-lt-MOST w ↦ omega (arith, w.if-out-at-lt-MOST.true, most_is)
     ] in
     renew_moves c.loop-i.invariant n d m
