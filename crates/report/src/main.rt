@@ -1,18 +1,19 @@
 // The supervisor's page: a log on standard input, one HTML page on standard output, in constant memory.
 #![tactic(auto)]
 
-ghost use Rattle.std.specs.Prelude.{◌≤◌, ◌<◌, length};
+ghost use Rattle.std.specs.Prelude.{◌≤◌, ◌<◌, ⊤, length};
 ghost use Rattle.lines.specs.Kept.{kept_most, Room};
 ghost use Rattle.table.specs.Take.{Sound};
 
 use desk::log::read_lone_sheet;
 use lines::{Fill, gather, lines_of};
 use notes::{Notes, no_notes};
-use output::{ahead, read_part};
+use output::{Failed, Listener, read_all};
 use page::pen::{Pen, written_out};
 use page::words::put_head;
 use paper::STAND_IN;
 use reporter::tell;
+use std::ops::ControlFlow;
 use table::table::Table;
 use table::take::new_table;
 
@@ -98,92 +99,50 @@ fn unfinished(m: Fill, want: usize) -> Fill
     lines::empty()
 }
 
-// The page, what is kept of unfinished lines, and how far the part is read.
-#[derive(Clone, Copy)]
-struct Going {
+// The page, what is kept of unfinished lines, and the buffer in which the page is written.
+#[derive(Drop)]
+struct Telling {
     page: Page,
     fill: Fill,
-    from: usize,
+    buf: [u8; text::sheet::ROOM],
+    out: [u8; 65536],
 }
 
-// The bytes of a part up to the end of the sheet or of a block, which is told, or what is left of the part, which is kept.
-fn take_one(g: Page, m: Fill, buf: &mut [u8], part: &[u8], from: usize, out: &mut [u8]) -> Going
-    requires { Sound g.table × Room m × (kept_most ≤ length buf.old) × (from < length part.now) }
-    ensures { Sound result.page.table × Room result.fill × (from < result.from) × (result.from ≤ length part.now) }
-{
-    let want = lines_of(g.opened);
-    let old = unfinished(m, want);
-    let k = gather(buf, old, &part[from..], want);
-    let next = ahead(from, k.used, part);
-    let fill = k.fill;
-    if fill.lines < want {
-        return Going {
-            page: g,
-            fill,
-            from: next,
-        };
-    }
-    let e = fill.count;
-    let page = take_lines(g, &buf[0..e], out);
-    let none = lines::empty();
-    Going {
-        page,
-        fill: none,
-        from: next,
-    }
-}
+impl Listener for Telling {
+    ghost Held = { λ t. Sound t.page.table × Room t.fill × (kept_most ≤ length t.buf) };
 
-// The page and what is kept, and whether to go on.
-#[derive(Clone, Copy)]
-struct Lap {
-    page: Page,
-    fill: Fill,
-    more: bool,
-}
+    ghost Heard = { λ _ _ _ _. ⊤ };
 
-// Tells every block that ends in this part of the input; what is written goes out at its end, and before where the buffer is full.
-fn take_part(g: Page, m: Fill, buf: &mut [u8], part: &[u8]) -> Lap
-    requires { Sound g.table × Room m × (kept_most ≤ length buf.old) }
-    ensures { Sound result.page.table × Room result.fill }
-{
-    let mut out = io::large_buffer();
-    let mut page = g;
-    let mut fill = m;
-    let mut from: usize = 0;
-    while from < part.len() {
-        let k = take_one(page, fill, buf, part, from, &mut out);
-        let h = k.page;
-        page = h;
-        let n = k.fill;
-        fill = n;
-        from = k.from;
-    }
-    let p = page.pen;
-    let pen = written_out(&out, p);
-    page.pen = pen;
-    Lap {
-        page,
-        fill,
-        more: laws::both(pen.ok, !page.shut),
-    }
-}
+    ghost none = { λ _ _. tt };
 
-// One read, and what it says. A read that fails is taken for the end of the input.
-fn read_some(rt: &HostRuntime, g: Page, m: Fill, buf: &mut [u8]) -> Lap
-    requires { Sound g.table × Room m × (kept_most ≤ length buf.old) }
-    ensures { Sound result.page.table × Room result.fill }
-{
-    let mut input = io::large_buffer();
-    let got = read_part(rt, &mut input);
-    if got.count == 0 {
-        return Lap {
-            page: g,
-            fill: m,
-            more: false,
-        };
+    ghost on = { λ _ _ _ _ _ _ _ _. tt };
+
+    // The bytes of a part up to the end of the sheet or of a block, which is told, or all of it, which is kept.
+    fn hear(&mut self, part: &[u8]) -> Result<usize, Failed> {
+        let want = lines_of(self.page.opened);
+        let k = gather(&mut self.buf, unfinished(self.fill, want), part, want);
+        if k.fill.lines < want {
+            self.fill = k.fill;
+            return Ok(k.used);
+        }
+        self.page = take_lines(self.page, &self.buf[..k.fill.count], &mut self.out);
+        self.fill = lines::empty();
+        Ok(k.used)
     }
-    let n = got.count;
-    take_part(g, m, buf, &input[..n])
+
+    // What is written goes out at the end of a part, and before where the buffer is full.
+    fn pause(&mut self) -> Result<ControlFlow<()>, Failed> {
+        let pen = written_out(&self.out, self.page.pen);
+        self.page.pen = pen;
+        if !pen.ok {
+            return Err(Failed::Writing);
+        }
+        Ok(if self.page.shut {
+            ControlFlow::Break(())
+        } else {
+            ControlFlow::Continue(())
+        })
+    }
 }
 
 // The page's head, written out.
@@ -202,32 +161,6 @@ fn start() -> Page
         table,
         notes,
         pen,
-    }
-}
-
-// Reads to the end of the input. A proved loop has to end, so it counts its turns down from a number that no run uses up.
-fn read_all(rt: &HostRuntime, buf: &mut [u8]) -> Lap
-    requires { kept_most ≤ length buf.old }
-    ensures { Sound result.page.table × Room result.fill }
-{
-    let mut page = start();
-    let mut fill = lines::empty();
-    let mut turns = u64::MAX;
-    while turns > 0 {
-        let t = read_some(rt, page, fill, buf);
-        let h = t.page;
-        page = h;
-        let k = t.fill;
-        fill = k;
-        if !t.more {
-            return t;
-        }
-        turns -= 1;
-    }
-    Lap {
-        page,
-        fill,
-        more: false,
     }
 }
 
@@ -262,10 +195,14 @@ fn end(g: Page, m: Fill, buf: &[u8])
     written_out(&out, c);
 }
 
+// A read that fails is taken for the end of the input.
 fn main(rt: HostRuntime) {
-    let mut buf = [0u8; text::sheet::ROOM];
-    let t = read_all(&rt, &mut buf);
-    let g = t.page;
-    let m = t.fill;
-    end(g, m, &buf);
+    let mut t = Telling {
+        page: start(),
+        fill: lines::empty(),
+        buf: [0; text::sheet::ROOM],
+        out: io::large_buffer(),
+    };
+    let _ = read_all(&rt, &mut t, &mut io::large_buffer());
+    end(t.page, t.fill, &t.buf);
 }
