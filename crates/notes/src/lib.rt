@@ -59,7 +59,7 @@ pub fn no_notes() -> Notes
     }
 }
 
-// The place of a seat in ten, 10 where there is no such seat.
+// The place of a seat in ten, 10 where there is no such seat: a number, as in the definition `place_of`, since `set` and `get_or` past the end change nothing.
 #[tactic(auto, unfolding(crate::specs::Notes::place_of))]
 pub fn place_of(seat: u32) -> usize
     ensures { result ≡ place_of seat }
