@@ -11,7 +11,7 @@ ghost use Rattle.desk.specs.Room.{room_of};
 ghost use Rattle.desk.specs.Plans.{no_entry, plan_parsed, plan_of};
 
 use answers::{PaidRow, Shown, ShownPayout, answer_len, write_answer};
-use blocks::{Block, Block};
+use blocks::Block;
 use paper::{Entry, MALFORMED, NO_ROOM, OUT_OF_RANGE, Refusal, TAKEN, or_else};
 use quiet::shown_with;
 use table::settle::stands_now;
