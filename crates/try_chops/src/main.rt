@@ -39,8 +39,7 @@ struct Tally {
     cuts: u64,
     rooms: u64,
     alike: u64,
-    differs: bool,
-    place: Place,
+    differs: Option<Place>,
 }
 
 // A sum that stops at 4,000,000,000,000, so that it always fits.
@@ -62,10 +61,7 @@ fn counted(t: Tally, alike: bool, p: Place) -> Tally {
         u.alike = more(t.alike, 1);
         return u;
     }
-    if !t.differs {
-        u.differs = true;
-        u.place = p;
-    }
+    u.differs = t.differs.or(Some(p));
     u
 }
 
@@ -134,17 +130,14 @@ fn try_seconds(
     requires { (first ≤ length log.now) × (w.kept ≤ length wbuf.now) × (w.at ≤ length wtrace.now) }
 {
     let mut tally = t;
-    let mut second = first;
-    while second <= log.len() {
+    for second in first..=log.len() {
         let p = Place {
             room,
             first,
             second,
         };
         let good = try_cut(log, p, w, wstate, wbuf, wtrace, trace);
-        let u = counted(tally, good, p);
-        tally = u;
-        second += 1;
+        tally = counted(tally, good, p);
     }
     tally
 }
@@ -163,11 +156,8 @@ fn try_firsts(
     requires { (w.kept ≤ length wbuf.now) × (w.at ≤ length wtrace.now) }
 {
     let mut tally = t;
-    let mut first: usize = 0;
-    while first <= log.len() {
-        let u = try_seconds(log, room, first, w, wstate, wbuf, wtrace, trace, tally);
-        tally = u;
-        first += 1;
+    for first in 0..=log.len() {
+        tally = try_seconds(log, room, first, w, wstate, wbuf, wtrace, trace, tally);
     }
     tally
 }
@@ -203,18 +193,10 @@ fn try_rooms(log: &[u8], most: usize, extra: usize, trace: &mut [u8]) -> Tally
         cuts: 0,
         rooms: 0,
         alike: 0,
-        differs: false,
-        place: Place {
-            room: 0,
-            first: 0,
-            second: 0,
-        },
+        differs: None,
     };
-    let mut room: usize = 0;
-    while room <= most {
-        let u = try_room(log, room, extra, trace, tally);
-        tally = u;
-        room += 1;
+    for room in 0..=most {
+        tally = try_room(log, room, extra, trace, tally);
     }
     tally
 }
@@ -229,8 +211,7 @@ fn tell(t: Tally) {
     say(b"cuts=", t.cuts);
     say(b"rooms=", t.rooms);
     say(b"alike=", t.alike);
-    if t.differs {
-        let p = t.place;
+    if let Some(p) = t.differs {
         say(b"room=", p.room as u64);
         say(b"first=", p.first as u64);
         say(b"second=", p.second as u64);

@@ -1,5 +1,5 @@
 // A log in three parts, any of them empty: what the library's start, feed and close answer, one behind the other, in a trace.
-ghost use Rattle.std.specs.Prelude.{◌≡◌, true, ◌+◌, ◌≤◌, ◌<◌, max, length};
+ghost use Rattle.std.specs.Prelude.{◌≡◌, true, ◌+◌, ◌≤◌, ◌<◌, length};
 ghost use Rattle.lines.specs.Kept.{kept_most};
 ghost use Rattle.stream.specs.Feeding.{Held, longest_answer};
 
@@ -191,12 +191,6 @@ pub fn kept(c: Clerk) -> usize
     m.count
 }
 
-fn greater(a: usize, b: usize) -> usize
-    ensures { result ≡ max a b }
-{
-    if a < b { b } else { a }
-}
-
 // The longest answer of a log: what any call writes while the log comes byte by byte, with room for any answer.
 pub fn longest(log: &[u8], buf: &mut [u8], trace: &mut [u8]) -> usize
     requires { (kept_most ≤ length buf.old) × (longest_answer < length trace.old) }
@@ -204,15 +198,11 @@ pub fn longest(log: &[u8], buf: &mut [u8], trace: &mut [u8]) -> usize
 {
     let mut clerk = start();
     let mut most: usize = 0;
-    let mut i: usize = 0;
-    while i < log.len() {
-        let e = i + 1;
-        let r = hear_one(clerk, buf, &log[i..e], LONGEST, trace, 0);
-        let d = r.clerk;
-        clerk = d;
-        most = greater(most, r.at);
-        i += 1;
+    for i in 0..log.len() {
+        let r = hear_one(clerk, buf, &log[i..=i], LONGEST, trace, 0);
+        clerk = r.clerk;
+        most = most.max(r.at);
     }
-    let c = close(clerk, buf, &mut trace[0..LONGEST]);
-    greater(most, c.written)
+    let c = close(clerk, buf, &mut trace[..LONGEST]);
+    most.max(c.written)
 }
