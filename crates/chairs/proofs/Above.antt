@@ -128,12 +128,18 @@ module _ (f : Chair → ℕ) where
       let e : m - length cs ≡ suc m - suc (length cs) = omega arith in
       ap (λ (k : List ℕ). f c ∷ k) (read_all m cs (omega arith) ∙ ap (λ k. map f cs ++ replicate k 0) e)
 
-  pub read_start : f no_chair ≡ 0 → (cs : List Chair) → Above 0 cs → replicate (length cs) 0 ≡ map f cs
-  read_start e [] h = refl
-  read_start e (c ∷ cs) h = ap₂ ◌∷◌ (sym (ap f (above_head c cs h) ∙ e)) (read_start e cs (above_less c cs h))
+  -- the places from i on read, those before it 0
+  abbrev pub read_from : ℕ → List Chair → List ℕ
+  read_from i cs = replicate i 0 ++ map f (drop i cs)
+
+  pub read_start : f no_chair ≡ 0 → (n : ℕ) (cs : List Chair) → n ≤ length cs → Above n cs → replicate (length cs) 0 ≡ read_from n cs
+  read_start e zero [] l h = refl
+  read_start e zero (c ∷ cs) l h = ap₂ ◌∷◌ (sym (ap f (above_head c cs h) ∙ e)) (read_start e zero cs (omega arith) (above_less c cs h))
+  read_start e (suc n) [] l h = absurd (omega arith)
+  read_start e (suc n) (c ∷ cs) l h = ap (λ (k : List ℕ). 0 ∷ k) (read_start e n cs (omega arith) (above_tail n c cs h))
 
   pub column_seats : f no_chair ≡ 0 → (n m : ℕ) (cs : List Chair) → length cs ≡ m → n ≤ m → Above n cs → map f (take n cs) ++ replicate (m - length (take n cs)) 0 ≡ map f cs
-  column_seats e zero m cs q l h = let z : m - 0 ≡ length cs = omega arith in ap (λ k. replicate k 0) z ∙ read_start e cs h
+  column_seats e zero m cs q l h = let z : m - 0 ≡ length cs = omega arith in ap (λ k. replicate k 0) z ∙ read_start e zero cs (omega arith) h
   column_seats e (suc n) m [] q l h = absurd (omega arith)
   column_seats e (suc n) zero (c ∷ cs) q l h = absurd (omega arith)
   column_seats e (suc n) (suc m) (c ∷ cs) q l h =
@@ -141,10 +147,12 @@ module _ (f : Chair → ℕ) where
       ap (λ (k : List ℕ). f c ∷ k) (ap (λ k. map f (take n cs) ++ replicate k 0) z ∙ column_seats e n m cs (omega arith) (omega arith) (above_tail n c cs h))
 
   -- the same as a mask of the places that have a 1
-  pub mask_start : f no_chair ≡ 0 → (cs : List Chair) → Above 0 cs → mask_at (map f cs) 1 ≡ 0
+  pub mask_start : f no_chair ≡ 0 → (n : ℕ) (cs : List Chair) → Above n cs → mask_at (map f (drop n cs)) 1 ≡ 0
   unfolding mask_at
-  mask_start e [] h = refl
-  mask_start e (c ∷ cs) h = omega (arith, ap (λ k. has k 1) (ap f (above_head c cs h) ∙ e), has_none 0 1 (omega arith), mask_start e cs (above_less c cs h))
+  mask_start e zero [] h = refl
+  mask_start e zero (c ∷ cs) h = omega (arith, ap (λ k. has k 1) (ap f (above_head c cs h) ∙ e), has_none 0 1 (omega arith), mask_start e zero cs (above_less c cs h))
+  mask_start e (suc n) [] h = refl
+  mask_start e (suc n) (c ∷ cs) h = mask_start e n cs (above_tail n c cs h)
 
   pub mask_end : (cs : List Chair) → mask_at (map f (drop (length cs) cs)) 1 ≡ 0
   unfolding mask_at
@@ -153,7 +161,7 @@ module _ (f : Chair → ℕ) where
 
   pub mask_seats : f no_chair ≡ 0 → (n : ℕ) (cs : List Chair) → Above n cs → mask_at (map f (take n cs)) 1 ≡ mask_at (map f cs) 1
   unfolding mask_at
-  mask_seats e zero cs h = sym (mask_start e cs h)
+  mask_seats e zero cs h = sym (mask_start e zero cs h)
   mask_seats e (suc n) [] h = refl
   mask_seats e (suc n) (c ∷ cs) h = ap (λ m. has (f c) 1 + 2 * m) (mask_seats e n cs (above_tail n c cs h))
 
