@@ -2,12 +2,12 @@
 // from before the later requests gets the lines that it lacks, and a line about each of them.
 #![tactic(auto)]
 
-ghost use Rattle.std.specs.Prelude.{◌≡◌, ◌≤◌, ⊤, length};
+ghost use Rattle.std.specs.Prelude.{◌≡◌, ◌≤◌, length};
 ghost use Rattle.lines.specs.Kept.{kept_most};
 ghost use Rattle.logs.specs.FairCopy.{note_most};
 ghost use Rattle.copier.specs.Feeding.{Held, HeardTo};
 ghost use Rattle.renewal.specs.Renewing.{InSheet, given_most};
-ghost use Rattle.fair_copy.specs.Hearing.{hears_none, hears_on};
+ghost use Rattle.fair_copy.specs.Hearing.{hears_none, hears_on, Behind, behind_none, behind_on};
 
 use copier::{Copier, close, copy_on};
 use laws::both;
@@ -110,11 +110,11 @@ impl Renewing {
 impl Listener for Renewing {
     ghost Held = { λ r. InSheet r.renewal × Held r.copying.copier × (kept_most ≤ length r.copying.buf) × (kept_most ≤ length r.copying.copy) × (note_most ≤ length r.copying.notes) × (given_most ≤ length r.fresh) };
 
-    ghost Heard = { λ _ _ _ _. ⊤ };
+    ghost Heard = { λ r part n s. Behind r.renewal r.copying.copier r.copying.buf part n s.renewal s.copying.copier s.copying.buf };
 
-    ghost none = { λ _ _. tt };
+    ghost none = { λ r part. behind_none r.renewal r.copying.copier r.copying.buf part };
 
-    ghost on = { λ _ _ _ _ _ _ _ _. tt };
+    ghost on = { λ r s t part n k. behind_on r.renewal r.copying.copier r.copying.buf part n s.renewal s.copying.copier s.copying.buf t.renewal t.copying.copier t.copying.buf k };
 
     // Up to the end of the sheet what the renewal makes of the bytes, behind it the bytes as they are.
     fn hear(&mut self, part: &[u8]) -> Result<usize, Failed> {
