@@ -1,6 +1,6 @@
 -- What is written is read back: the record of an entry's numbers, wherever it stands in a log (record_back). Assumes nothing.
 use mathlib.Core.Path.{◌≡◌, refl, sym, ◌∙◌, ap}
-use Prim.Native.Nat.{ℕ, ◌+◌, ◌*◌, ◌/◌, ◌%◌, ◌<◌, ◌^◌}
+use Prim.Native.Nat.{ℕ, ◌+◌, ◌-◌, ◌*◌, ◌/◌, ◌%◌, ◌<◌, ◌≤◌, ◌^◌}
 use Rattle.std.specs.Prelude.{Option, Some, unwrap_or}
 use mathlib.Core.List.{List, ◌++◌}
 use lib.ListN.{length, get_or, length-append}
@@ -12,9 +12,9 @@ use Rattle.paper.specs.declared.Entry.TheVariants.{Sit, Leave, Hand, Hole, Fold,
 use Rattle.paper.specs.SheetAndEntries.{numbers_of}
 use Rattle.blocks.specs.Entry.{entry_at}
 use Rattle.records.specs.Bytes.{word_at}
-use Rattle.records.specs.Stored.{no_record, record_at, record_bytes, entry_by}
+use Rattle.records.specs.Stored.{no_record, record_at, behind, record_bytes, entry_by}
 use Rattle.records.specs.declared.Record.{Record}
-use Rattle.records.proofs.Found.{present}
+use Rattle.records.proofs.Found.{present, next_is}
 
 -- numbers that a record holds
 pub record Fits (x : Numbers) : Type 0 where
@@ -49,9 +49,13 @@ module _ (front rest : List ℕ) (x : Numbers) where
       at : ℕ → ℕ
       at j = get_or log (length front + 4 + j) 0
 
-  pub record_back : Fits x → record_at log (length front) ≡ Some (record { kind = x.kind; seat = x.seat; b = x.b; a = x.a })
-  record_back f =
-      sym (present log (length front) refl (omega (arith, length-append front bytes, length-append (record_bytes x) rest)) (sym word))
+  -- eight bytes are there
+  long : 8 ≤ length log - length front
+  long = omega (arith, length-append front bytes, length-append (record_bytes x) rest)
+
+  same : Fits x → record_at log (length front) ≡ Some (record { kind = x.kind; seat = x.seat; b = x.b; a = x.a })
+  same f =
+      sym (present log (length front) refl long (sym word))
       ∙ ap (λ (k : ℕ). Some (record { kind = k; seat = get_or log (length front + 1) 0; b = get_or log (length front + 2) 0; a = word_at bytes 4 }))
       (byte 0 (length front) (omega arith) ∙ low x.kind f.kind)
       ∙ ap (λ (k : ℕ). Some (record { kind = x.kind; seat = k; b = get_or log (length front + 2) 0; a = word_at bytes 4 }))
@@ -59,6 +63,11 @@ module _ (front rest : List ℕ) (x : Numbers) where
       ∙ ap (λ (k : ℕ). Some (record { kind = x.kind; seat = x.seat; b = k; a = word_at bytes 4 }))
       (byte 2 (length front + 2) refl ∙ low x.b f.b)
       ∙ ap (λ (k : ℕ). Some (record { kind = x.kind; seat = x.seat; b = x.b; a = k })) (whole x.a f.a)
+
+  -- the record with the numbers, and the next one begins right behind it
+  pub record_back : Fits x
+      → (record_at log (length front) ≡ Some (record { kind = x.kind; seat = x.seat; b = x.b; a = x.a })) × (behind log (length front) ≡ length front + 8)
+  record_back f = (same f, next_is log (length front) long)
 
 -- the entry of a record of its numbers is the entry
 pub entry_of_numbers : (e : Entry) → entry_at (numbers_of e).kind (numbers_of e).seat (numbers_of e).a (numbers_of e).b ≡ e
@@ -76,4 +85,4 @@ entry_of_numbers Settle = refl
 entry_of_numbers Void = refl
 
 pub entry_back : (front rest : List ℕ) (e : Entry) → Fits (numbers_of e) → entry_by (unwrap_or (record_at (front ++ (record_bytes (numbers_of e) ++ rest)) (length front)) no_record) ≡ e
-entry_back front rest e f = ap (λ (r : Option Record). entry_by (unwrap_or r no_record)) (record_back front rest (numbers_of e) f) ∙ entry_of_numbers e
+entry_back front rest e f = ap (λ (r : Option Record). entry_by (unwrap_or r no_record)) (record_back front rest (numbers_of e) f).0 ∙ entry_of_numbers e
