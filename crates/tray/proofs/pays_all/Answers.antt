@@ -14,7 +14,7 @@ returns-then-worth_given-from c =
     let a = c.args.paid.now in
     let f = λ (j : ℕ). eqb (worth_given c.args.worths.now c.args.p.now j) (get_or a j 0) in
     all_fails (length a) f c.loop-s.s (search rules)
-    (sym (ap₂ eqb c.worth_given.ensures c.from.ensures) ∙ ne_eqb _ _ c.if-worth_given-from.true)
+    (sym (ap₂ eqb c.worth_given.ensures c.from.ensures) ∙ ne_eqb _ _ (λ e. omega (arith, e, c.if-worth_given-from.true)))
 
 pub returns : goal.returns
 unfolding pays_all
