@@ -38,28 +38,30 @@ pub record Going (ws old now : List ℕ) (k at : ℕ) : Type 0 where
 pub going_start : (ws old : List ℕ) → Going ws old old 0 0
 going_start ws old = record { wrote = record { count = refl; sheet = refl }; same = refl }
 
-module _ {ws old now : List ℕ} {k at : ℕ} (g : Going ws old now k at) (n : length ws ≡ 10) (room : 40 ≤ length old) where
-  pub going_at : k ≤ 10 → at ≡ 4 * k
+module _ {ws old now : List ℕ} {k at : ℕ} (g : Going ws old now k at) where
+  pub going_at : k ≤ length ws → at ≡ 4 * k
   going_at h =
-      let e : length (take k ws) ≡ k = length-take-le k ws (omega (arith, n, h)) in
+      let e : length (take k ws) ≡ k = length-take-le k ws h in
       omega (arith, g.wrote.count, words_length (take k ws), e)
 
-  pub going_part : k < 10 → 4 ≤ length (mid_of at (length now - at) now)
-  going_part h =
-      let e = going_at (omega (arith, h)) in
-      omega (arith, ap length (part_is at now), length-drop at now, g.same, e, h, room)
+  -- where no more than ten are to be written, the next one has its room
+  pub going_room : length ws ≤ 10 → 40 ≤ length old → k < length ws → at + 4 ≤ length now
+  going_room n room h = omega (arith, going_at (omega (arith, h)), g.same, n, h, room)
 
-  pub going_turn : {mid after : List ℕ} {r : ℕ} → k < 10 → Wrote (word_bytes (get_or ws k 0)) (mid_of at (length now - at) now) mid r
+  pub going_part : length ws ≤ 10 → 40 ≤ length old → k < length ws → 4 ≤ length (mid_of at (length now - at) now)
+  going_part n room h = omega (arith, ap length (part_is at now), length-drop at now, going_room n room h)
+
+  pub going_turn : {mid after : List ℕ} {r : ℕ} → k < length ws → Wrote (word_bytes (get_or ws k 0)) (mid_of at (length now - at) now) mid r
       → after ≡ put_mid at (length now - at) now mid → length after ≡ length old → Going ws old after (k + 1) (at + r)
   going_turn {mid} {after} {r} h w p q = record {
     wrote =
-        subst (λ (l : List ℕ). Wrote l old after (at + r)) (sym (words_on ws k (omega (arith, n, h))))
+        subst (λ (l : List ℕ). Wrote l old after (at + r)) (sym (words_on ws k h))
         (subst (λ (l : List ℕ). Wrote (words_bytes (take k ws) ++ word_bytes (get_or ws k 0)) old l (at + r)) (sym p) (then g.wrote w));
     same = q;
   }
 
-  pub going_done : 10 ≤ k → Wrote (words_bytes ws) old now at
-  going_done h = subst (λ (l : List ℕ). Wrote (words_bytes l) old now at) (take_all k ws (omega (arith, n, h))) g.wrote
+  pub going_done : length ws ≤ k → Wrote (words_bytes ws) old now at
+  going_done h = subst (λ (l : List ℕ). Wrote (words_bytes l) old now at) (take_all k ws h) g.wrote
 
 -- ---- a word's bytes, by those that were computed
 
