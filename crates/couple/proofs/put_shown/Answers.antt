@@ -24,7 +24,7 @@ pub returns-then-only-eq0 : goal.returns-then-only-eq0
 returns-then-only-eq0 c = shown_both c.args.only c.args.due c.args.answer.now c.named-n.ensures.0 c.if-only-eq0.true (then c.write_number_line-a.ensures c.put_bytes.ensures)
 
 pub returns-then-only-n : goal.returns-then-only-n
-returns-then-only-n c = shown_one c.args.only c.args.due c.args.answer.now c.named-n.ensures.0 c.if-only-eq0.false c.if-only-n.true c.put_bytes-then-only-n.ensures
+returns-then-only-n c = shown_one c.args.only c.args.due c.args.answer.now c.named-n.ensures.0 c.if-only-eq0.false (omega (arith, c.if-only-n.true)) c.put_bytes-then-only-n.ensures
 
 pub returns : goal.returns
-returns c = shown_none c.args.only c.args.due c.args.answer.now c.named-n.ensures.0 c.if-only-eq0.false c.if-only-n.false
+returns c = shown_none c.args.only c.args.due c.args.answer.now c.named-n.ensures.0 c.if-only-eq0.false (λ e. omega (arith, e, c.if-only-n.false))
