@@ -4,6 +4,8 @@
 
 ghost use Rattle.std.specs.Prelude.{◌≡◌, ℕ, ◌+◌, ◌≤◌, ◌<◌, List, length, drop, leb, IfOk};
 ghost use Rattle.laws.specs.Tests.{pick};
+ghost use Rattle.std.specs.Prelude.{MatchResult, Ok, Err};
+ghost use Rattle.output.specs.declared.Failed.TheVariants.{Reading};
 
 use std::io::Read;
 use std::ops::ControlFlow;
@@ -22,14 +24,21 @@ pub enum Failed {
     Writing,
 }
 
+// How many bytes a read gave. One that failed gave none, and is no end of the input.
+fn bytes_given(read: Result<usize, std::io::Error>) -> Result<usize, Failed>
+    ensures { MatchResult read (λ n. result ≡ Ok n) (λ _. result ≡ Err Reading) }
+{
+    match read {
+        Ok(count) => Ok(count),
+        Err(_) => Err(Failed::Reading),
+    }
+}
+
 // One read of standard input, which puts what has come so far at the start of the buffer, and says how many bytes that is. At the end of the input there are none.
 pub fn read_part(rt: &HostRuntime, buf: &mut [u8]) -> Result<usize, Failed>
     ensures { IfOk result (λ n. n ≤ length buf.new) }
 {
-    match rt.stdin().read(buf) {
-        Ok(count) => Ok(count),
-        Err(_) => Err(Failed::Reading),
-    }
+    bytes_given(rt.stdin().read(buf))
 }
 
 // Writes the bytes out.
