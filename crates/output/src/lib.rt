@@ -2,7 +2,7 @@
 // out before it is full.
 #![tactic(auto)]
 
-ghost use Rattle.std.specs.Prelude.{◌≡◌, ℕ, ◌+◌, ◌≤◌, ◌<◌, List, length, drop, leb, IfOk};
+ghost use Rattle.std.specs.Prelude.{◌≡◌, ℕ, ◌+◌, ◌≤◌, ◌<◌, List, length, drop, leb, IfOk, IfErr};
 ghost use Rattle.laws.specs.Tests.{pick};
 ghost use Rattle.std.specs.Prelude.{MatchResult, Ok, Err};
 ghost use Rattle.output.specs.declared.Failed.TheVariants.{Reading};
@@ -71,27 +71,30 @@ pub trait Listener {
     // So many bytes at the front of a part have taken it from what it was to what it is.
     ghost Heard: { Self → List ℕ → ℕ → Self → Type 0 };
 
-    // Hears bytes at the front of a part, and says how many.
+    // Hears bytes at the front of a part, and says how many. Where a write failed, some are heard all the same.
     fn hear(&mut self, part: &[u8]) -> Result<usize, Failed>
         requires { Held self.old × (0 < length part.now) }
         ensures held { Held self.new }
-        ensures heard { IfOk result (λ n. (0 < n) × (n ≤ length part.now) × Heard self.old part.now n self.new) };
+        ensures heard { IfOk result (λ n. (0 < n) × (n ≤ length part.now) × Heard self.old part.now n self.new) }
+        ensures failed { IfErr result (λ _. (n : ℕ) × (0 < n) × (n ≤ length part.now) × Heard self.old part.now n self.new) };
 
-    // A part is heard to its end: what was gathered is written out. Whether to read on.
+    // A part is heard to its end: what was gathered is written out. Whether to read on. What was heard stays as it is.
     fn pause(&mut self) -> Result<ControlFlow<()>, Failed>
         requires { Held self.old }
-        ensures { Held self.new };
+        ensures held { Held self.new }
+        ensures still { (part : List ℕ) → Heard self.old part 0 self.new };
 
     ghost none: { (l : Self) (part : List ℕ) → Heard l part 0 l };
 
     ghost on: { (l m o : Self) (part : List ℕ) (n k : ℕ) → Heard l part n m → Heard m (drop n part) k o → Heard l part (n + k) o };
 }
 
-// A whole part. Unless a write failed, every byte of it is heard.
+// A whole part. Unless a write failed, every byte of it is heard, and else the bytes at its front up to some place.
 pub fn hear_part<L: Listener>(l: &mut L, part: &[u8]) -> Result<(), Failed>
     requires { L.Held l.old }
     ensures held { L.Held l.new }
     ensures heard { IfOk result (λ _. L.Heard l.old part.now (length part.now) l.new) }
+    ensures failed { IfErr result (λ _. (n : ℕ) × (n ≤ length part.now) × L.Heard l.old part.now n l.new) }
 {
     let mut from = 0;
     while from < part.len() {
