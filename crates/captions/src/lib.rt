@@ -2,7 +2,7 @@
 #![tactic(auto)]
 
 use columns::{height, in_mask, reach, tallest};
-use page::pen::Writer;
+use page::pen::{Pen, Writer};
 use spots::{Chips, apart, label_y, more, number_of, pot_at, reach_of_first, right_of, wide, y_at};
 use std::fmt;
 use std::fmt::Write;
@@ -18,7 +18,14 @@ pub struct Column {
 }
 
 // The picture's size and its hatching, whose name has the hand's number, since a page has many pictures.
-pub fn put_opening(w: &mut Writer<'_>, hand: u64, columns: u32) -> fmt::Result {
+pub fn put_opening(out: &mut [u8], p: Pen, hand: u64, columns: u32) -> Pen {
+    let mut w = Writer::over(out, p);
+    // the pen keeps whether a write has failed, here and below
+    let _ = write_opening(&mut w, hand, columns);
+    w.pen
+}
+
+fn write_opening(w: &mut Writer<'_>, hand: u64, columns: u32) -> fmt::Result {
     let wide = more(right_of(columns), 2900);
     let pixels = wide / 10;
     writeln!(
@@ -36,7 +43,13 @@ pub fn put_opening(w: &mut Writer<'_>, hand: u64, columns: u32) -> fmt::Result {
 }
 
 // Below a column: its seat, its sitting, what it has put in, and whether it is out of the hand or has left.
-pub fn put_foot(w: &mut Writer<'_>, c: &Chips, q: &Column) -> fmt::Result {
+pub fn put_foot(out: &mut [u8], p: Pen, c: &Chips, q: &Column) -> Pen {
+    let mut w = Writer::over(out, p);
+    let _ = write_foot(&mut w, c, q);
+    w.pen
+}
+
+fn write_foot(w: &mut Writer<'_>, c: &Chips, q: &Column) -> fmt::Result {
     let x = more(q.x, 260);
     writeln!(
         w,
@@ -69,7 +82,13 @@ fn put_leader(w: &mut Writer<'_>, x: u64, from: u64, to: u64) -> fmt::Result {
 }
 
 // The seats of a mask, each behind a blank.
-pub fn put_seats(w: &mut Writer<'_>, who: u16) -> fmt::Result {
+pub fn put_seats(out: &mut [u8], p: Pen, who: u16) -> Pen {
+    let mut w = Writer::over(out, p);
+    let _ = write_seats(&mut w, who);
+    w.pen
+}
+
+fn write_seats(w: &mut Writer<'_>, who: u16) -> fmt::Result {
     for i in 0..10 {
         if in_mask(who, i) {
             let seat = i + 1;
@@ -101,7 +120,7 @@ fn put_label(w: &mut Writer<'_>, c: &Chips, k: usize, labels: u64) -> fmt::Resul
         w,
         r##"<text text-anchor="start" x="{x}" y="{y}">heights {first} to {high}, seats"##
     )?;
-    put_seats(w, q.who)?;
+    write_seats(w, q.who)?;
     writeln!(w, "</text>")
 }
 
@@ -130,7 +149,13 @@ fn put_back(w: &mut Writer<'_>, c: &Chips, labels: u64) -> fmt::Result {
 }
 
 // A label for each pot, and one where something goes back; and what the looks mean.
-pub fn put_labels(w: &mut Writer<'_>, c: &Chips) -> fmt::Result {
+pub fn put_labels(out: &mut [u8], p: Pen, c: &Chips) -> Pen {
+    let mut w = Writer::over(out, p);
+    let _ = write_labels(&mut w, c);
+    w.pen
+}
+
+fn write_labels(w: &mut Writer<'_>, c: &Chips) -> fmt::Result {
     let n = c.pots.n;
     let labels = more(n as u64, u64::from(0 < c.back));
     for k in 0..n {
@@ -150,6 +175,9 @@ fn put_legend(w: &mut Writer<'_>, hand: u64) -> fmt::Result {
         r##"<rect fill="url(#hatch-{hand})" stroke="#000" stroke-width="8" x="1250" y="4330" width="160" height="130"/>"##
     )?;
     w.write_str(
-        "<text text-anchor=\"start\" x=\"1470\" y=\"4440\">out of the hand: stays in the pots</text>\n<rect fill=\"#fff\" stroke=\"#000\" stroke-width=\"12\" stroke-dasharray=\"40 30\" x=\"3900\" y=\"4330\" width=\"160\" height=\"130\"/>\n<text text-anchor=\"start\" x=\"4120\" y=\"4440\">goes back</text>\n</g>\n</svg>\n",
+        "<text text-anchor=\"start\" x=\"1470\" y=\"4440\">out of the hand: stays in the pots</text>\n<rect fill=\"#fff\" stroke=\"#000\" stroke-width=\"12\" stroke-dasharray=\"40 30\"",
+    )?;
+    w.write_str(
+        " x=\"3900\" y=\"4330\" width=\"160\" height=\"130\"/>\n<text text-anchor=\"start\" x=\"4120\" y=\"4440\">goes back</text>\n</g>\n</svg>\n",
     )
 }

@@ -4,7 +4,7 @@
 
 use captions::Column;
 use columns::{height, in_mask, reach, slab, tallest};
-use page::pen::Writer;
+use page::pen::{Pen, Writer};
 use spots::{
     BAND, Chips, apart, column_x, less, more, number_of, pot_at, reach_of_first, right_of, sum,
     y_at,
@@ -123,7 +123,8 @@ fn put_column(w: &mut Writer<'_>, c: &Chips, q: &Column) -> fmt::Result {
         put_piece(w, c, q, k)?;
     }
     put_returned(w, c, q)?;
-    captions::put_foot(w, c, q)
+    w.pen = captions::put_foot(w.out, w.pen, c, q);
+    Ok(())
 }
 
 // A column for each place where somebody was dealt in.
@@ -146,11 +147,19 @@ fn put_columns(w: &mut Writer<'_>, c: &Chips) -> fmt::Result {
 }
 
 // The picture.
-pub fn put_chart(w: &mut Writer<'_>, c: &Chips) -> fmt::Result {
-    captions::put_opening(w, c.hand, c.columns)?;
+pub fn put_chart(out: &mut [u8], p: Pen, c: &Chips) -> Pen {
+    let mut w = Writer::over(out, p);
+    // the pen keeps whether a write has failed
+    let _ = write_chart(&mut w, c);
+    w.pen
+}
+
+fn write_chart(w: &mut Writer<'_>, c: &Chips) -> fmt::Result {
+    w.pen = captions::put_opening(w.out, w.pen, c.hand, c.columns);
     for k in 0..c.pots.n {
         put_band(w, c, k)?;
     }
     put_columns(w, c)?;
-    captions::put_labels(w, c)
+    w.pen = captions::put_labels(w.out, w.pen, c);
+    Ok(())
 }

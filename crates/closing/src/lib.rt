@@ -11,7 +11,14 @@ use std::fmt::Write;
 use table::table::Table;
 
 // The row of a sitting: brought, put in, paid, and what it takes home or has.
-pub fn put_row(w: &mut Writer<'_>, sitting: u32, seat: u32, a: Account, home: u32) -> fmt::Result {
+pub fn put_row(out: &mut [u8], p: Pen, sitting: u32, seat: u32, a: Account, home: u32) -> Pen {
+    let mut w = Writer::over(out, p);
+    // the pen keeps whether a write has failed, here and below
+    let _ = write_row(&mut w, sitting, seat, a, home);
+    w.pen
+}
+
+fn write_row(w: &mut Writer<'_>, sitting: u32, seat: u32, a: Account, home: u32) -> fmt::Result {
     let brought = a.brought;
     let put = a.put;
     let paid = a.paid;
@@ -24,7 +31,6 @@ pub fn put_row(w: &mut Writer<'_>, sitting: u32, seat: u32, a: Account, home: u3
 // The head of the sittings' rows and the table's sheet.
 pub fn put_start(out: &mut [u8], p: Pen, s: Sheet) -> Pen {
     let mut w = Writer::over(out, p);
-    // the pen keeps whether a write has failed, here and below
     let _ = write_start(&mut w, s);
     w.pen
 }
@@ -58,7 +64,7 @@ fn put_all_there(w: &mut Writer<'_>, m: &Notes, t: &Table) -> fmt::Result {
     for (i, c) in t.chairs.iter().enumerate() {
         if c.sitting != 0 {
             let a = m.account_now(*c, i);
-            put_row(w, c.sitting, i as u32 + 1, a, c.stack)?;
+            write_row(w, c.sitting, i as u32 + 1, a, c.stack)?;
             w.write_str("<span>still there</span></div>\n")?;
         }
     }

@@ -15,21 +15,29 @@ use std::fmt::Write;
 use table::table::{Board, Payout, Table};
 
 // The heading, which a link can name.
-pub fn put_opening(w: &mut Writer<'_>, hand: u64, n: u32, puck: u32) -> fmt::Result {
+pub fn put_opening(out: &mut [u8], p: Pen, hand: u64, n: u32, puck: u32) -> Pen {
+    let mut w = Writer::over(out, p);
+    // the pen keeps whether a write has failed
+    let _ = write_opening(&mut w, hand, n, puck);
+    w.pen
+}
+
+fn write_opening(w: &mut Writer<'_>, hand: u64, n: u32, puck: u32) -> fmt::Result {
     writeln!(w, "<section>")?;
     writeln!(w, r#"<h2 id="hand-{hand}">Hand {hand}</h2>"#)?;
     writeln!(w, "<p><b>{n}</b> the puck is at seat {puck}; dealt in:</p>")
 }
 
 // Who is dealt in: t is the table before the opening, u the one after it.
-pub fn put_all_dealt(w: &mut Writer<'_>, t: &Table, u: &Table) -> fmt::Result {
+pub fn put_all_dealt(out: &mut [u8], p: Pen, t: &Table, u: &Table) -> Pen {
+    let mut pen = p;
     for (i, (c, d)) in t.chairs.iter().zip(&u.chairs).enumerate() {
         if d.dealt.sitting != 0 {
             let seat = i as u64 + 1;
-            section::put_dealt(w, seat, d.dealt.sitting, c.stack, d.dealt.total)?;
+            pen = section::put_dealt(out, pen, seat, d.dealt.sitting, c.stack, d.dealt.total);
         }
     }
-    Ok(())
+    pen
 }
 
 fn shown(deck: u32, h: cards::Hand) -> Best
@@ -207,10 +215,10 @@ fn hand_of(m: &Notes, t: &Table, paid: Option<Payout>) -> Hand
 }
 
 // The end of a settled hand's section.
-pub fn put_settled(w: &mut Writer<'_>, m: &Notes, t: &Table, paid: Payout) -> fmt::Result
+pub fn put_settled(out: &mut [u8], p: Pen, m: &Notes, t: &Table, paid: Payout) -> Pen
     requires { Sound t.now }
 {
-    section::put_end(w, &hand_of(m, t, Some(paid)))
+    section::put_end(out, p, &hand_of(m, t, Some(paid)))
 }
 
 // The log ends inside a hand: how it stands.
@@ -220,9 +228,5 @@ pub fn put_unsettled(out: &mut [u8], p: Pen, m: Notes, t: Table) -> Pen
     if !t.play.opened {
         return p;
     }
-    let h = hand_of(&m.rounds_noted(&t), &t, None);
-    let mut w = Writer::over(out, p);
-    // the pen keeps whether a write has failed
-    let _ = section::put_end(&mut w, &h);
-    w.pen
+    section::put_end(out, p, &hand_of(&m.rounds_noted(&t), &t, None))
 }

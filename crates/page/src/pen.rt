@@ -1,6 +1,6 @@
 // A page over a lent buffer: the pen may stand anywhere; a text that has no room behind it is written after the buffer was written out. So the page is as
-// long as it likes, and the memory stays. Where a write fails, nothing more of the page is written.
-ghost use Rattle.std.specs.Prelude.{◌≡◌, ◌≤◌, length};
+// long as it likes, and the memory stays. Where a write fails the pen keeps it: nothing more goes out, and the text goes on into the buffer alone.
+ghost use Rattle.std.specs.Prelude.{◌≡◌, ◌≤◌, length, IsOk};
 
 use output::STDOUT_FILENO;
 use std::fmt;
@@ -78,8 +78,18 @@ impl<'a> Writer<'a> {
 }
 
 impl fmt::Write for Writer<'_> {
-    fn write_str(&mut self, s: &str) -> fmt::Result {
+    // The buffer is the same one and keeps its length, and the pen stands in it.
+    ghost write_str_gives = { λ v _ w. (w.out.ghost_name ≡ v.out.ghost_name) × (length w.out.now ≡ length v.out.now) × (w.pen.at ≤ length v.out.now) };
+
+    // A text. Whether a write has failed is kept by the pen, and no error here, so that what comes after is written as well.
+    fn write_str(&mut self, s: &str) -> fmt::Result
+        ensures ok { IsOk result → (self.new.out.ghost_name ≡ self.old.out.ghost_name) × (length self.new.out.now ≡ length self.old.out.now) × (self.new.pen.at ≤ length self.old.out.now) }
+        ensures same_buffer { self.new.out.ghost_name ≡ self.old.out.ghost_name }
+        ensures same_size { length self.new.out.now ≡ length self.old.out.now }
+        ensures within { self.new.pen.at ≤ length self.old.out.now }
+        ensures never_fails { IsOk result }
+    {
         self.put(s.as_bytes());
-        if self.pen.ok { Ok(()) } else { Err(fmt::Error) }
+        Ok(())
     }
 }

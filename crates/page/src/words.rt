@@ -154,7 +154,13 @@ impl fmt::Display for Class {
 }
 
 // A hand: its class and its five ranks.
-pub fn put_hand(w: &mut Writer<'_>, class: u8, ranks: &[u8; 5]) -> fmt::Result {
+pub fn put_hand(out: &mut [u8], p: Pen, class: u8, ranks: &[u8; 5]) -> Pen {
+    let mut w = Writer::over(out, p);
+    let _ = write_hand(&mut w, class, ranks);
+    w.pen
+}
+
+fn write_hand(w: &mut Writer<'_>, class: u8, ranks: &[u8; 5]) -> fmt::Result {
     let class = Class(class);
     write!(w, "{class}:")?;
     for r in ranks {

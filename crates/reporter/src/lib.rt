@@ -12,7 +12,6 @@ use desk::Judged;
 use notes::{Notes, place_of};
 use page::pen::{Pen, Writer};
 use paper::{Entry, Refusal, TAKEN};
-use std::fmt;
 use std::fmt::Write;
 use story::Event;
 use table::table::{Payout, Table};
@@ -82,45 +81,49 @@ fn event_of(b: Block, t: &Table, u: &Table) -> Event {
 }
 
 // A sitting leaves: its line, and its row.
-fn put_leave(w: &mut Writer<'_>, m: &Notes, t: &Table, e: &Event) -> fmt::Result {
+fn put_leave(out: &mut [u8], p: Pen, m: &Notes, t: &Table, e: &Event, entry: Entry) -> Pen {
     let c = chair_at(t.chairs, e.seat);
     let a = m.account_now(c, place_of(e.seat));
-    e.put_left(w)?;
-    closing::put_row(w, e.sitting, e.seat, a, e.stack)?;
-    w.write_str("<span>left</span></div>\n")
+    let line = story::put_event(out, p, e, entry);
+    let row = closing::put_row(out, line, e.sitting, e.seat, a, e.stack);
+    let mut w = Writer::over(out, row);
+    // the pen keeps whether a write has failed
+    let _ = w.write_str("<span>left</span></div>\n");
+    w.pen
 }
 
 // A hand opens.
-fn put_hand(w: &mut Writer<'_>, m: &Notes, t: &Table, u: &Table, e: &Event) -> fmt::Result {
+fn put_hand(out: &mut [u8], p: Pen, m: &Notes, t: &Table, u: &Table, e: &Event) -> Pen {
     let hands = accounts::added(m.hands, 1);
-    dealings::put_opening(w, hands, e.n, e.seat)?;
-    dealings::put_all_dealt(w, t, u)
+    let heading = dealings::put_opening(out, p, hands, e.n, e.seat);
+    dealings::put_all_dealt(out, heading, t, u)
 }
 
 // A hand is settled: the end of its section.
-fn put_settle(w: &mut Writer<'_>, m: &Notes, t: &Table, paid: Payout) -> fmt::Result
+fn put_settle(out: &mut [u8], p: Pen, m: &Notes, t: &Table, paid: Payout) -> Pen
     requires { Sound t.now }
 {
-    dealings::put_settled(w, &m.rounds_noted(t), t, paid)
+    dealings::put_settled(out, p, &m.rounds_noted(t), t, paid)
 }
 
 // A taken entry: the line of it.
 fn put_taken(
-    w: &mut Writer<'_>,
+    out: &mut [u8],
+    p: Pen,
     m: &Notes,
     t: &Table,
     j: &Judged,
     e: &Event,
     entry: Entry,
-) -> fmt::Result
+) -> Pen
     requires { Sound t.now }
 {
-    story::close_folded(w, m.refusing)?;
+    let pen = story::put_folded(out, p, m.refusing);
     match entry {
-        Entry::Leave(_) => put_leave(w, m, t, e),
-        Entry::Hand(_) => put_hand(w, m, t, &j.table, e),
-        Entry::Settle => put_settle(w, m, t, j.payout),
-        _ => e.put_taken(w, entry),
+        Entry::Leave(_) => put_leave(out, pen, m, t, e, entry),
+        Entry::Hand(_) => put_hand(out, pen, m, t, &j.table, e),
+        Entry::Settle => put_settle(out, pen, m, t, j.payout),
+        _ => story::put_event(out, pen, e, entry),
     }
 }
 
@@ -139,13 +142,13 @@ fn taken_of(b: Block, code: u8) -> Option<Entry> {
 }
 
 // A block that was judged: its line.
-fn put_block(w: &mut Writer<'_>, m: &Notes, t: &Table, b: Block, j: &Judged) -> fmt::Result
+fn put_block(out: &mut [u8], p: Pen, m: &Notes, t: &Table, b: Block, j: &Judged) -> Pen
     requires { Sound t.now }
 {
     let e = event_of(b, t, &j.table);
     match taken_of(b, j.code) {
-        Some(entry) => put_taken(w, m, t, j, &e, entry),
-        None => e.put_refused(w, j.code, !m.refusing),
+        Some(entry) => put_taken(out, p, m, t, j, &e, entry),
+        None => story::put_refused(out, p, &e, j.code, !m.refusing),
     }
 }
 
@@ -193,14 +196,12 @@ pub fn tell(out: &mut [u8], p: Pen, m: Notes, t: Table, block: &[u8]) -> Reporte
 {
     let b = blocks::read_block(block);
     let j = desk::judge(t, block);
-    let mut w = Writer::over(out, p);
-    // the pen keeps whether a write has failed
-    let _ = put_block(&mut w, &m, &t, b, &j);
+    let pen = put_block(out, p, &m, &t, b, &j);
     let u = j.table;
     let notes = notes_after(m, &t, b, j.code, &j.payout);
     Reported {
         table: u,
         notes,
-        pen: w.pen,
+        pen,
     }
 }

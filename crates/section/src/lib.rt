@@ -5,7 +5,7 @@ use captions::put_seats;
 use chart::put_chart;
 use columns::{in_mask, reach, wins};
 use notes::Ending;
-use page::pen::Writer;
+use page::pen::{Pen, Writer};
 use page::words::{Card, put_hand};
 use spots::{Chips, pot_at, reach_of_first};
 use std::fmt;
@@ -54,7 +54,14 @@ pub struct Hand {
 }
 
 // Who is dealt in, with the stack before, and what was posted.
-pub fn put_dealt(
+pub fn put_dealt(out: &mut [u8], p: Pen, seat: u64, sitting: u32, before: u32, posted: u32) -> Pen {
+    let mut w = Writer::over(out, p);
+    // the pen keeps whether a write has failed, here and below
+    let _ = write_dealt(&mut w, seat, sitting, before, posted);
+    w.pen
+}
+
+fn write_dealt(
     w: &mut Writer<'_>,
     seat: u64,
     sitting: u32,
@@ -118,7 +125,7 @@ impl Part {
         }
         w.write_str("</td><td>")?;
         if let Some(b) = self.best {
-            put_hand(w, b.class, &b.ranks)?;
+            w.pen = put_hand(w.out, w.pen, b.class, &b.ranks);
         }
         Ok(())
     }
@@ -208,7 +215,7 @@ fn put_pot(w: &mut Writer<'_>, c: &Chips, k: usize) -> fmt::Result {
         w,
         r#"<tr class="pot"><td>{pot}</td><td>{low} to {high}</td><td>{chips}</td><td>seats"#
     )?;
-    put_seats(w, q.who)?;
+    w.pen = put_seats(w.out, w.pen, q.who);
     w.write_str("</td></tr>\n")
 }
 
@@ -217,7 +224,8 @@ fn put_pots(w: &mut Writer<'_>, c: &Chips) -> fmt::Result {
     w.write_str(
         "<table class=\"pots\">\n<caption>Pots</caption>\n<tr><th>pot</th><th>heights</th><th>chips</th><th>contended by</th></tr>\n",
     )?;
-    for k in 0..c.pots.n {
+    // a count may be larger than the list, which has no more rows to show
+    for k in 0..c.pots.n.min(c.pots.list.len()) {
         put_pot(w, c, k)?;
     }
     writeln!(
@@ -253,9 +261,15 @@ fn put_charged(w: &mut Writer<'_>, charged: Option<Charged>) -> fmt::Result {
 }
 
 // The end of a section: the picture and the tables.
-pub fn put_end(w: &mut Writer<'_>, h: &Hand) -> fmt::Result {
+pub fn put_end(out: &mut [u8], p: Pen, h: &Hand) -> Pen {
+    let mut w = Writer::over(out, p);
+    let _ = write_end(&mut w, h);
+    w.pen
+}
+
+fn write_end(w: &mut Writer<'_>, h: &Hand) -> fmt::Result {
     w.write_str("<figure>\n")?;
-    put_chart(w, &h.chips)?;
+    w.pen = put_chart(w.out, w.pen, &h.chips);
     w.write_str("</figure>\n")?;
     put_pots(w, &h.chips)?;
     put_parts(w, h)?;

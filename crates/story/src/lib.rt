@@ -48,7 +48,7 @@ impl Event {
     }
 
     // A sitting leaves: with what it has, and of the open hand it leaves what it put in.
-    pub fn put_left(&self, w: &mut Writer<'_>) -> fmt::Result {
+    fn put_left(&self, w: &mut Writer<'_>) -> fmt::Result {
         self.put_who(w)?;
         write!(w, "leaves with {}", self.stack)?;
         if self.inside {
@@ -91,10 +91,10 @@ impl Event {
         writeln!(w, "<p><b>{}</b> board: {}</p>", self.n, card_of(a))
     }
 
-    // A line for an entry that was taken; a `leave`, a `hand` and a `settle` have their own.
-    pub fn put_taken(&self, w: &mut Writer<'_>, e: Entry) -> fmt::Result {
+    fn put_taken(&self, w: &mut Writer<'_>, e: Entry) -> fmt::Result {
         match e {
             Entry::Sit(_, _) => self.put_sat(w),
+            Entry::Leave(_) => self.put_left(w),
             Entry::Hole(_, a, b) => self.put_hole(w, a, b),
             Entry::Fold(_) => self.put_in(w, "folds"),
             Entry::Check(_) => self.put_in(w, "checks"),
@@ -102,12 +102,11 @@ impl Event {
             Entry::Wager(_, to) => self.put_wager(w, to),
             Entry::Board(a) => self.put_board(w, a),
             Entry::Dead(_) => self.put_in(w, "is declared dead"),
-            Entry::Leave(_) | Entry::Hand(_) | Entry::Settle | Entry::Void => Ok(()),
+            Entry::Hand(_) | Entry::Settle | Entry::Void => Ok(()),
         }
     }
 
-    // A refused block, with its words; of one whose form is wrong nothing else is known. The first of a run opens what folds them away.
-    pub fn put_refused(&self, w: &mut Writer<'_>, code: u8, first: bool) -> fmt::Result {
+    fn write_refused(&self, w: &mut Writer<'_>, code: u8, first: bool) -> fmt::Result {
         if first {
             w.write_str("<details>\n<summary>refused</summary>\n")?;
         }
@@ -133,17 +132,26 @@ impl Event {
     }
 }
 
-// A taken entry closes what folds refused ones away.
-pub fn put_folded(out: &mut [u8], p: Pen, refusing: bool) -> Pen {
+// A line for an entry that was taken; a `hand` and a `settle` have their own.
+pub fn put_event(out: &mut [u8], p: Pen, event: &Event, e: Entry) -> Pen {
     let mut w = Writer::over(out, p);
-    // the pen keeps whether a write has failed
-    let _ = close_folded(&mut w, refusing);
+    // the pen keeps whether a write has failed, here and below
+    let _ = event.put_taken(&mut w, e);
     w.pen
 }
 
-pub fn close_folded(w: &mut Writer<'_>, refusing: bool) -> fmt::Result {
+// A refused block, with its words; of one whose form is wrong nothing else is known. The first of a run opens what folds them away.
+pub fn put_refused(out: &mut [u8], p: Pen, event: &Event, code: u8, first: bool) -> Pen {
+    let mut w = Writer::over(out, p);
+    let _ = event.write_refused(&mut w, code, first);
+    w.pen
+}
+
+// A taken entry closes what folds refused ones away.
+pub fn put_folded(out: &mut [u8], p: Pen, refusing: bool) -> Pen {
+    let mut w = Writer::over(out, p);
     if refusing {
-        return w.write_str("</details>\n");
+        let _ = w.write_str("</details>\n");
     }
-    Ok(())
+    w.pen
 }
