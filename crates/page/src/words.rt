@@ -140,7 +140,7 @@ const CLASSES: [&str; 8] = [
 
 // The class of a hand, by its number in the table of classes.
 #[derive(Clone, Copy)]
-struct Class(u8);
+pub struct Class(pub u8);
 
 impl fmt::Display for Class {
     fn fmt<W: fmt::Write>(&self, f: &mut fmt::Formatter<W>) -> fmt::Result {
