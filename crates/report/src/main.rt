@@ -176,23 +176,22 @@ fn take_rest(g: Page, m: Fill, buf: &[u8], out: &mut [u8]) -> Page
     take_lines(g, &buf[0..e], out)
 }
 
-// The input has ended: how an open hand stands, and the evening.
-fn end(g: Page, m: Fill, buf: &[u8])
+// The input has ended: how an open hand stands, and the evening. The buffer is the one in which the page was written: nothing is left in it.
+fn end(g: Page, m: Fill, buf: &[u8], out: &mut [u8])
     requires { Sound g.table × Room m × (kept_most ≤ length buf.now) }
 {
-    let mut out = io::large_buffer();
-    let h = take_rest(g, m, buf, &mut out);
+    let h = take_rest(g, m, buf, out);
     let p = h.pen;
     let notes = h.notes;
     let t = h.table;
     if h.shut {
-        written_out(&out, p);
+        written_out(out, p);
         return;
     }
-    let a = story::put_folded(&mut out, p, notes.refusing);
-    let b = dealings::put_unsettled(&mut out, a, notes, t);
-    let c = closing::put_evening(&mut out, b, notes, t);
-    written_out(&out, c);
+    let a = story::put_folded(out, p, notes.refusing);
+    let b = dealings::put_unsettled(out, a, notes, t);
+    let c = closing::put_evening(out, b, notes, t);
+    written_out(out, c);
 }
 
 // A read that fails is taken for the end of the input.
@@ -204,5 +203,5 @@ fn main(rt: HostRuntime) {
         out: io::large_buffer(),
     };
     let _ = read_all(&rt, &mut t, &mut io::large_buffer());
-    end(t.page, t.fill, &t.buf);
+    end(t.page, t.fill, &t.buf, &mut t.out);
 }

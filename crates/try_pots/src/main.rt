@@ -27,19 +27,14 @@ struct Desk {
 }
 
 impl Desk {
-    // One byte: of a line, or the LF at which the line is answered. That what is written out fails is not told.
-    fn serve_byte(&mut self, b: u8)
+    // The LF of a line, which is answered. That what is written out fails is not told.
+    fn end_line(&mut self, scan: Scan)
         requires { (length self.old.out ≡ 65536) × (self.old.at ≤ 65536) }
         ensures { (length self.new.out ≡ 65536) × (self.new.at ≤ 65536) }
     {
-        if b != 10 {
-            self.scan = line::with_byte(&mut self.nums, self.scan, b);
-            return;
-        }
-        let end = line::with_number(&mut self.nums, self.scan);
+        let end = line::with_number(&mut self.nums, scan);
         let from = flush(STDOUT_FILENO, &self.out[..self.at], ENOUGH).unwrap_or(0);
         self.at = lines::answer(&self.nums, end, &mut self.out, from);
-        self.scan = line::fresh();
     }
 }
 
@@ -52,11 +47,18 @@ impl Listener for Desk {
 
     ghost on = { λ _ _ _ _ _ _ _ _. tt };
 
-    // Answers every line that ends in this part of the input.
+    // Answers every line that ends in this part of the input. The line so far is kept beside the loop, since most bytes end none.
     fn hear(&mut self, part: &[u8]) -> Result<usize, Failed> {
+        let mut scan = self.scan;
         for b in part {
-            self.serve_byte(*b);
+            if *b == 10 {
+                self.end_line(scan);
+                scan = line::fresh();
+            } else {
+                scan = line::with_byte(&mut self.nums, scan, *b);
+            }
         }
+        self.scan = scan;
         Ok(part.len())
     }
 
